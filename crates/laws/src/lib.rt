@@ -1,0 +1,1 @@
+// What the proofs share. No function stands here.

@@ -1,0 +1,79 @@
+-- 01's numbers tell the refusals apart, and a refusal from what is none.
+use Prim.Native.Nat.{ℕ, _<_}
+use mathlib.Core.Path.{_≡_, refl, ap, sym, _∙_}
+use mathlib.Core.List.{List, [], _∷_}
+use lib.ListN.{getD}
+use native.Mathlib.Omega.{arith}
+use Rattle.refusal.specs.declared.Refusal.{Refusal}
+use Rattle.refusal.specs.declared.Refusal.the-variants.{Room, State, Text, «Type», Range, Offset, Packet, Address, Size, Damaged, Checksum, Full, NoChain, OutOfTurn, TooLong, Signature, NoCall, Character}
+use Rattle.refusal.specs.Told.{numberOf, Told, told, refused, given}
+
+-- the refusal of a number
+abbrev ofNumber : ℕ → Refusal
+ofNumber n =
+    getD
+    (Room ∷ Room ∷ State ∷ Text ∷ «Type» ∷ Range ∷ Offset ∷ Packet ∷ Address ∷ Size ∷ Damaged ∷ Checksum ∷ Full ∷ NoChain ∷ OutOfTurn ∷ TooLong ∷ Signature ∷ NoCall ∷ Character ∷ [])
+    n
+    Room
+
+ofNumber-back : (r : Refusal) → ofNumber (numberOf r) ≡ r
+ofNumber-back Room = refl
+ofNumber-back State = refl
+ofNumber-back Text = refl
+ofNumber-back «Type» = refl
+ofNumber-back Range = refl
+ofNumber-back Offset = refl
+ofNumber-back Packet = refl
+ofNumber-back Address = refl
+ofNumber-back Size = refl
+ofNumber-back Damaged = refl
+ofNumber-back Checksum = refl
+ofNumber-back Full = refl
+ofNumber-back NoChain = refl
+ofNumber-back OutOfTurn = refl
+ofNumber-back TooLong = refl
+ofNumber-back Signature = refl
+ofNumber-back NoCall = refl
+ofNumber-back Character = refl
+
+-- two refusals of one number are the same
+pub number-tells : (a b : Refusal) → numberOf a ≡ numberOf b → a ≡ b
+number-tells a b e = sym (ofNumber-back a) ∙ ap ofNumber e ∙ ofNumber-back b
+
+-- no refusal has the number 0, which stands for none
+pub number-positive : (r : Refusal) → 0 < numberOf r
+number-positive Room = omega arith
+number-positive State = omega arith
+number-positive Text = omega arith
+number-positive «Type» = omega arith
+number-positive Range = omega arith
+number-positive Offset = omega arith
+number-positive Packet = omega arith
+number-positive Address = omega arith
+number-positive Size = omega arith
+number-positive Damaged = omega arith
+number-positive Checksum = omega arith
+number-positive Full = omega arith
+number-positive NoChain = omega arith
+number-positive OutOfTurn = omega arith
+number-positive TooLong = omega arith
+number-positive Signature = omega arith
+number-positive NoCall = omega arith
+number-positive Character = omega arith
+
+-- the number of an answer, and its values
+abbrev pub toldNumber : Told → ℕ
+toldNumber (told n values) = n
+
+abbrev pub toldValues : Told → List ℕ
+toldValues (told n values) = values
+
+-- an answer that is no refusal is never told as one
+pub given-not-refused : (values : List ℕ) (r : Refusal) → given values ≡ refused r → ⊥
+given-not-refused values r e =
+    let n : 0 ≡ numberOf r = ap toldNumber e in
+    omega (arith, number-positive r)
+
+-- two refusals told alike are the same
+pub refused-tells : (a b : Refusal) → refused a ≡ refused b → a ≡ b
+refused-tells a b e = number-tells a b (ap toldNumber e)

@@ -1,0 +1,50 @@
+-- How every answer is told: 01's number, and the values that come with it.
+use Prim.Native.Nat.{ℕ}
+use mathlib.Core.Path.{_≡_}
+use mathlib.Core.List.{List, [], _∷_}
+use mathlib.Core.Bool.{Bool, true, false}
+use Rattle.refusal.specs.declared.Refusal.{Refusal}
+use Rattle.refusal.specs.declared.Refusal.the-variants.{Room, State, Text, «Type», Range, Offset, Packet, Address, Size, Damaged, Checksum, Full, NoChain, OutOfTurn, TooLong, Signature, NoCall, Character}
+
+-- 01, "The eighteen answers of no": the column No
+abbrev pub numberOf : Refusal → ℕ
+numberOf Room = 1
+numberOf State = 2
+numberOf Text = 3
+numberOf «Type» = 4
+numberOf Range = 5
+numberOf Offset = 6
+numberOf Packet = 7
+numberOf Address = 8
+numberOf Size = 9
+numberOf Damaged = 10
+numberOf Checksum = 11
+numberOf Full = 12
+numberOf NoChain = 13
+numberOf OutOfTurn = 14
+numberOf TooLong = 15
+numberOf Signature = 16
+numberOf NoCall = 17
+numberOf Character = 18
+
+-- an answer as 01 tells it: the number of its refusal, or 0 where nothing is refused, and its values
+pub data Told : Type 0 where
+  told : ℕ → List ℕ → Told
+
+-- a refusal that tells nothing besides its number
+abbrev pub refused : Refusal → Told
+refused r = told (numberOf r) []
+
+-- an answer that is no refusal, with its values
+abbrev pub given : List ℕ → Told
+given values = told 0 values
+
+-- one question of a definition, a line a refusal: where the test holds the answer is that refusal, else what follows
+abbrev pub ask : Bool → Refusal → Told → Told
+ask true r rest = refused r
+ask false r rest = rest
+
+-- 01, "Order": the order in which the questions are asked. The first Room is the one for the chains' bytes, the last the one for every other buffer
+pub order : List Refusal
+order =
+    Room ∷ State ∷ Text ∷ «Type» ∷ Range ∷ Offset ∷ Packet ∷ Address ∷ Size ∷ Damaged ∷ Checksum ∷ NoChain ∷ OutOfTurn ∷ TooLong ∷ Character ∷ Signature ∷ Full ∷ NoCall ∷ Room ∷ []
