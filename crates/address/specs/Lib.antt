@@ -1,0 +1,2 @@
+pub mod Ranges
+pub mod Words
