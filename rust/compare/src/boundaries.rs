@@ -79,14 +79,15 @@ pub fn words_near_ends() -> Vec<u32> {
 /// An address of any kind a caller could come with: near an end, in a row, a
 /// small one, or anything a text of ten digits can say.
 pub fn likely_address(random: &mut Random, near_ends: &[u64]) -> u64 {
-    match random.below(8) {
-        0..=1 => random.choose(near_ends),
-        2..=4 => {
+    match random.below(16) {
+        0 => random.below(8),
+        1..=4 => random.choose(near_ends),
+        5..=10 => {
             let (from, to) = random.choose(&ADDRESS_ROWS);
             random.between(from, to)
         }
-        5 => random.below(2_200_000),
-        6 => random.below(5_000_000_000),
+        11..=12 => random.below(2_200_000),
+        13..=14 => random.below(5_000_000_000),
         _ => random.below(10_000_000_000),
     }
 }

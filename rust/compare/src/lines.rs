@@ -37,18 +37,10 @@ fn lines(texts: &mut Texts, size: u64) -> Vec<u8> {
     input
 }
 
-/// Ends of input in turn: a whole line, a line without its LF, a CR without
-/// an LF, and an accepted text without its LF.
+/// Ends of input in turn: a whole line, a line without its LF, and a line that
+/// ends with a CR but no LF.
 fn change_end(input: &mut Vec<u8>, index: u64) {
-    match index % 4 {
-        1 => {
-            input.pop();
-        }
-        2 => {
-            input.pop();
-            input.push(b'\r');
-        }
-        3 => input.extend_from_slice(b"E0001234"),
-        _ => {}
+    if index % 3 != 0 && input.pop().is_some() && index % 3 == 2 {
+        input.push(b'\r');
     }
 }
