@@ -40,7 +40,9 @@ fn lines(texts: &mut Texts, size: u64) -> Vec<u8> {
 /// Ends of input in turn: a whole line, a line without its LF, and a line that
 /// ends with a CR but no LF.
 fn change_end(input: &mut Vec<u8>, index: u64) {
-    if index % 3 != 0 && input.pop().is_some() && index % 3 == 2 {
-        input.push(b'\r');
+    match (index % 3, input.as_mut_slice()) {
+        (1, [.., b'\n']) => input.truncate(input.len() - 1),
+        (2, [.., end]) => *end = b'\r',
+        _ => {}
     }
 }
