@@ -3,12 +3,14 @@
 use std::env;
 use std::path::PathBuf;
 
+/// Where the archive is made unless MORTISEVANE_LIB names another folder. A
+/// folder that is not absolute is counted from this package's own.
+const DEFAULT_FOLDER: &str = "../../target/staticlib";
+
 fn main() {
-    let manifest = env::var_os("CARGO_MANIFEST_DIR").expect("cargo names the manifest's folder");
-    let folder = match env::var_os("MORTISEVANE_LIB") {
-        Some(folder) => PathBuf::from(folder),
-        None => PathBuf::from(manifest).join("../../target/staticlib"),
-    };
+    let package = env::var_os("CARGO_MANIFEST_DIR").expect("cargo names the package's folder");
+    let named = env::var_os("MORTISEVANE_LIB").unwrap_or_else(|| DEFAULT_FOLDER.into());
+    let folder = PathBuf::from(package).join(named);
     println!("cargo:rustc-link-search=native={}", folder.display());
     println!("cargo:rustc-link-lib=static=host");
     println!("cargo:rerun-if-env-changed=MORTISEVANE_LIB");
