@@ -2,6 +2,7 @@
 use Prim.Native.Nat.{ℕ, zero, suc, _+_, _-_, _*_, _%_, _^_}
 use mathlib.Core.Bool.{Bool, true, false, not, _&&_, _||_}
 use mathlib.Core.List.{List, [], _∷_}
+use lib.Count.{ones}
 use lib.Dec.{leb, ltb, eqb}
 use lib.ListN.{replicate}
 use Rattle.laws.specs.Choice.{pick, bitOf}
@@ -44,6 +45,16 @@ maskOf frames i = maskFrom frames (16 * (7 - i)) 16
 abbrev pub masksOf : Frameset → List ℕ
 masksOf frames =
     maskOf frames 0 ∷ maskOf frames 1 ∷ maskOf frames 2 ∷ maskOf frames 3 ∷ maskOf frames 4 ∷ maskOf frames 5 ∷ maskOf frames 6 ∷ maskOf frames 7 ∷ []
+
+-- .. for frames that repeat: the sixteen odd ones and the sixteen even ones in turn, from n pairs of ranges
+abbrev pub alternating : ℕ → ℕ → ℕ → List ℕ
+alternating high low zero = []
+alternating high low (suc n) = high ∷ low ∷ alternating high low n
+
+-- 01: "the count of marked bits over all eight packets"
+unfoldable pub onesOf : List ℕ → ℕ
+onesOf [] = 0
+onesOf (mask ∷ masks) = ones mask + onesOf masks
 
 -- 01: "the number of frames listened to", of the 128 of a cycle
 abbrev pub countOf : Frameset → ℕ

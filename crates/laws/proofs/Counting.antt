@@ -1,0 +1,30 @@
+-- A rule over all numbers below a bound, by one test that is computed.
+use Prim.Native.Nat.{ℕ, zero, suc, _<_}
+use mathlib.Core.Bool.{Bool, true, false, _&&_}
+use mathlib.Core.Logic.{⊎-elim}
+use native.Mathlib.Nat.{eq-or-lt-of-le, le-of-suc-le-suc}
+use native.Mathlib.Omega.{arith}
+use lib.Dec.{T}
+
+-- where two tests hold together, each holds
+both-left : (a b : Bool) → T (a && b) → T a
+both-left true b t = tt
+both-left false b t = t
+
+both-right : (a b : Bool) → T (a && b) → T b
+both-right true b t = t
+both-right false b t = absurd t
+
+-- the test holds of each number below the bound
+abbrev pub allBelow : (ℕ → Bool) → ℕ → Bool
+allBelow test zero = true
+allBelow test (suc n) = test n && allBelow test n
+
+-- what is computed of all is known of each
+pub of-all-below : (test : ℕ → Bool) (n : ℕ) → T (allBelow test n) → (k : ℕ) → k < n → T (test k)
+of-all-below test zero t k h = absurd (omega arith)
+of-all-below test (suc n) t k h =
+    ⊎-elim
+    (λ e. rw e (both-left (test n) (allBelow test n) t))
+    (λ l. of-all-below test n (both-right (test n) (allBelow test n) t) k l)
+    (eq-or-lt-of-le (le-of-suc-le-suc h))
