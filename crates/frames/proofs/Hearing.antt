@@ -1,5 +1,5 @@
 -- Listeners: what each listens to, and what is heard by some of them.
-use Prim.Native.Nat.{ℕ, zero, suc, _+_, _-_, _*_, _%_, _^_, _≤_, _<_}
+use Prim.Native.Nat.{ℕ, zero, suc, _+_, _-_, _*_, _%_, _^_, _≤_, _<_, min}
 use mathlib.Core.Bool.{Bool, true, false, _&&_, _||_, or-false, or-true, or-assoc, false≢true, and-eq-true-iff}
 use mathlib.Core.Logic.{_⊎_, inl, inr, ⊎-elim}
 use mathlib.Core.List.{List, [], _∷_, _++_}
@@ -13,7 +13,7 @@ use lib.Dec.{T, leb, eqb, eqb→eq}
 use lib.ListN.{length, take, drop, getD, length-take, drop-of-length-le}
 use lib.Pow.{pow-add, pow-pos}
 use lib.Seq.{take-suc, drop-cons, getD-take, length-take-le}
-use Rattle.laws.proofs.Counting.{allBelow, of-all-below}
+use Rattle.laws.proofs.Counting.{allBelow, of-all-below, take-min}
 use Rattle.frames.specs.declared.Listener.{Listener}
 use Rattle.frames.specs.Listening.{Frameset, listens, heard, maskFrom, allFit}
 use Rattle.frames.proofs.Masks.{Repeats, mask-or}
@@ -71,6 +71,10 @@ fit-at : (ls : List Listener) → allFit ls ≡ true → (k : ℕ) (blank : List
 fit-at [] fit k blank h = absurd (omega arith)
 fit-at (l ∷ ls) fit zero blank h = fit-parts l ls fit .0
 fit-at (l ∷ ls) fit (suc k) blank h = fit-at ls (fit-parts l ls fit .1) k blank (omega arith)
+
+-- of sixteen places the first `count` are those up to `count`, or all
+pub looked : (ls : List Listener) (count size : ℕ) → length ls ≡ 16 → size ≡ min count 16 → take size ls ≡ take count ls
+looked ls count size long e = rw (e, ← long) (take-min count ls)
 
 -- the listeners are asked one after the other
 module _ (ls : List Listener) (size i : ℕ) where

@@ -58,10 +58,10 @@ fn looked_at(count: u32) -> usize
 }
 
 // 01's table, 7: whether each listener's frame and collapse are ones that a CAPCODE can name.
-fn all_fit(listeners: [Listener; 16], size: usize) -> bool
-    requires { ⌜ size ≤ 16 ⌝ }
-    ensures { λ r. ⌜ r ≡ allFit (take size listeners) ⌝ }
+fn all_fit(listeners: [Listener; 16], count: u32) -> bool
+    ensures { λ r. ⌜ r ≡ allFit (take count listeners) ⌝ }
 {
+    let size = looked_at(count);
     let mut i: usize = 0;
     while i < size {
         let listener = listeners[i];
@@ -97,10 +97,11 @@ fn comb(listener: Listener) -> u32
 }
 
 // The first 32 frames as a mask: those that some listener listens to.
-fn merged(listeners: [Listener; 16], size: usize) -> u32
-    requires { ⌜ (size ≤ 16) × (allFit (take size listeners) ≡ true) ⌝ }
-    ensures { λ r. ⌜ r ≡ maskFrom (heard (take size listeners)) 0 32 ⌝ }
+fn merged(listeners: [Listener; 16], count: u32) -> u32
+    requires { ⌜ allFit (take count listeners) ≡ true ⌝ }
+    ensures { λ r. ⌜ r ≡ maskFrom (heard (take count listeners)) 0 32 ⌝ }
 {
+    let size = looked_at(count);
     let mut marked: u32 = 0;
     let mut i: usize = 0;
     while i < size {
@@ -149,14 +150,13 @@ pub fn listen(all: Listeners) -> Listening
 {
     let count = all.count;
     let listeners = all.listeners;
-    let size = looked_at(count);
-    if !all_fit(listeners, size) {
+    if !all_fit(listeners, count) {
         return refused(Refusal::Packet);
     }
     if count > 16 {
         return refused(Refusal::Size);
     }
-    let masks = masks_of(merged(listeners, size));
+    let masks = masks_of(merged(listeners, count));
     let frames = marked_bits(masks);
     Listening {
         answer: Listened::Frames(frames),

@@ -1,10 +1,13 @@
--- A rule over all numbers below a bound, by one test that is computed.
-use Prim.Native.Nat.{ℕ, zero, suc, _<_}
+-- Up to a bound: a rule over all numbers below it, by one test that is computed; a row cut at it.
+use Prim.Native.Nat.{ℕ, zero, suc, _<_, min}
 use mathlib.Core.Bool.{Bool, true, false, _&&_}
 use mathlib.Core.Logic.{⊎-elim}
-use native.Mathlib.Nat.{eq-or-lt-of-le, le-of-suc-le-suc}
+use mathlib.Core.List.{List, [], _∷_}
+use mathlib.Core.Path.{_≡_}
+use native.Mathlib.Nat.{eq-or-lt-of-le, le-of-suc-le-suc, zero-min, min-zero, suc-min-suc}
 use native.Mathlib.Omega.{arith}
 use lib.Dec.{T}
+use lib.ListN.{length, take}
 
 -- where two tests hold together, each holds
 both-left : (a b : Bool) → T (a && b) → T a
@@ -28,3 +31,9 @@ of-all-below test (suc n) t k h =
     (λ e. rw e (both-left (test n) (allBelow test n) t))
     (λ l. of-all-below test n (both-right (test n) (allBelow test n) t) k l)
     (eq-or-lt-of-le (le-of-suc-le-suc h))
+
+-- a row cut at its own length, where the number asked for is larger, is the row cut at that number
+pub take-min : {A : Type 0} (n : ℕ) (row : List A) → take (min n (length row)) row ≡ take n row
+take-min zero row = rw zero-min
+take-min (suc n) [] = rw min-zero
+take-min (suc n) (x ∷ row) = rw (suc-min-suc, take-min n row)

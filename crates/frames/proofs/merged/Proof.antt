@@ -1,26 +1,34 @@
 -- `merged` meets its contract: what is marked is what the listeners passed listen to.
-use Prim.Native.Nat.{_+_, _-_, _≤_, _<_}
-use mathlib.Core.Path.{_≡_, refl}
-use borrow.Author.Needs.{needs}
+use Prim.Native.Nat.{_-_, _≤_}
+use mathlib.Core.Bool.{true}
+use mathlib.Core.Path.{_≡_, refl, ap, _∙_}
 use native.Mathlib.Numerals.{add-one}
 use native.Mathlib.Omega.{arith}
 use lib.ListN.{length, take}
-use Rattle.frames.proofs.Hearing.{fit-among, merge-more}
-use Rattle.frames.specs.Listening.{heard, maskFrom}
+use Rattle.frames.specs.Listening.{heard, maskFrom, allFit}
+use Rattle.frames.proofs.Hearing.{looked, fit-among, merge-more}
+use borrow.Author.Needs.{needs}
 use Rattle.frames.proofs.merged.Statement.{statement}
 use Rattle.frames.proofs.merged.Tie as tie
 use Rattle.frames.proofs.merged.Reads as reads
 use Rattle.frames.proofs.merged.Lts as lts
 use Rattle.frames.proofs.comb.Reads as comb-reads
+use Rattle.frames.proofs.looked_at.Reads as looked-at-reads
 
 abbrev Inv-loop : tie.InvT-loop
-Inv-loop size listeners marked₀ i₀ marked i = (i ≤ size) × (marked ≡ maskFrom (heard (take i listeners)) 0 32)
+Inv-loop count listeners size marked₀ i₀ marked i = (i ≤ size) × (marked ≡ maskFrom (heard (take i listeners)) 0 32)
 
 abbrev μ-loop : tie.MeasureT-loop
-μ-loop size listeners marked₀ i₀ marked i = size - i
+μ-loop count listeners size marked₀ i₀ marked i = size - i
 
 long : (c : tie.Start Inv-loop μ-loop) → length (c .args .t1) ≡ 16
 long c = search needs
+
+cut : (c : tie.After-looked-at Inv-loop μ-loop) → take (c .looked-at .result) (c .before .args .t1) ≡ take (c .before .args .count) (c .before .args .t1)
+cut c = looked (c .before .args .t1) (c .before .args .count) (c .looked-at .result) (long (c .before)) (c .looked-at .ensures)
+
+looked-at-requires : tie.Need-looked-at-requires Inv-loop μ-loop
+looked-at-requires c κs = search needs
 
 loop-holds : tie.Need-loop-holds Inv-loop μ-loop
 unfolding heard maskFrom
@@ -34,8 +42,11 @@ array-copy-out-listener c = search needs
 
 comb-requires : tie.Need-comb-requires Inv-loop μ-loop
 comb-requires c κs =
-    let start = c .before .before .before in
-    fit-among (start .args .t1) (start .args .size) (c .before .before .loop .i) (start .pre .1) (omega arith) (omega (arith, long start))
+    let met = c .before .before .before in
+    fit-among (met .before .args .t1) (met .looked-at .result) (c .before .before .loop .i)
+    (ap allFit (cut met) ∙ met .before .pre)
+    (omega arith)
+    (omega (arith, long (met .before)))
 
 add-i : tie.Need-add-i Inv-loop μ-loop
 add-i c = search needs
@@ -45,14 +56,16 @@ loop-less c = search needs
 
 loop-again : tie.Need-loop-again Inv-loop μ-loop
 loop-again c =
-    let start = c .before .before .before .before in
-    let i = c .before .before .before .loop .i in
-    (omega arith, rw (c .before .before .before .loop .inv .1, c .comb .ensures, add-one) (merge-more (start .args .t1) i 0 32 (omega (arith, long start))))
+    let start = c .before .before .before .before .before in (
+      omega arith,
+      rw (c .before .before .before .loop .inv .1, c .comb .ensures, add-one)
+          (merge-more (start .args .t1) (c .before .before .before .loop .i) 0 32 (omega (arith, long start))),
+    )
 
 returns : tie.Need-returns Inv-loop μ-loop
 returns c =
-    let all : c .before .loop .i ≡ c .before .before .args .size = omega arith in
-    rw (← all) (c .before .loop .inv .1)
+    let all : c .before .loop .i ≡ c .before .before .looked-at .result = omega arith in
+    rw (← cut (c .before .before), ← all) (c .before .loop .inv .1)
 
 pub merged-spec : {M : Type 1} → statement M
 merged-spec =
@@ -60,6 +73,7 @@ merged-spec =
     (tie.spec
     Inv-loop
     μ-loop
+    looked-at-requires
     loop-holds
     mul-listener
     array-copy-out-listener
