@@ -65,31 +65,23 @@ mask-moved p q d e first (suc n) = rw (e first, ← add-suc, mask-moved p q d e 
 -- ---- the ranges of sixteen
 
 -- the masks of the first 16 n frames, the highest sixteen first
-abbrev ranges : Frameset → ℕ → List ℕ
+abbrev pub ranges : Frameset → ℕ → List ℕ
 ranges frames zero = []
 ranges frames (suc n) = maskFrom frames (16 * n) 16 ∷ ranges frames n
 
-range-at : (frames : Frameset) (n i : ℕ) → i < n → getD (ranges frames n) i 0 ≡ maskFrom frames (16 * (n - suc i)) 16
+-- .. the i-th of them
+pub range-at : (frames : Frameset) (n i : ℕ) → i < n → getD (ranges frames n) i 0 ≡ maskFrom frames (16 * (n - suc i)) 16
 range-at frames zero i h = absurd (omega arith)
 range-at frames (suc n) zero h = ap (λ (k : ℕ). maskFrom frames (16 * k) 16) (omega arith)
 range-at frames (suc n) (suc i) h = range-at frames n i (omega arith) ∙ ap (λ (k : ℕ). maskFrom frames (16 * k) 16) (omega arith)
 
-range-ones : (frames : Frameset) (n : ℕ) → onesOf (ranges frames n) ≡ countFrom frames 0 (16 * n)
+-- .. and their bits, counted
+pub range-ones : (frames : Frameset) (n : ℕ) → onesOf (ranges frames n) ≡ countFrom frames 0 (16 * n)
 unfolding onesOf
 range-ones frames zero = sym (count-none frames 0)
 range-ones frames (suc n) =
     let next : 16 * suc n ≡ 16 * n + 16 = omega arith in
     rw (mask-ones, range-ones frames n, next, count-split frames 0 (16 * n) 16, zero-add) (omega arith)
-
--- a frame's bit is marked exactly if the frame is in the set
-pub marked : (frames : Frameset) (i j : ℕ) → i < 8 → j < 16 → getD (masksOf frames) i 0 / 2 ^ j % 2 ≡ bitOf (frames (16 * (7 - i) + j))
-marked frames i j hi hj =
-    let place : 8 - suc i ≡ 7 - i = omega arith in
-    rw (range-at frames 8 i hi, place, mask-bit frames (16 * (7 - i)) 16 j hj)
-
--- the bits marked over all eight packets are the frames of the set, counted
-pub counted : (frames : Frameset) → onesOf (masksOf frames) ≡ countOf frames
-counted frames = range-ones frames 8
 
 -- one mask more
 ones-append : (masks : List ℕ) (mask : ℕ) → onesOf (masks ++ mask ∷ []) ≡ onesOf masks + ones mask

@@ -27,6 +27,11 @@ unfoldable pub heard : List Listener → Frameset
 heard [] f = false
 heard (l ∷ ls) f = listens l f || heard ls f
 
+-- the frames of the set among the n frames from the first on
+unfoldable pub framesFrom : Frameset → ℕ → ℕ → List ℕ
+framesFrom frames first zero = []
+framesFrom frames first (suc n) = pick (frames first) (first ∷ framesFrom frames (suc first) n) (framesFrom frames (suc first) n)
+
 -- how many of the n frames from the first on are in the set
 unfoldable pub countFrom : Frameset → ℕ → ℕ → ℕ
 countFrom frames first zero = 0

@@ -26,6 +26,11 @@ pub bit-le : (bit : Bool) → bitOf bit ≤ 1
 bit-le true = omega arith
 bit-le false = omega arith
 
+-- .. and 1 where the test holds
+pub set-bit : (bit : Bool) → bitOf bit ≡ 1 → bit ≡ true
+set-bit true h = refl
+set-bit false h = absurd (omega arith)
+
 -- the bits set are the lowest, if set, and those of the rest
 pub ones-of : (bit : Bool) (rest : ℕ) → ones (bitOf bit + 2 * rest) ≡ bitOf bit + ones rest
 ones-of bit rest = ones-step (bitOf bit + 2 * rest) ∙ rw (lowest, without-lowest)

@@ -4,8 +4,9 @@ use mathlib.Core.Path.{_≡_, sym, ap, _∙_}
 use borrow.Author.Tests.{lt-ltb, le-ltb, not-true, not-false}
 use lib.ListN.{take}
 use Rattle.frames.specs.Listening.{heard, allFit, onesOf, masksOf, countOf, listened}
-use Rattle.frames.proofs.Masks.{counted, repeated}
+use Rattle.frames.proofs.Masks.{repeated}
 use Rattle.frames.proofs.Hearing.{heard-repeats}
+use Rattle.frames.proofs.Laws.{counted}
 use borrow.Author.Needs.{needs}
 use Rattle.frames.proofs.listen.Statement.{statement}
 use Rattle.frames.proofs.listen.Tie as tie
