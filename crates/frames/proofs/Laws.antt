@@ -30,14 +30,14 @@ pub counted : (frames : Frameset) → onesOf (masksOf frames) ≡ countOf frames
 counted frames = range-ones frames 8
 
 -- a bit that is marked has a listener
-pub marked-by : (ls : List Listener) (blank : Listener) (i j : ℕ) → i < 8 → j < 16 → getD (masksOf (heard ls)) i 0 / 2 ^ j % 2 ≡ 1
-    → (k : ℕ) × (k < length ls) × (listens (getD ls k blank) (16 * (7 - i) + j) ≡ true)
-marked-by ls blank i j hi hj bit = heard-by ls blank (16 * (7 - i) + j) (set-bit _ (sym (marked (heard ls) i j hi hj) ∙ bit))
+pub marked-by : (ls : List Listener) (past : Listener) (i j : ℕ) → i < 8 → j < 16 → getD (masksOf (heard ls)) i 0 / 2 ^ j % 2 ≡ 1
+    → (k : ℕ) × (k < length ls) × (listens (getD ls k past) (16 * (7 - i) + j) ≡ true)
+marked-by ls past i j hi hj bit = heard-by ls past (16 * (7 - i) + j) (set-bit _ (sym (marked (heard ls) i j hi hj) ∙ bit))
 
 -- .. and a listener has its bits marked
-pub by-marked : (ls : List Listener) (blank : Listener) (i j k : ℕ) → i < 8 → j < 16 → k < length ls
-    → listens (getD ls k blank) (16 * (7 - i) + j) ≡ true → getD (masksOf (heard ls)) i 0 / 2 ^ j % 2 ≡ 1
-by-marked ls blank i j k hi hj hk e = marked (heard ls) i j hi hj ∙ ap bitOf (by-heard ls blank (16 * (7 - i) + j) k hk e)
+pub by-marked : (ls : List Listener) (past : Listener) (i j k : ℕ) → i < 8 → j < 16 → k < length ls
+    → listens (getD ls k past) (16 * (7 - i) + j) ≡ true → getD (masksOf (heard ls)) i 0 / 2 ^ j % 2 ≡ 1
+by-marked ls past i j k hi hj hk e = marked (heard ls) i j hi hj ∙ ap bitOf (by-heard ls past (16 * (7 - i) + j) k hk e)
 
 -- ---- the telling admits one answer
 

@@ -1,8 +1,8 @@
 -- Masks and counts of any set of frames: bit by bit, in ranges of sixteen, merged, and repeated.
-use Prim.Native.Nat.{ℕ, zero, suc, _+_, _-_, _*_, _/_, _%_, _^_, _≤_, _<_}
-use mathlib.Core.Bool.{Bool, true, false, _||_}
+use Prim.Native.Nat.{ℕ, zero, suc, _+_, _-_, _*_, _/_, _%_, _^_, _<_}
+use mathlib.Core.Bool.{_||_}
 use mathlib.Core.List.{List, [], _∷_, _++_}
-use mathlib.Core.Path.{_≡_, refl, sym, ap, ap₂, _∙_}
+use mathlib.Core.Path.{_≡_, refl, sym, ap, _∙_}
 use native.Mathlib.Nat.{add-zero, suc-add, add-suc, zero-add, one-mul, mul-assoc, div-one, pow-succ'}
 use native.Mathlib.Numerals.{add-one}
 use native.Mathlib.Omega.{arith}
@@ -12,7 +12,7 @@ use lib.ListN.{length, take, getD}
 use lib.Seq.{take-suc}
 use Rattle.laws.specs.Choice.{bitOf}
 use Rattle.laws.proofs.Bits.{lowest, higher, bit-le, ones-of, or-of}
-use Rattle.frames.specs.Listening.{Frameset, maskFrom, countFrom, masksOf, countOf, onesOf, alternating}
+use Rattle.frames.specs.Listening.{Frameset, maskFrom, countFrom, masksOf, onesOf, alternating}
 
 module _ (frames : Frameset) where
   -- a mask of n frames has n bits

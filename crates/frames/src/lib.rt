@@ -3,8 +3,8 @@
 ghost use mathlib.Core.Path.{_≡_};
 ghost use Prim.Native.Nat.{_≤_, _%_, _/_, min};
 ghost use mathlib.Core.Bool.{true};
-ghost use lib.ListN.{take};
-ghost use Rattle.frames.specs.Listening.{listens, heard, maskFrom, alternating, onesOf, allFit, unmarked, listened, toldListening, waited, toldAwaited};
+ghost use lib.ListN.{take, getD};
+ghost use Rattle.frames.specs.Listening.{listens, combs, heard, maskFrom, alternating, onesOf, allFit, unmarked, listened, toldListening, waited, toldAwaited};
 use refusal::Refusal;
 
 // One address as far as frames go: its base frame and its collapse.
@@ -76,8 +76,8 @@ fn all_fit(listeners: [Listener; 16], count: u32) -> bool
     true
 }
 
-// Of 32 frames from frame 0 on, every one, every second, fourth, eighth, sixteenth, and the one that a collapse of 0 to 5 listens to.
-const EVERY: [u32; 6] = [
+// A collapse of at most 5 repeats its frames after 32 (S8.6.7), so that 32 bits hold them: here those of base frame 0.
+const COMBS: [u32; 6] = [
     0xFFFF_FFFF,
     0x5555_5555,
     0x1111_1111,
@@ -86,14 +86,22 @@ const EVERY: [u32; 6] = [
     0x0000_0001,
 ];
 
-// The first 32 frames as a mask: those that the listener listens to. With a collapse of at most 5 the rest of the cycle repeats them (S8.6.7).
-fn comb(listener: Listener) -> u32
+// The comb of a collapse.
+fn comb(collapse: usize) -> u32
+    requires { ⌜ collapse ≤ 5 ⌝ }
+    ensures { λ r. ⌜ r ≡ getD combs collapse 0 ⌝ }
+{
+    COMBS[collapse]
+}
+
+// The first 32 frames as a mask: those that the listener listens to, its comb moved to its base frame.
+fn mask(listener: Listener) -> u32
     requires { ⌜ listener .collapse ≤ 5 ⌝ }
     ensures { λ r. ⌜ r ≡ maskFrom (listens listener) 0 32 ⌝ }
 {
     let collapse = listener.collapse as usize;
     let frame = listener.frame as u32;
-    EVERY[collapse] << (frame % (1 << collapse))
+    comb(collapse) << (frame % (1 << collapse))
 }
 
 // The first 32 frames as a mask: those that some listener listens to.
@@ -106,7 +114,7 @@ fn merged(listeners: [Listener; 16], count: u32) -> u32
     let mut i: usize = 0;
     while i < size {
         let listener = listeners[i];
-        marked = marked | comb(listener);
+        marked = marked | mask(listener);
         i += 1;
     }
     marked

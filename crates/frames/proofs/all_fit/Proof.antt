@@ -1,19 +1,13 @@
 -- `all_fit` meets its contract: what is still to be asked is asked of the listeners left.
-use Prim.Native.Nat.{_+_, _-_, _≤_}
-use mathlib.Core.Bool.{_&&_}
+use Prim.Native.Nat.{_-_, _≤_}
 use mathlib.Core.Path.{_≡_, sym, ap, _∙_}
-use borrow.Author.Tests.{le-leb, lt-leb}
 use native.Mathlib.Omega.{arith}
-use lib.Dec.{leb}
-use lib.ListN.{length, take, drop, getD}
+use lib.ListN.{length, take, drop}
 use Rattle.frames.specs.Listening.{allFit}
-use Rattle.frames.proofs.Hearing.{blank, looked, ask-next, ask-none}
+use Rattle.frames.proofs.Hearing.{looked, ask-frame, ask-collapse, ask-others, ask-none}
 use borrow.Author.Needs.{needs}
 use Rattle.frames.proofs.all_fit.Statement.{statement}
 use Rattle.frames.proofs.all_fit.Tie as tie
-use Rattle.frames.proofs.all_fit.Reads as reads
-use Rattle.frames.proofs.all_fit.Lts as lts
-use Rattle.frames.proofs.looked_at.Reads as looked-at-reads
 
 abbrev Inv-loop : tie.InvT-loop
 Inv-loop count listeners size i₀ i =
@@ -24,16 +18,6 @@ abbrev μ-loop : tie.MeasureT-loop
 
 long : (c : tie.Start Inv-loop μ-loop) → length (c .args .t1) ≡ 16
 long c = search needs
-
--- in a turn the next listener is asked
-turn : (c : tie.In-loop Inv-loop μ-loop)
-    → allFit (take (c .before .before .before .args .count) (c .before .before .before .args .t1))
-    ≡ (leb (getD (c .before .before .before .args .t1) (c .before .loop .i) blank .frame) 127
-    && leb (getD (c .before .before .before .args .t1) (c .before .loop .i) blank .collapse) 5
-    && allFit (drop (c .before .loop .i + 1) (take (c .before .before .looked-at .result) (c .before .before .before .args .t1))))
-turn c =
-    c .before .loop .inv .2
-    ∙ ask-next (c .before .before .before .args .t1) (c .before .before .looked-at .result) (c .before .loop .i) (c .loop-test .taken) (c .before .loop .inv .1)
 
 looked-at-requires : tie.Need-looked-at-requires Inv-loop μ-loop
 looked-at-requires c κs = search needs
@@ -53,11 +37,16 @@ array-copy-out-listener : tie.Need-array-copy-out-listener Inv-loop μ-loop
 array-copy-out-listener c = search needs
 
 returns : tie.Need-returns Inv-loop μ-loop
-returns c = sym (turn (c .before .before .before) ∙ simp (lt-leb _ _ (c .if1 .taken)))
+returns c =
+    let turn = c .before .before .before in
+    let met = turn .before in
+    sym (met .loop .inv .2 ∙ ask-frame (met .before .before .args .t1) (met .before .looked-at .result) (met .loop .i) (turn .loop-test .taken) (met .loop .inv .1) (omega arith))
 
 returns-2 : tie.Need-returns-2 Inv-loop μ-loop
 returns-2 c =
-    sym (turn (c .before .before .before .before .before) ∙ simp (le-leb _ _ (c .before .before .if1 .left), lt-leb _ _ (c .if2 .taken)))
+    let turn = c .before .before .before .before .before in
+    let met = turn .before in
+    sym (met .loop .inv .2 ∙ ask-collapse (met .before .before .args .t1) (met .before .looked-at .result) (met .loop .i) (turn .loop-test .taken) (met .loop .inv .1) (omega arith) (omega arith))
 
 add-i : tie.Need-add-i Inv-loop μ-loop
 add-i c = search needs
@@ -66,11 +55,13 @@ loop-less : tie.Need-loop-less Inv-loop μ-loop
 loop-less c = search needs
 
 loop-again : tie.Need-loop-again Inv-loop μ-loop
-loop-again c = (
-  omega arith,
-  omega arith,
-  turn (c .before .before .before .before .before) ∙ simp (le-leb _ _ (c .before .before .if1 .left), le-leb _ _ (c .if2 .left)),
-)
+loop-again c =
+    let turn = c .before .before .before .before .before in
+    let met = turn .before in (
+      omega arith,
+      omega arith,
+      met .loop .inv .2 ∙ ask-others (met .before .before .args .t1) (met .before .looked-at .result) (met .loop .i) (turn .loop-test .taken) (met .loop .inv .1) (omega arith) (omega arith),
+    )
 
 returns-3 : tie.Need-returns-3 Inv-loop μ-loop
 returns-3 c =

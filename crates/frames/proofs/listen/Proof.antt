@@ -1,7 +1,8 @@
 -- `listen` meets its contract: the tests stand in the definition's order, and the masks are those of frames that repeat.
-use mathlib.Core.Bool.{true, false}
+use mathlib.Core.Bool.{true}
 use mathlib.Core.Path.{_≡_, sym, ap, _∙_}
 use borrow.Author.Tests.{lt-ltb, le-ltb, not-true, not-false}
+use native.Mathlib.Omega.{arith}
 use lib.ListN.{take}
 use Rattle.frames.specs.Listening.{heard, allFit, onesOf, masksOf, countOf, listened}
 use Rattle.frames.proofs.Masks.{repeated}
@@ -10,13 +11,6 @@ use Rattle.frames.proofs.Laws.{counted}
 use borrow.Author.Needs.{needs}
 use Rattle.frames.proofs.listen.Statement.{statement}
 use Rattle.frames.proofs.listen.Tie as tie
-use Rattle.frames.proofs.listen.Reads as reads
-use Rattle.frames.proofs.listen.Lts as lts
-use Rattle.frames.proofs.all_fit.Reads as all-fit-reads
-use Rattle.frames.proofs.marked_bits.Reads as marked-bits-reads
-use Rattle.frames.proofs.masks_of.Reads as masks-of-reads
-use Rattle.frames.proofs.merged.Reads as merged-reads
-use Rattle.frames.proofs.refused.Reads as refused-reads
 
 -- past the first test every listener fits
 fit : (c : tie.Else1) → allFit (take (c .before .before .before .args .all .count) (c .before .before .before .args .all .listeners)) ≡ true
@@ -37,7 +31,7 @@ refused-requires-2 c κs = search needs
 
 returns-2 : tie.Need-returns-2
 unfolding listened
-returns-2 c = c .refused2 .ensures ∙ simp (fit (c .before .before), lt-ltb _ _ (c .before .if2 .taken))
+returns-2 c = c .refused2 .ensures ∙ simp (fit (c .before .before), lt-ltb 16 _ (c .before .if2 .taken))
 
 merged-requires : tie.Need-merged-requires
 merged-requires c κs = fit (c .before)
@@ -57,7 +51,7 @@ returns-3 c =
     let masks : c .before .masks-of .result ≡ masksOf frames =
     rw (c .before .masks-of .ensures, c .before .before .merged .ensures) (repeated frames (heard-repeats (take (all .count) (all .listeners)) (fit (small .before)))) in
     let count : c .marked-bits .result ≡ countOf frames = c .marked-bits .ensures ∙ ap onesOf masks ∙ counted frames in
-    rw (count, masks, fit (small .before), le-ltb _ _ (small .if2 .left))
+    rw (count, masks, fit (small .before), le-ltb 16 (all .count) (omega (arith, small .if2 .left)))
 
 pub listen-spec : {M : Type 1} → statement M
 listen-spec =

@@ -12,8 +12,6 @@ use Rattle.frames.proofs.Masks.{ones-more}
 use Rattle.frames.specs.Listening.{onesOf}
 use Rattle.frames.proofs.marked_bits.Statement.{statement}
 use Rattle.frames.proofs.marked_bits.Tie as tie
-use Rattle.frames.proofs.marked_bits.Reads as reads
-use Rattle.frames.proofs.marked_bits.Lts as lts
 
 abbrev Inv-loop : tie.InvT-loop
 Inv-loop masks count₀ i₀ count i = (i ≤ 8) × (count ≤ 16 * i) × (count ≡ onesOf (take i masks))

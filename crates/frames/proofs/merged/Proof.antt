@@ -1,6 +1,5 @@
 -- `merged` meets its contract: what is marked is what the listeners passed listen to.
 use Prim.Native.Nat.{_-_, _≤_}
-use mathlib.Core.Bool.{true}
 use mathlib.Core.Path.{_≡_, refl, ap, _∙_}
 use native.Mathlib.Numerals.{add-one}
 use native.Mathlib.Omega.{arith}
@@ -10,10 +9,6 @@ use Rattle.frames.proofs.Hearing.{looked, fit-among, merge-more}
 use borrow.Author.Needs.{needs}
 use Rattle.frames.proofs.merged.Statement.{statement}
 use Rattle.frames.proofs.merged.Tie as tie
-use Rattle.frames.proofs.merged.Reads as reads
-use Rattle.frames.proofs.merged.Lts as lts
-use Rattle.frames.proofs.comb.Reads as comb-reads
-use Rattle.frames.proofs.looked_at.Reads as looked-at-reads
 
 abbrev Inv-loop : tie.InvT-loop
 Inv-loop count listeners size marked₀ i₀ marked i = (i ≤ size) × (marked ≡ maskFrom (heard (take i listeners)) 0 32)
@@ -40,13 +35,13 @@ mul-listener c = search needs
 array-copy-out-listener : tie.Need-array-copy-out-listener Inv-loop μ-loop
 array-copy-out-listener c = search needs
 
-comb-requires : tie.Need-comb-requires Inv-loop μ-loop
-comb-requires c κs =
+mask-requires : tie.Need-mask-requires Inv-loop μ-loop
+mask-requires c κs =
     let met = c .before .before .before in
     fit-among (met .before .args .t1) (met .looked-at .result) (c .before .before .loop .i)
-    (ap allFit (cut met) ∙ met .before .pre)
     (omega arith)
     (omega (arith, long (met .before)))
+    (ap allFit (cut met) ∙ met .before .pre)
 
 add-i : tie.Need-add-i Inv-loop μ-loop
 add-i c = search needs
@@ -58,7 +53,7 @@ loop-again : tie.Need-loop-again Inv-loop μ-loop
 loop-again c =
     let start = c .before .before .before .before .before in (
       omega arith,
-      rw (c .before .before .before .loop .inv .1, c .comb .ensures, add-one)
+      rw (c .before .before .before .loop .inv .1, c .mask .ensures, add-one)
           (merge-more (start .args .t1) (c .before .before .before .loop .i) 0 32 (omega (arith, long start))),
     )
 
@@ -77,7 +72,7 @@ merged-spec =
     loop-holds
     mul-listener
     array-copy-out-listener
-    comb-requires
+    mask-requires
     add-i
     loop-less
     loop-again
