@@ -15,7 +15,8 @@ use lib.Pow.{pow-add, pow-pos}
 use lib.Seq.{take-suc, drop-cons, getD-take, length-take-le}
 use Rattle.laws.proofs.Counting.{allBelow, of-all-below, one-of, take-min}
 use Rattle.frames.specs.declared.Listener.{Listener}
-use Rattle.frames.specs.Listening.{Frameset, listens, heard, maskFrom, combs, allFit}
+use Rattle.frames.specs.Listening.{Frameset, listens, heard, maskFrom, allFit}
+use Rattle.frames.specs.Repeating.{combs}
 use Rattle.frames.proofs.Masks.{Repeats, mask-or}
 
 -- what is read past the end of a row
@@ -58,6 +59,7 @@ fit-parts l ls fit =
     let parts = and-eq-true-iff (leb (l .frame) 127 && leb (l .collapse) 5) (allFit ls) .0 fit in
     (leb-true (l .collapse) 5 (and-eq-true-iff (leb (l .frame) 127) (leb (l .collapse) 5) .0 (parts .0) .1), parts .1)
 
+-- .. and of each
 fit-at : (ls : List Listener) → allFit ls ≡ true → (k : ℕ) → k < length ls → getD ls k blank .collapse ≤ 5
 fit-at [] fit k h = absurd (omega arith)
 fit-at (l ∷ ls) fit zero h = fit-parts l ls fit .0
@@ -69,9 +71,11 @@ looked ls count size long e = rw (e, ← long) (take-min count ls)
 
 -- the listeners are asked one after the other
 module _ (ls : List Listener) (size i : ℕ) (here : i < size) (fits : size ≤ length ls) where
+  -- so many are looked at
   long : length (take size ls) ≡ size
   long = length-take-le size ls fits
 
+  -- the next is asked, and then the others
   next : allFit (drop i (take size ls)) ≡ (leb (getD ls i blank .frame) 127 && leb (getD ls i blank .collapse) 5 && allFit (drop (i + 1) (take size ls)))
   unfolding allFit
   next =

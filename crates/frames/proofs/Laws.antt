@@ -9,7 +9,7 @@ use lib.ListN.{length, getD}
 use Rattle.laws.specs.Choice.{bitOf}
 use Rattle.laws.proofs.Bits.{set-bit}
 use Rattle.refusal.specs.declared.Refusal.{Refusal}
-use Rattle.refusal.specs.Told.{numberOf, given}
+use Rattle.refusal.specs.Told.{Told, numberOf, given}
 use Rattle.refusal.proofs.Laws.{toldNumber, number-tells, number-positive, given-not-refused, refused-tells}
 use Rattle.frames.specs.declared.Listener.{Listener}
 use Rattle.frames.specs.declared.Listened.{Listened}
@@ -79,14 +79,10 @@ wait-reaches from to f t = ((to + 128 - from) % 128, simp (le-leb _ _ f, le-leb 
 abbrev at : ℕ → ℕ → Listener
 at base collapse = record { frame = base; collapse = collapse }
 
--- 01's marked case 8, and S8.6.7's example: exactly these frames of the 128
-pub worked : map (λ (l : Listener). framesFrom (listens l) 0 128) (at 3 5 ∷ at 3 4 ∷ [])
-    ≡ ((3 ∷ 35 ∷ 67 ∷ 99 ∷ []) ∷ (3 ∷ 19 ∷ 35 ∷ 51 ∷ 67 ∷ 83 ∷ 99 ∷ 115 ∷ []) ∷ [])
-unfolding framesFrom
+-- 01's marked case 8, and S8.6.7's example: exactly these frames of the 128, and what is answered for such a listener by itself
+pub worked : map {B = List ℕ × Told} (λ (l : Listener). (framesFrom (listens l) 0 128, listened (l ∷ []) 1)) (at 3 5 ∷ at 3 4 ∷ [])
+    ≡ ((3 ∷ 35 ∷ 67 ∷ 99 ∷ [], given (4 ∷ 0 ∷ 8 ∷ 0 ∷ 8 ∷ 0 ∷ 8 ∷ 0 ∷ 8 ∷ []))
+    ∷ (3 ∷ 19 ∷ 35 ∷ 51 ∷ 67 ∷ 83 ∷ 99 ∷ 115 ∷ [], given (8 ∷ 8 ∷ 8 ∷ 8 ∷ 8 ∷ 8 ∷ 8 ∷ 8 ∷ 8 ∷ []))
+    ∷ [])
+unfolding framesFrom listened heard countFrom maskFrom allFit
 worked = refl
-
--- .. and what is answered for each by itself
-pub worked-masks : map (λ (l : Listener). listened (l ∷ []) 1) (at 3 5 ∷ at 3 4 ∷ [])
-    ≡ (given (4 ∷ 0 ∷ 8 ∷ 0 ∷ 8 ∷ 0 ∷ 8 ∷ 0 ∷ 8 ∷ []) ∷ given (8 ∷ 8 ∷ 8 ∷ 8 ∷ 8 ∷ 8 ∷ 8 ∷ 8 ∷ 8 ∷ []) ∷ [])
-unfolding listened heard countFrom maskFrom allFit
-worked-masks = refl

@@ -12,11 +12,12 @@ use lib.ListN.{length, take, getD}
 use lib.Seq.{take-suc}
 use Rattle.laws.specs.Choice.{bitOf}
 use Rattle.laws.proofs.Bits.{lowest, higher, bit-le, ones-of, or-of}
-use Rattle.frames.specs.Listening.{Frameset, maskFrom, countFrom, masksOf, onesOf, alternating}
+use Rattle.frames.specs.Listening.{Frameset, maskFrom, countFrom, masksOf, onesOf}
+use Rattle.frames.specs.Repeating.{alternating}
 
 module _ (frames : Frameset) where
   -- a mask of n frames has n bits
-  pub mask-lt : (first n : ℕ) → maskFrom frames first n < 2 ^ n
+  mask-lt : (first n : ℕ) → maskFrom frames first n < 2 ^ n
   unfolding maskFrom
   mask-lt first zero = omega arith
   mask-lt first (suc n) = rw pow-succ' (omega (arith, mask-lt (suc first) n, bit-le (frames first)))
@@ -29,11 +30,12 @@ module _ (frames : Frameset) where
   mask-bit first (suc n) (suc j) h = rw (higher, mask-bit (suc first) n j (omega arith), suc-add, add-suc)
 
   -- the frames set are the frames counted
-  pub mask-ones : (first n : ℕ) → ones (maskFrom frames first n) ≡ countFrom frames first n
+  mask-ones : (first n : ℕ) → ones (maskFrom frames first n) ≡ countFrom frames first n
   unfolding maskFrom countFrom ones
   mask-ones first zero = refl
   mask-ones first (suc n) = rw (ones-of, mask-ones (suc first) n)
 
+  -- of no frames none is counted
   count-none : (first : ℕ) → countFrom frames first 0 ≡ 0
   unfolding countFrom
   count-none first = refl
@@ -55,12 +57,6 @@ pub mask-or : (p q : Frameset) (first n : ℕ) → maskFrom (λ f. p f || q f) f
 unfolding maskFrom
 mask-or p q first zero = refl
 mask-or p q first (suc n) = rw (or-of, mask-or p q (suc first) n)
-
--- a set that is another one moved by d frames has its masks there
-mask-moved : (p q : Frameset) (d : ℕ) → ((f : ℕ) → p (d + f) ≡ q f) → (first n : ℕ) → maskFrom p (d + first) n ≡ maskFrom q first n
-unfolding maskFrom
-mask-moved p q d e first zero = refl
-mask-moved p q d e first (suc n) = rw (e first, ← add-suc, mask-moved p q d e (suc first) n)
 
 -- ---- the ranges of sixteen
 
@@ -99,17 +95,25 @@ abbrev pub Repeats : Frameset → Type 0
 Repeats frames = (f : ℕ) → frames (32 + f) ≡ frames f
 
 module _ (frames : Frameset) (repeats : Repeats frames) where
+  -- after any number of 32 frames it is as it was
   again : (n f : ℕ) → frames (32 * n + f) ≡ frames f
   again zero f = ap frames (omega arith)
   again (suc n) f = ap frames (omega arith) ∙ repeats (32 * n + f) ∙ again n f
 
+  -- .. and so are its masks
+  mask-again : (k first n : ℕ) → maskFrom frames (32 * k + first) n ≡ maskFrom frames first n
+  unfolding maskFrom
+  mask-again k first zero = refl
+  mask-again k first (suc n) = rw (again k first, ← add-suc, mask-again k (suc first) n)
+
+  -- .. two ranges after the other
   range-again : (n : ℕ) → ranges frames (2 * n) ≡ alternating (maskFrom frames 16 16) (maskFrom frames 0 16) n
   range-again zero = refl
   range-again (suc n) =
       let pair : 2 * suc n ≡ suc (suc (2 * n)) = omega arith in
       let odd : 16 * suc (2 * n) ≡ 32 * n + 16 = omega arith in
       let even : 16 * (2 * n) ≡ 32 * n + 0 = omega arith in
-      rw (pair, odd, even, mask-moved frames frames (32 * n) (again n) 16 16, mask-moved frames frames (32 * n) (again n) 0 16, range-again n)
+      rw (pair, odd, even, mask-again n 16 16, mask-again n 0 16, range-again n)
 
   -- so the masks follow from the mask of the first 32 frames
   pub repeated : alternating (maskFrom frames 0 32 / 65536) (maskFrom frames 0 32 % 65536) 4 ≡ masksOf frames

@@ -22,10 +22,6 @@ Frameset = ℕ → Bool
 abbrev pub listens : Listener → Frameset
 listens l f = eqb (f % 2 ^ (l .collapse)) (l .frame % 2 ^ (l .collapse))
 
--- the first 32 frames as a mask, for base frame 0 and the collapses 0 to 5: every frame, every second, fourth, eighth, sixteenth, and one
-abbrev pub combs : List ℕ
-combs = 0xFFFF_FFFF ∷ 0x5555_5555 ∷ 0x1111_1111 ∷ 0x0101_0101 ∷ 0x0001_0001 ∷ 0x0000_0001 ∷ []
-
 -- 01: "merged over up to 16 addresses": some listener listens to the frame
 unfoldable pub heard : List Listener → Frameset
 heard [] f = false
@@ -54,11 +50,6 @@ maskOf frames i = maskFrom frames (16 * (7 - i)) 16
 abbrev pub masksOf : Frameset → List ℕ
 masksOf frames =
     maskOf frames 0 ∷ maskOf frames 1 ∷ maskOf frames 2 ∷ maskOf frames 3 ∷ maskOf frames 4 ∷ maskOf frames 5 ∷ maskOf frames 6 ∷ maskOf frames 7 ∷ []
-
--- .. for frames that repeat after 32: the mask of the higher sixteen and of the lower sixteen in turn, n times
-abbrev pub alternating : ℕ → ℕ → ℕ → List ℕ
-alternating high low zero = []
-alternating high low (suc n) = high ∷ low ∷ alternating high low n
 
 -- 01: "the count of marked bits over all eight packets"
 unfoldable pub onesOf : List ℕ → ℕ

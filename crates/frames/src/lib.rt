@@ -4,7 +4,8 @@ ghost use mathlib.Core.Path.{_≡_};
 ghost use Prim.Native.Nat.{_≤_, _%_, _/_, min};
 ghost use mathlib.Core.Bool.{true};
 ghost use lib.ListN.{take, getD};
-ghost use Rattle.frames.specs.Listening.{listens, combs, heard, maskFrom, alternating, onesOf, allFit, unmarked, listened, toldListening, waited, toldAwaited};
+ghost use Rattle.frames.specs.Listening.{listens, heard, maskFrom, onesOf, allFit, unmarked, listened, toldListening, waited, toldAwaited};
+ghost use Rattle.frames.specs.Repeating.{combs, alternating};
 use refusal::Refusal;
 
 // One address as far as frames go: its base frame and its collapse.

@@ -31,7 +31,9 @@ refused-requires-2 c κs = search needs
 
 returns-2 : tie.Need-returns-2
 unfolding listened
-returns-2 c = c .refused2 .ensures ∙ simp (fit (c .before .before), lt-ltb 16 _ (c .before .if2 .taken))
+returns-2 c =
+    let all = c .before .before .before .before .before .args .all in
+    c .refused2 .ensures ∙ simp (fit (c .before .before), lt-ltb 16 (all .count) (omega (arith, c .before .if2 .taken)))
 
 merged-requires : tie.Need-merged-requires
 merged-requires c κs = fit (c .before)
