@@ -1,1 +1,3 @@
+pub mod Bits
 pub mod Choice
+pub mod Counting

@@ -1,0 +1,2 @@
+pub mod Listening
+pub mod Repeating

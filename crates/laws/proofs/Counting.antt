@@ -1,0 +1,44 @@
+-- Tests and bounds: a rule over all numbers below a bound, by one test that is computed; a row cut at a bound.
+use Prim.Native.Nat.{ℕ, zero, suc, _<_, min}
+use mathlib.Core.Bool.{Bool, true, false, _&&_, _||_}
+use mathlib.Core.Logic.{_⊎_, inl, inr, ⊎-elim}
+use mathlib.Core.List.{List, [], _∷_}
+use mathlib.Core.Path.{_≡_, refl}
+use native.Mathlib.Nat.{eq-or-lt-of-le, le-of-suc-le-suc, zero-min, min-zero, suc-min-suc}
+use native.Mathlib.Omega.{arith}
+use lib.Dec.{T}
+use lib.ListN.{length, take}
+
+-- where two tests hold together, each holds
+both-left : (a b : Bool) → T (a && b) → T a
+both-left true b t = tt
+both-left false b t = t
+
+both-right : (a b : Bool) → T (a && b) → T b
+both-right true b t = t
+both-right false b t = absurd t
+
+-- where one of two tests holds, it is the first or the second
+pub one-of : (a b : Bool) → (a || b) ≡ true → (a ≡ true) ⊎ (b ≡ true)
+one-of true b h = inl refl
+one-of false b h = inr h
+
+-- the test holds of each number below the bound
+abbrev pub allBelow : (ℕ → Bool) → ℕ → Bool
+allBelow test zero = true
+allBelow test (suc n) = test n && allBelow test n
+
+-- what is computed of all is known of each
+pub of-all-below : (test : ℕ → Bool) (n : ℕ) → T (allBelow test n) → (k : ℕ) → k < n → T (test k)
+of-all-below test zero t k h = absurd (omega arith)
+of-all-below test (suc n) t k h =
+    ⊎-elim
+    (λ e. rw e (both-left (test n) (allBelow test n) t))
+    (λ l. of-all-below test n (both-right (test n) (allBelow test n) t) k l)
+    (eq-or-lt-of-le (le-of-suc-le-suc h))
+
+-- a row cut at its own length, where the number asked for is larger, is the row cut at that number
+pub take-min : {A : Type 0} (n : ℕ) (row : List A) → take (min n (length row)) row ≡ take n row
+take-min zero row = rw zero-min
+take-min (suc n) [] = rw min-zero
+take-min (suc n) (x ∷ row) = rw (suc-min-suc, take-min n row)
