@@ -4,7 +4,7 @@ ghost use mathlib.Core.Path.{_≡_};
 ghost use Prim.Native.Nat.{_-_, _≤_, _<_, _^_};
 ghost use mathlib.Core.List.{[], _∷_};
 ghost use Rattle.refusal.specs.Told.{given};
-ghost use Rattle.address.specs.Ranges.{classOf};
+ghost use Rattle.address.specs.Ranges.{classOf, classNumber};
 ghost use Rattle.address.specs.Words.{oneWord, pair12, pair13, pair23, layoutOf, wordsAs, FitsAs, wordsOf, toldWorded, isOne, isPair, fromPair, addressOf, toldAddressed};
 use refusal::Refusal;
 
@@ -19,6 +19,25 @@ pub enum Class {
     Set14,
     Set23Country,
     Set23InformationService,
+}
+
+impl Class {
+    // The class as a number: 01's rows in order, 1 to 9.
+    pub fn number(self) -> u32
+        ensures { λ r. ⌜ r ≡ classNumber self ⌝ }
+    {
+        match self {
+            Class::Short => 1,
+            Class::InformationService => 2,
+            Class::Network => 3,
+            Class::Operator => 4,
+            Class::Set12 => 5,
+            Class::Set13 => 6,
+            Class::Set14 => 7,
+            Class::Set23Country => 8,
+            Class::Set23InformationService => 9,
+        }
+    }
 }
 
 // A range of addresses, both ends in it, and its class.

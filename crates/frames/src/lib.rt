@@ -9,12 +9,14 @@ ghost use Rattle.frames.specs.Repeating.{combs, alternating};
 use refusal::Refusal;
 
 // One address as far as frames go: its base frame and its collapse.
+#[repr(C)]
 pub struct Listener {
     pub frame: u8,
     pub collapse: u8,
 }
 
 // The addresses of a pager: of sixteen places the first `count` are looked at.
+#[repr(C)]
 pub struct Listeners {
     pub listeners: [Listener; 16],
     pub count: u32,

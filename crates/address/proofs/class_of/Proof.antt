@@ -1,3 +1,4 @@
+-- `class_of` meets its contract.
 use Prim.Native.Nat.{_≤_, _<_, _-_}
 use mathlib.Core.Path.{_≡_, refl, sym, _∙_}
 use native.Mathlib.Numerals.{add-one}
@@ -10,8 +11,6 @@ use Rattle.address.specs.declared.Class.the-variants.{Short}
 use Rattle.address.specs.Ranges.{rows, classIn, classOf}
 use Rattle.address.proofs.class_of.Statement.{statement}
 use Rattle.address.proofs.class_of.Tie as tie
-use Rattle.address.proofs.class_of.Reads as reads
-use Rattle.address.proofs.class_of.Lts as lts
 
 -- the row that stands where a table has none
 abbrev blank : Row
@@ -23,20 +22,16 @@ Inv-loop address i₀ i = (i ≤ 9) × (classOf address ≡ classIn (drop i rows
 abbrev μ-loop : tie.MeasureT-loop
 μ-loop address i₀ i = 9 - i
 
--- src/lib.rt:51:5
 loop-holds : tie.Need-loop-holds Inv-loop μ-loop
 unfolding classOf
 loop-holds c = (omega arith, refl)
 
--- src/lib.rt:52:19
 mul-row : tie.Need-mul-row Inv-loop μ-loop
 mul-row c = omega arith
 
--- src/lib.rt:52:19
 array-copy-out-row : tie.Need-array-copy-out-row Inv-loop μ-loop
 array-copy-out-row c = search needs
 
--- src/lib.rt:55:13
 returns : tie.Need-returns Inv-loop μ-loop
 unfolding rows
 returns c =
@@ -44,15 +39,12 @@ returns c =
     let within : s .loop .i < length rows = omega arith in
     sym (s .loop .inv .1 ∙ row-holds rows (s .before .args .address) (s .loop .i) blank within (c .if1 .taken))
 
--- src/lib.rt:57:9
 add-i : tie.Need-add-i Inv-loop μ-loop
 add-i c = search needs
 
--- src/lib.rt:51:5
 loop-less : tie.Need-loop-less Inv-loop μ-loop
 loop-less c = search needs
 
--- src/lib.rt:51:5
 loop-again : tie.Need-loop-again Inv-loop μ-loop
 unfolding rows
 loop-again c =
@@ -60,7 +52,6 @@ loop-again c =
     let within : s .loop .i < length rows = omega arith in
     (omega arith, s .loop .inv .1 ∙ rw add-one (row-passed rows (s .before .args .address) (s .loop .i) blank within (c .if1 .left)))
 
--- src/lib.rt:47:1
 returns-2 : tie.Need-returns-2 Inv-loop μ-loop
 unfolding rows classIn
 returns-2 c =
