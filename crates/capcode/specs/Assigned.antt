@@ -1,6 +1,7 @@
 -- What a CAPCODE's letter means, and the phase and base frame it assigns (document 01, "CAPCODE text"; S8.6.5, Table 25).
 use Prim.Native.Nat.{ℕ, _-_, _/_, _%_}
 use mathlib.Core.Bool.{Bool, true, false, not, _&&_, _||_}
+use mathlib.Core.Path.{_≡_}
 use mathlib.Core.List.{List, [], _∷_}
 use lib.Dec.{leb, ltb, eqb}
 use Rattle.laws.specs.Choice.{pick}
@@ -60,6 +61,14 @@ asked c rest =
     (ask (ltb (c .address) (offsetOf (c .letter))) Offset
     (ask (not (fieldsFit c)) Packet
     rest))))
+
+-- a CAPCODE of which nothing is refused: each of the five tests fails
+pub record Fine (c : Capcode) : Type 0 where
+  pub text : not (standard (c .letter) || framed (c .letter)) ≡ false
+  pub type : allPhase (c .letter) ≡ false
+  pub range : not (accepted (c .address)) ≡ false
+  pub offset : ltb (c .address) (offsetOf (c .letter)) ≡ false
+  pub packet : not (fieldsFit c) ≡ false
 
 -- the phase and base frame of a CAPCODE
 abbrev pub assigned : Capcode → Told

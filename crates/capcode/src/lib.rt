@@ -1,5 +1,11 @@
 // CAPCODEs as text and as values (document 01, "CAPCODE text"; S8.6.2), and the phase and base frame
 // that a CAPCODE assigns (S8.6.5).
+ghost use mathlib.Core.Path.{_≡_};
+ghost use lib.Dec.{ltb};
+ghost use Rattle.refusal.specs.Told.{Told};
+ghost use Rattle.address.specs.Ranges.{accepted};
+ghost use Rattle.capcode.specs.Assigned.{Fine, standard, framed, anyPhase, allPhase, offsetOf, phaseOf, baseOf, fieldsFit, asked, assigned, toldJudged, toldAssign};
+use address::Classed;
 use refusal::Refusal;
 
 // What a CAPCODE says. The letter is its byte. `frame` is the three frame digits of U to Z; A to L have
@@ -62,4 +68,136 @@ pub enum Step {
 pub enum Form {
     Says(Capcode),
     Wrong(usize),
+}
+
+// A to L: phase and base frame come from the address.
+fn is_standard(letter: u8) -> bool
+    ensures { λ r. ⌜ r ≡ standard letter ⌝ }
+{
+    (65 <= letter) & (letter <= 76)
+}
+
+// U to Z: the base frame stands in the text.
+fn is_framed(letter: u8) -> bool
+    ensures { λ r. ⌜ r ≡ framed letter ⌝ }
+{
+    (85 <= letter) & (letter <= 90)
+}
+
+fn is_any_phase(letter: u8) -> bool
+    ensures { λ r. ⌜ r ≡ anyPhase letter ⌝ }
+{
+    ((69 <= letter) & (letter <= 72)) | (letter == 89)
+}
+
+fn is_all_phase(letter: u8) -> bool
+    ensures { λ r. ⌜ r ≡ allPhase letter ⌝ }
+{
+    ((73 <= letter) & (letter <= 76)) | (letter == 90)
+}
+
+// What is taken off the address before phase and base frame are counted (Table 25).
+fn offset_of(letter: u8) -> u64
+    ensures { λ r. ⌜ r ≡ offsetOf letter ⌝ }
+{
+    if is_standard(letter) {
+        ((letter - 65) % 4) as u64
+    } else {
+        0
+    }
+}
+
+fn is_below_offset(c: Capcode) -> bool
+    ensures { λ r. ⌜ r ≡ ltb (c .address) (offsetOf (c .letter)) ⌝ }
+{
+    c.address < offset_of(c.letter)
+}
+
+fn is_accepted(address: u64) -> bool
+    ensures { λ r. ⌜ r ≡ accepted address ⌝ }
+{
+    match address::class_of(address) {
+        Classed::In(_) => true,
+        Classed::Refused(_) => false,
+    }
+}
+
+fn fields_fit(c: Capcode) -> bool
+    ensures { λ r. ⌜ r ≡ fieldsFit c ⌝ }
+{
+    if is_standard(c.letter) {
+        (c.collapse <= 5) & (c.frame == 0)
+    } else {
+        (c.collapse <= 5) & (c.frame <= 127)
+    }
+}
+
+// What is asked of every CAPCODE before it is used, in 01's order: the first refusal is the answer.
+fn judge(c: Capcode) -> Judged
+    ensures { λ r. ⌜ ((rest : Told) → toldJudged r rest ≡ asked c rest) ⌝ }
+{
+    if !(is_standard(c.letter) | is_framed(c.letter)) {
+        return Judged::Refused(Refusal::Text);
+    }
+    if is_all_phase(c.letter) {
+        return Judged::Refused(Refusal::Type);
+    }
+    if !is_accepted(c.address) {
+        return Judged::Refused(Refusal::Range);
+    }
+    if is_below_offset(c) {
+        return Judged::Refused(Refusal::Offset);
+    }
+    if !fields_fit(c) {
+        return Judged::Refused(Refusal::Packet);
+    }
+    Judged::Fine
+}
+
+// The phase of a CAPCODE that was judged fine.
+fn phase_of(c: Capcode) -> u8
+    requires { ⌜ Fine c ⌝ }
+    ensures { λ r. ⌜ r ≡ phaseOf c ⌝ }
+{
+    if is_any_phase(c.letter) {
+        return 4;
+    }
+    if is_standard(c.letter) {
+        ((c.address - offset_of(c.letter)) / 4 % 4) as u8
+    } else {
+        c.letter - 85
+    }
+}
+
+// The base frame of a CAPCODE that was judged fine.
+fn base_of(c: Capcode) -> u8
+    requires { ⌜ Fine c ⌝ }
+    ensures { λ r. ⌜ r ≡ baseOf c ⌝ }
+{
+    if is_standard(c.letter) {
+        ((c.address - offset_of(c.letter)) / 16 % 128) as u8
+    } else {
+        c.frame
+    }
+}
+
+// The phase and the base frame of a CAPCODE that was judged fine.
+fn placed(c: Capcode) -> Assignment
+    requires { ⌜ Fine c ⌝ }
+    ensures { λ r. ⌜ (r .phase ≡ phaseOf c) × (r .frame ≡ baseOf c) ⌝ }
+{
+    Assignment {
+        phase: phase_of(c),
+        frame: base_of(c),
+    }
+}
+
+// The phase and the base frame of a CAPCODE (S8.6.5), or the first refusal.
+pub fn assign(c: Capcode) -> AssignAnswer
+    ensures { λ r. ⌜ toldAssign r ≡ assigned c ⌝ }
+{
+    match judge(c) {
+        Judged::Fine => AssignAnswer::Assigned(placed(c)),
+        Judged::Refused(r) => AssignAnswer::Refused(r),
+    }
 }
