@@ -1,1 +1,4 @@
 pub mod Judging
+pub mod Steps
+pub mod Sound
+pub mod Course

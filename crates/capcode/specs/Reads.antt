@@ -1,5 +1,5 @@
 -- Reading a text as a CAPCODE, byte by byte (document 01, "CAPCODE text"). The reading stops at the first byte at which no correct text could go on.
-use Prim.Native.Nat.{ℕ, zero, suc, _+_, _-_, _*_, _/_, _%_}
+use Prim.Native.Nat.{ℕ, zero, suc, _+_, _-_, _*_, _/_, _%_, _^_, _≤_, _<_}
 use mathlib.Core.Bool.{Bool, true, false, not, _&&_, _||_}
 use mathlib.Core.List.{List, [], _∷_}
 use lib.Dec.{leb, eqb}
@@ -39,28 +39,42 @@ addressGoesOn count number =
     || (eqb count 9 && leb 203161 number)
     || (eqb count 10 && leb 2031615 number)
 
+-- the bounds of a reading's counts and numbers
+pub record Bounded (s : Reading) : Type 0 where
+  pub before : s .before ≤ 4
+  pub number : s .number ≤ 1279
+  pub after : s .after ≤ 10
+  pub address : s .address < 10 ^ 10
+
 -- a reading goes on with the next state, or stops
 abbrev pub goOn : Bool → Reading → Step
 goOn true s = Step.On s
 goOn false s = Step.Stop
 
+-- a reading with one digit more before the letter
+abbrev pub withHead : Reading → ℕ → Reading
+withHead s digit = record { before = s .before + 1; number = s .number * 10 + digit; letter = 0; after = 0; address = 0 }
+
+-- a reading with its letter
+abbrev pub withLetter : Reading → ℕ → Reading
+withLetter s byte = record { before = s .before; number = s .number; letter = byte; after = 0; address = 0 }
+
+-- a reading with one digit more after the letter
+abbrev pub withAddress : Reading → ℕ → Reading
+withAddress s digit =
+    record { before = s .before; number = s .number; letter = s .letter; after = s .after + 1; address = s .address * 10 + digit }
+
 -- a digit before the letter
 abbrev pub headDigit : Reading → ℕ → Step
-headDigit s digit =
-    goOn (headGoesOn (s .before + 1) (s .number * 10 + digit))
-    (record { before = s .before + 1; number = s .number * 10 + digit; letter = 0; after = 0; address = 0 })
+headDigit s digit = goOn (headGoesOn (s .before + 1) (s .number * 10 + digit)) (withHead s digit)
 
 -- the letter
 abbrev pub theLetter : Reading → ℕ → Step
-theLetter s byte =
-    goOn (letterGoesOn (s .before) byte)
-    (record { before = s .before; number = s .number; letter = byte; after = 0; address = 0 })
+theLetter s byte = goOn (letterGoesOn (s .before) byte) (withLetter s byte)
 
 -- a digit after the letter
 abbrev pub addressDigit : Reading → ℕ → Step
-addressDigit s digit =
-    goOn (addressGoesOn (s .after + 1) (s .address * 10 + digit))
-    (record { before = s .before; number = s .number; letter = s .letter; after = s .after + 1; address = s .address * 10 + digit })
+addressDigit s digit = goOn (addressGoesOn (s .after + 1) (s .address * 10 + digit)) (withAddress s digit)
 
 -- one byte more
 unfoldable pub stepOf : Reading → ℕ → Step

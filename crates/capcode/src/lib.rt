@@ -5,6 +5,7 @@ ghost use lib.Dec.{ltb};
 ghost use Rattle.refusal.specs.Told.{Told};
 ghost use Rattle.address.specs.Ranges.{accepted};
 ghost use Rattle.capcode.specs.Assigned.{Fine, standard, framed, anyPhase, allPhase, offsetOf, phaseOf, baseOf, fieldsFit, asked, assigned, toldJudged, toldAssign};
+ghost use Rattle.capcode.specs.Reads.{isDigit, headGoesOn, letterGoesOn, addressGoesOn, Bounded, headDigit, theLetter, addressDigit, stepOf, going, isWhole, saidBy, endOf, formOf, readBy, readOf, toldRead};
 use address::Classed;
 use refusal::Refusal;
 
@@ -199,5 +200,198 @@ pub fn assign(c: Capcode) -> AssignAnswer
     match judge(c) {
         Judged::Fine => AssignAnswer::Assigned(placed(c)),
         Judged::Refused(r) => AssignAnswer::Refused(r),
+    }
+}
+
+fn is_digit(byte: u8) -> bool
+    ensures { λ r. ⌜ r ≡ isDigit byte ⌝ }
+{
+    (48 <= byte) & (byte <= 57)
+}
+
+// Whether some correct text begins with so many digits of this number.
+fn head_goes_on(count: u32, number: u32) -> bool
+    ensures { λ r. ⌜ r ≡ headGoesOn count number ⌝ }
+{
+    ((count == 1) & ((number <= 3) | (number == 5)))
+        | ((count == 2) & (number <= 12))
+        | ((count == 3) & (number <= 127))
+        | ((count == 4) & (number % 10 <= 5))
+}
+
+fn letter_goes_on(count: u32, letter: u8) -> bool
+    ensures { λ r. ⌜ r ≡ letterGoesOn count letter ⌝ }
+{
+    (((count == 0) | (count == 1)) & ((65 <= letter) & (letter <= 76)))
+        | ((count == 4) & ((85 <= letter) & (letter <= 90)))
+}
+
+// Whether some address begins with so many digits of this number: ten digits are for the large ones only.
+fn address_goes_on(count: u32, number: u64) -> bool
+    ensures { λ r. ⌜ r ≡ addressGoesOn count number ⌝ }
+{
+    (count <= 7)
+        | ((count == 8) & (20316 <= number))
+        | ((count == 9) & (203161 <= number))
+        | ((count == 10) & (2031615 <= number))
+}
+
+// A digit before the letter.
+fn head_digit(s: Reading, digit: u8) -> Step
+    requires { ⌜ Bounded s ⌝ }
+    ensures { λ r. ⌜ r ≡ headDigit s digit ⌝ }
+{
+    let count = s.before + 1;
+    let number = s.number * 10 + digit as u32;
+    if head_goes_on(count, number) {
+        Step::On(Reading {
+            before: count,
+            number,
+            letter: 0,
+            after: 0,
+            address: 0,
+        })
+    } else {
+        Step::Stop
+    }
+}
+
+// The letter, or what stands in its place.
+fn the_letter(s: Reading, byte: u8) -> Step
+    ensures { λ r. ⌜ r ≡ theLetter s byte ⌝ }
+{
+    if letter_goes_on(s.before, byte) {
+        Step::On(Reading {
+            before: s.before,
+            number: s.number,
+            letter: byte,
+            after: 0,
+            address: 0,
+        })
+    } else {
+        Step::Stop
+    }
+}
+
+// A digit after the letter.
+fn address_digit(s: Reading, digit: u8) -> Step
+    requires { ⌜ Bounded s ⌝ }
+    ensures { λ r. ⌜ r ≡ addressDigit s digit ⌝ }
+{
+    let count = s.after + 1;
+    let number = s.address * 10 + digit as u64;
+    if address_goes_on(count, number) {
+        Step::On(Reading {
+            before: s.before,
+            number: s.number,
+            letter: s.letter,
+            after: count,
+            address: number,
+        })
+    } else {
+        Step::Stop
+    }
+}
+
+// One byte more.
+fn step_of(s: Reading, byte: u8) -> Step
+    requires { ⌜ Bounded s ⌝ }
+    ensures { λ r. ⌜ r ≡ stepOf s byte ⌝ }
+{
+    if is_digit(byte) {
+        if s.letter == 0 {
+            return head_digit(s, byte - 48);
+        }
+        return address_digit(s, byte - 48);
+    }
+    if s.letter == 0 {
+        return the_letter(s, byte);
+    }
+    Step::Stop
+}
+
+// Whether a text may end here.
+fn is_whole(s: Reading) -> bool
+    ensures { λ r. ⌜ r ≡ isWhole s ⌝ }
+{
+    !(s.letter == 0) & (((s.after == 7) & (s.address <= 2031614)) | (s.after == 10))
+}
+
+fn said_frame(s: Reading) -> u8
+    requires { ⌜ Bounded s ⌝ }
+    ensures { λ r. ⌜ r ≡ saidBy s .frame ⌝ }
+{
+    if s.before == 4 {
+        (s.number / 10) as u8
+    } else {
+        0
+    }
+}
+
+fn said_collapse(s: Reading) -> u8
+    ensures { λ r. ⌜ r ≡ saidBy s .collapse ⌝ }
+{
+    if s.before == 0 {
+        4
+    } else {
+        (s.number % 10) as u8
+    }
+}
+
+// The form of a text that was read to its end, `place`.
+fn form_at_end(s: Reading, place: usize) -> Form
+    requires { ⌜ Bounded s ⌝ }
+    ensures { λ r. ⌜ r ≡ endOf (going place s) ⌝ }
+{
+    if is_whole(s) {
+        return Form::Says(Capcode {
+            letter: s.letter,
+            frame: said_frame(s),
+            collapse: said_collapse(s),
+            address: s.address,
+        });
+    }
+    Form::Wrong(place)
+}
+
+// What a text says, or the first place at which no correct text goes on as it does.
+fn form_of(text: &[u8]) -> Form
+    ensures { λ r. ⌜ r ≡ formOf (now (text .entry)) ⌝ }
+{
+    let mut s = Reading {
+        before: 0,
+        number: 0,
+        letter: 0,
+        after: 0,
+        address: 0,
+    };
+    let mut i = 0;
+    while i < text.len() {
+        let Step::On(next) = step_of(s, text[i]) else {
+            return Form::Wrong(i);
+        };
+        s = next;
+        i += 1;
+    }
+    form_at_end(s, i)
+}
+
+// What is answered for a text that says `c`.
+fn read_as(c: Capcode) -> ReadAnswer
+    ensures { λ r. ⌜ toldRead r ≡ readBy (Form.Says c) ⌝ }
+{
+    match judge(c) {
+        Judged::Fine => ReadAnswer::Whole(c, placed(c)),
+        Judged::Refused(r) => ReadAnswer::Refused(r),
+    }
+}
+
+// What a text says, with the phase and base frame that it assigns, or the first refusal.
+pub fn read(text: &[u8]) -> ReadAnswer
+    ensures { λ r. ⌜ toldRead r ≡ readOf (now (text .entry)) ⌝ }
+{
+    match form_of(text) {
+        Form::Says(c) => read_as(c),
+        Form::Wrong(_) => ReadAnswer::Refused(Refusal::Text),
     }
 }
