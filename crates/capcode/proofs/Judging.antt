@@ -4,6 +4,7 @@ use mathlib.Core.Bool.{Bool, true, false, not, _&&_, _||_}
 use mathlib.Core.Path.{_≡_, refl, sym, ap, _∙_}
 use mathlib.Core.List.{List, []}
 use lib.Dec.{ltb, leb}
+use native.Mathlib.Omega.{arith}
 use borrow.Author.Tests.{leb-true, ltb-false, not-false}
 use Rattle.refusal.specs.declared.Refusal.{Refusal}
 use Rattle.refusal.specs.declared.Refusal.the-variants.{Text, «Type», Range, Offset, Packet}
@@ -81,3 +82,9 @@ framed-from c f e = leb-true 85 (c .letter) (first-of _ _ (other-of _ _ (not-fal
 -- the offset of a CAPCODE that is fine can be taken off its address
 pub offset-within : (c : Capcode) → Fine c → offsetOf (c .letter) ≤ c .address
 offset-within c f = ltb-false _ _ (f .offset)
+
+-- the collapse of a CAPCODE that is fine is one digit
+pub fine-collapse : (c : Capcode) → Fine c → c .collapse ≤ 9
+fine-collapse c f =
+    let small = leb-true (c .collapse) 5 (first-of _ _ (not-false _ (f .packet))) in
+    omega arith

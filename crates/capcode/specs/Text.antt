@@ -32,6 +32,10 @@ headOf c =
     (pick (eqb (c .collapse) 4) [] (digits 1 (c .collapse)))
     (digits 3 (c .frame) ++ digits 1 (c .collapse))
 
+-- how many digits those are
+abbrev pub headWidth : Capcode → ℕ
+headWidth c = pick (standard (c .letter)) (pick (eqb (c .collapse) 4) 0 1) 4
+
 -- 01: .. "the letter, the address"
 unfoldable pub textOf : Capcode → List ℕ
 textOf c = headOf c ++ c .letter ∷ digits (widthOf (c .address)) (c .address)
