@@ -1,3 +1,4 @@
 pub mod Bits
 pub mod Choice
 pub mod Counting
+pub mod Writing

@@ -1,0 +1,90 @@
+-- The questions asked of every CAPCODE, by the answers to their tests.
+use Prim.Native.Nat.{ℕ, _≤_}
+use mathlib.Core.Bool.{Bool, true, false, not, _&&_, _||_}
+use mathlib.Core.Path.{_≡_, refl, sym, ap, _∙_}
+use mathlib.Core.List.{List, []}
+use lib.Dec.{ltb, leb}
+use native.Mathlib.Omega.{arith}
+use borrow.Author.Tests.{leb-true, ltb-false, not-false}
+use Rattle.refusal.specs.declared.Refusal.{Refusal}
+use Rattle.refusal.specs.declared.Refusal.the-variants.{Text, «Type», Range, Offset, Packet}
+use Rattle.refusal.specs.Told.{Told, given, ask}
+use Rattle.refusal.proofs.Laws.{given-not-refused}
+use Rattle.address.specs.Ranges.{accepted}
+use Rattle.capcode.specs.declared.Capcode.{Capcode}
+use Rattle.capcode.specs.declared.Judged.{Judged}
+use Rattle.capcode.specs.Assigned.{Fine, standard, framed, allPhase, offsetOf, fieldsFit, asked, toldJudged}
+
+-- the answer, with each test's value in its place
+pub asked-by : (text type range offset packet : Bool) (c : Capcode) (rest : Told)
+    → not (standard (c .letter) || framed (c .letter)) ≡ text
+    → allPhase (c .letter) ≡ type
+    → not (accepted (c .address)) ≡ range
+    → ltb (c .address) (offsetOf (c .letter)) ≡ offset
+    → not (fieldsFit c) ≡ packet
+    → ask text Text (ask type «Type» (ask range Range (ask offset Offset (ask packet Packet rest)))) ≡ asked c rest
+unfolding asked
+asked-by text type range offset packet c rest e₁ e₂ e₃ e₄ e₅ = rw (e₁, e₂, e₃, e₄, e₅)
+
+-- an answer that is given was not refused by the question, and was given by what follows
+ask-none : (test : Bool) (r : Refusal) (rest : Told) (values : List ℕ) → ask test r rest ≡ given values → (test ≡ false) × (rest ≡ given values)
+ask-none true r rest values e = absurd (given-not-refused values r (sym e))
+ask-none false r rest values e = (refl, e)
+
+-- a CAPCODE of which something is given is fine, and what is given comes from what follows the questions
+pub given-fine : (c : Capcode) (rest : Told) (values : List ℕ) → asked c rest ≡ given values → Fine c × (rest ≡ given values)
+unfolding asked
+given-fine c rest values e =
+    let s = ask-none _ _ _ values e in
+    let t = ask-none _ _ _ values (s .1) in
+    let u = ask-none _ _ _ values (t .1) in
+    let v = ask-none _ _ _ values (u .1) in
+    let w = ask-none _ _ _ values (v .1) in
+    (record { text = s .0; type = t .0; range = u .0; offset = v .0; packet = w .0 }, w .1)
+
+-- of a fine CAPCODE the answer is what follows the questions
+pub fine-asked : (c : Capcode) (rest : Told) → Fine c → rest ≡ asked c rest
+fine-asked c rest f = asked-by false false false false false c rest (f .text) (f .type) (f .range) (f .offset) (f .packet)
+
+-- a judgement, and what is known of it in the arm of a match
+pub judged-tells : (c : Capcode) (j k : Judged) → ((rest : Told) → toldJudged j rest ≡ asked c rest) → j ≡ k → (rest : Told) → toldJudged k rest ≡ asked c rest
+judged-tells c j k tells e rest = ap (λ (x : Judged). toldJudged x rest) (sym e) ∙ tells rest
+
+-- a CAPCODE judged fine is fine
+pub judged-fine : (c : Capcode) → ((rest : Told) → rest ≡ asked c rest) → Fine c
+judged-fine c tells = given-fine c (given []) [] (sym (tells (given []))) .0
+
+-- of two tests that both hold, the first holds
+pub first-of : (a b : Bool) → (a && b) ≡ true → a ≡ true
+first-of true b e = refl
+first-of false b e = e
+
+-- and the second
+pub second-of : (a b : Bool) → (a && b) ≡ true → b ≡ true
+second-of true b e = e
+second-of false true e = refl
+second-of false false e = e
+
+-- of two tests of which one holds, the second if the first does not
+pub other-of : (a b : Bool) → (a || b) ≡ true → a ≡ false → b ≡ true
+other-of true true e f = refl
+other-of true false e f = sym f
+other-of false b e f = e
+
+-- a letter A to L is 65 or more
+pub standard-from : (letter : ℕ) → standard letter ≡ true → 65 ≤ letter
+standard-from letter e = leb-true 65 letter (first-of _ _ e)
+
+-- a CAPCODE that is fine and whose letter is not A to L has a letter U to Z, which is 85 or more
+pub framed-from : (c : Capcode) → Fine c → standard (c .letter) ≡ false → 85 ≤ c .letter
+framed-from c f e = leb-true 85 (c .letter) (first-of _ _ (other-of _ _ (not-false _ (f .text)) e))
+
+-- the offset of a CAPCODE that is fine can be taken off its address
+pub offset-within : (c : Capcode) → Fine c → offsetOf (c .letter) ≤ c .address
+offset-within c f = ltb-false _ _ (f .offset)
+
+-- the collapse of a CAPCODE that is fine is one digit
+pub fine-collapse : (c : Capcode) → Fine c → c .collapse ≤ 9
+fine-collapse c f =
+    let small = leb-true (c .collapse) 5 (first-of _ _ (not-false _ (f .packet))) in
+    omega arith

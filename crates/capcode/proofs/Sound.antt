@@ -1,0 +1,145 @@
+-- What holds of every reading under way: each byte so far was one with which some correct text goes on. The bounds follow.
+use Prim.Native.Nat.{ℕ, zero, suc, _+_, _-_, _*_, _/_, _%_, _^_, _≤_, _<_}
+use mathlib.Core.Bool.{Bool, true, false, _&&_, _||_}
+use mathlib.Core.Path.{_≡_, refl, sym, ap, _∙_, subst}
+use mathlib.Core.Logic.{_⊎_, inl, inr, ⊎-elim}
+use lib.Dec.{leb, eqb}
+use native.Mathlib.Nat.{pow-suc, pow-le-pow-right}
+use native.Mathlib.Numerals.{add-one}
+use native.Mathlib.Omega.{arith}
+use borrow.Author.Tests.{leb-true, eqb-true, eqb-false}
+use Rattle.capcode.specs.declared.Reading.{Reading}
+use Rattle.capcode.specs.declared.Step.{Step}
+use Rattle.capcode.specs.Reads.{isDigit, headGoesOn, letterGoesOn, addressGoesOn, Bounded, goOn, withHead, withLetter, withAddress, stepOf, blank}
+use Rattle.capcode.proofs.Judging.{first-of, second-of}
+use Rattle.capcode.proofs.Steps.{step-head, step-letter, step-address, step-stop, digit-from, digit-to}
+
+-- a number of so many digits of which a test held at each digit
+abbrev pub Digits : (ℕ → ℕ → Bool) → ℕ → ℕ → Type 0
+Digits goesOn zero number = number ≡ 0
+Digits goesOn (suc n) number = (goesOn (suc n) number ≡ true) × Digits goesOn n (number / 10)
+
+-- one digit more
+digits-more : (goesOn : ℕ → ℕ → Bool) (n number digit : ℕ) → digit ≤ 9 → goesOn (n + 1) (number * 10 + digit) ≡ true → Digits goesOn n number → Digits goesOn (n + 1) (number * 10 + digit)
+digits-more goesOn n number digit small e before =
+    let back : (number * 10 + digit) / 10 ≡ number = omega arith in
+    rw (add-one n) (rw (add-one n) at e, rw back before)
+
+-- a number of n digits is below 10 ^ n
+pub digits-below : (goesOn : ℕ → ℕ → Bool) (n number : ℕ) → Digits goesOn n number → number < 10 ^ n
+digits-below goesOn zero number e = omega arith
+digits-below goesOn (suc n) number e =
+    let less : number / 10 < 10 ^ n = digits-below goesOn n (number / 10) (e .1) in
+    rw (pow-suc 10 n) (omega arith)
+
+-- of two tests of which one holds
+pub either-of : (a b : Bool) → (a || b) ≡ true → (a ≡ true) ⊎ (b ≡ true)
+either-of true b e = inl refl
+either-of false b e = inr e
+
+-- a collapse digit of A to L: 0 to 5, but never 4
+pub one-digit : (number : ℕ) → (leb number 3 || eqb number 5) ≡ true → (number ≤ 5) × (number ≡ 4 → ⊥)
+one-digit number e =
+    ⊎-elim {C = (number ≤ 5) × (number ≡ 4 → ⊥)}
+    (λ (low : leb number 3 ≡ true). let small = leb-true number 3 low in (omega arith, λ four. omega arith))
+    (λ (five : eqb number 5 ≡ true). let exact = eqb-true number 5 five in (omega arith, λ four. omega arith))
+    (either-of (leb number 3) (eqb number 5) e)
+
+-- which of four tests holds
+pub one-of : (a b c d : Bool) → (a || b || c || d) ≡ true → (a ≡ true) ⊎ ((b ≡ true) ⊎ ((c ≡ true) ⊎ (d ≡ true)))
+one-of true b c d e = inl refl
+one-of false true c d e = inr (inl refl)
+one-of false false true d e = inr (inr (inl refl))
+one-of false false false d e = inr (inr (inr e))
+
+-- digits before the letter that go on are four, or three or fewer of a number up to 127
+head-by : (count number : ℕ)
+    → ((eqb count 1 && (leb number 3 || eqb number 5)) ≡ true) ⊎ (((eqb count 2 && leb number 12) ≡ true) ⊎ (((eqb count 3 && leb number 127) ≡ true) ⊎ ((eqb count 4 && leb (number % 10) 5) ≡ true)))
+    → (count ≡ 4) ⊎ ((count ≤ 3) × (number ≤ 127))
+head-by count number (inl one) =
+    let exact = eqb-true count 1 (first-of _ _ one) in
+    let small = one-digit number (second-of (eqb count 1) _ one) in
+    inr (omega arith, omega arith)
+head-by count number (inr (inl two)) =
+    let exact = eqb-true count 2 (first-of _ _ two) in
+    let small = leb-true number 12 (second-of (eqb count 2) _ two) in
+    inr (omega arith, omega arith)
+head-by count number (inr (inr (inl three))) =
+    let exact = eqb-true count 3 (first-of _ _ three) in
+    let small = leb-true number 127 (second-of (eqb count 3) _ three) in
+    inr (omega arith, omega arith)
+head-by count number (inr (inr (inr four))) = inl (eqb-true count 4 (first-of _ _ four))
+
+head-cases : (count number : ℕ) → headGoesOn count number ≡ true → (count ≡ 4) ⊎ ((count ≤ 3) × (number ≤ 127))
+head-cases count number e = head-by count number (one-of _ _ _ _ e)
+
+-- up to three digits before the letter are up to 127
+pub head-frame : (n number : ℕ) → Digits headGoesOn n number → n ≤ 3 → number ≤ 127
+head-frame zero number e few = omega arith
+head-frame (suc n) number e few = ⊎-elim (λ four. absurd (omega arith)) (λ small. small .1) (head-cases (suc n) number (e .0))
+
+-- there are at most four, of a number up to 1279
+head-upto : (n number : ℕ) → Digits headGoesOn n number → (n ≤ 4) × (number ≤ 1279)
+head-upto zero number e = (omega arith, omega arith)
+head-upto (suc n) number e =
+    ⊎-elim (λ four.
+    let few : n ≤ 3 = omega arith in
+    let frame : number / 10 ≤ 127 = head-frame n (number / 10) (e .1) few in
+    (omega arith, omega arith)) (λ small. (omega arith, omega arith)) (head-cases (suc n) number (e .0))
+
+-- digits after the letter that go on are ten at most
+address-by : (count number : ℕ)
+    → (leb count 7 ≡ true) ⊎ (((eqb count 8 && leb 20316 number) ≡ true) ⊎ (((eqb count 9 && leb 203161 number) ≡ true) ⊎ ((eqb count 10 && leb 2031615 number) ≡ true)))
+    → count ≤ 10
+address-by count number (inl upto-seven) = let few = leb-true count 7 upto-seven in omega arith
+address-by count number (inr (inl eight)) = let exact = eqb-true count 8 (first-of _ _ eight) in omega arith
+address-by count number (inr (inr (inl nine))) = let exact = eqb-true count 9 (first-of _ _ nine) in omega arith
+address-by count number (inr (inr (inr ten))) = let exact = eqb-true count 10 (first-of _ _ ten) in omega arith
+
+-- so are all of them
+address-upto : (n number : ℕ) → Digits addressGoesOn n number → n ≤ 10
+address-upto zero number e = omega arith
+address-upto (suc n) number e = address-by (suc n) number (one-of _ _ _ _ (e .0))
+
+-- what holds of every reading under way
+pub record Sound (s : Reading) : Type 0 where
+  pub head : Digits headGoesOn (s .before) (s .number)
+  pub letter : (s .letter ≡ 0) ⊎ (letterGoesOn (s .before) (s .letter) ≡ true)
+  pub address : Digits addressGoesOn (s .after) (s .address)
+
+-- it holds where nothing was read yet
+pub sound-blank : Sound blank
+sound-blank = record { head = refl; letter = inl refl; address = refl }
+
+-- the bounds follow
+pub sound-bounded : (s : Reading) → Sound s → Bounded s
+sound-bounded s sound =
+    let head = head-upto (s .before) (s .number) (sound .head) in
+    let few : s .after ≤ 10 = address-upto (s .after) (s .address) (sound .address) in
+    let below : s .address < 10 ^ (s .after) = digits-below addressGoesOn (s .after) (s .address) (sound .address) in
+    let most : 10 ^ (s .after) ≤ 10 ^ 10 = pow-le-pow-right (omega arith) few in
+    record { before = head .0; number = head .1; after = few; address = omega arith }
+
+-- a reading that went on passed its test
+pub went-on : (test : Bool) (u t : Reading) → goOn test u ≡ Step.On t → (test ≡ true) × (u ≡ t)
+went-on true u t e = (refl, cc)
+went-on false u t e = absurd (let no : _≡_ {A = ℕ} 0 1 = cc in omega arith)
+
+-- it holds after one byte more, whatever the byte is
+sound-by : (s t : Reading) (byte : ℕ) (digit none : Bool) → isDigit byte ≡ digit → eqb (s .letter) 0 ≡ none → Sound s → stepOf s byte ≡ Step.On t → Sound t
+sound-by s t byte true true digit none sound e =
+    let small : byte - 48 ≤ 9 = omega (arith, digit-from byte digit, digit-to byte digit) in
+    let went = went-on _ (withHead s (byte - 48)) t (step-head s byte digit (eqb-true _ _ none) ∙ e) in
+    subst (λ (u : Reading). Sound u) (went .1) (record { head = digits-more headGoesOn (s .before) (s .number) _ small (went .0) (sound .head); letter = inl refl; address = refl })
+sound-by s t byte true false digit none sound e =
+    let small : byte - 48 ≤ 9 = omega (arith, digit-from byte digit, digit-to byte digit) in
+    let went = went-on _ (withAddress s (byte - 48)) t (step-address s byte digit (eqb-false _ _ none) ∙ e) in
+    subst (λ (u : Reading). Sound u) (went .1) (record { head = sound .head; letter = sound .letter; address = digits-more addressGoesOn (s .after) (s .address) _ small (went .0) (sound .address) })
+sound-by s t byte false true digit none sound e =
+    let went = went-on _ (withLetter s byte) t (step-letter s byte digit (eqb-true _ _ none) ∙ e) in
+    subst (λ (u : Reading). Sound u) (went .1) (record { head = sound .head; letter = inr (went .0); address = refl })
+sound-by s t byte false false digit none sound e = absurd (let no : _≡_ {A = ℕ} 0 1 = cc (step-stop s byte digit (eqb-false _ _ none) ∙ e) in omega arith)
+
+-- it holds after each byte with which the reading goes on
+pub sound-step : (s t : Reading) (byte : ℕ) → Sound s → stepOf s byte ≡ Step.On t → Sound t
+sound-step s t byte = sound-by s t byte _ _ refl refl

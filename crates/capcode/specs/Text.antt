@@ -1,0 +1,58 @@
+-- A CAPCODE as text (document 01, "CAPCODE text"; the house form of S8.6.2).
+use Prim.Native.Nat.{ℕ, zero, suc, _+_, _/_, _%_}
+use mathlib.Core.Bool.{Bool, true, false}
+use mathlib.Core.List.{List, [], _∷_, _++_}
+use lib.Dec.{leb, ltb, eqb}
+use lib.ListN.{length}
+use Rattle.laws.specs.Choice.{pick}
+use Rattle.laws.specs.Lists.{put}
+use Rattle.refusal.specs.declared.Refusal.the-variants.{Room}
+use Rattle.refusal.specs.Told.{Told, told, refused, given, ask}
+use Rattle.capcode.specs.declared.Capcode.{Capcode}
+use Rattle.capcode.specs.declared.PrintAnswer.{PrintAnswer}
+use Rattle.capcode.specs.Assigned.{standard, asked}
+
+-- the last n decimal digits of a number as bytes, highest first; zeros are written
+unfoldable pub digits : ℕ → ℕ → List ℕ
+digits zero number = []
+digits (suc n) number = digits n (number / 10) ++ (48 + number % 10) ∷ []
+
+-- 01: "An address up to 2031614 is seven digits; a larger one is ten"
+abbrev pub lastOfSeven : ℕ
+lastOfSeven = 2031614
+
+-- how many digits an address is written with
+abbrev pub widthOf : ℕ → ℕ
+widthOf address = pick (leb address lastOfSeven) 7 10
+
+-- 01: A to L "an optional pager collapse digit 0 to 5, but never 4 (no digit means 4)"; U to Z "three frame digits 000 to 127, a collapse digit 0 to 5"
+abbrev pub headOf : Capcode → List ℕ
+headOf c =
+    pick (standard (c .letter))
+    (pick (eqb (c .collapse) 4) [] (digits 1 (c .collapse)))
+    (digits 3 (c .frame) ++ digits 1 (c .collapse))
+
+-- how many digits those are
+abbrev pub headWidth : Capcode → ℕ
+headWidth c = pick (standard (c .letter)) (pick (eqb (c .collapse) 4) 0 1) 4
+
+-- 01: .. "the letter, the address"
+unfoldable pub textOf : Capcode → List ℕ
+textOf c = headOf c ++ c .letter ∷ digits (widthOf (c .address)) (c .address)
+
+-- what is answered when a CAPCODE is printed into a buffer of `room` bytes: the text's length, and last of all refusals 1
+abbrev pub printOf : Capcode → ℕ → Told
+printOf c room = asked c (ask (ltb room (length (textOf c))) Room (given (length (textOf c) ∷ [])))
+
+-- what the buffer holds then: the text at its start, or after a refusal what it held
+abbrev pub writtenBy : Told → List ℕ → List ℕ → List ℕ
+writtenBy (told n values) buffer text = pick (eqb n 0) (put buffer 0 text) buffer
+
+-- what a buffer holds after a CAPCODE was printed into it
+abbrev pub bufferAfter : Capcode → List ℕ → List ℕ
+bufferAfter c buffer = writtenBy (printOf c (length buffer)) buffer (textOf c)
+
+-- how a print is told
+abbrev pub toldPrint : PrintAnswer → Told
+toldPrint (PrintAnswer.Length n) = given (n ∷ [])
+toldPrint (PrintAnswer.Refused r) = refused r

@@ -1,0 +1,481 @@
+// CAPCODEs as text and as values (document 01, "CAPCODE text"; S8.6.2), and the phase and base frame
+// that a CAPCODE assigns (S8.6.5).
+ghost use mathlib.Core.Path.{_≡_};
+ghost use Prim.Native.Nat.{_+_, _≤_};
+ghost use lib.Dec.{ltb};
+ghost use lib.ListN.{length};
+ghost use Rattle.laws.specs.Lists.{put};
+ghost use Rattle.refusal.specs.Told.{Told};
+ghost use Rattle.address.specs.Ranges.{accepted};
+ghost use Rattle.capcode.specs.Assigned.{Fine, standard, framed, anyPhase, allPhase, offsetOf, phaseOf, baseOf, fieldsFit, asked, assigned, toldJudged, toldAssign};
+ghost use Rattle.capcode.specs.Text.{digits, widthOf, headWidth, textOf, printOf, bufferAfter, toldPrint};
+ghost use Rattle.capcode.specs.Reads.{isDigit, headGoesOn, letterGoesOn, addressGoesOn, Bounded, headDigit, theLetter, addressDigit, stepOf, going, isWhole, saidBy, endOf, formOf, readBy, readOf, toldRead};
+use address::Classed;
+use refusal::Refusal;
+
+// What a CAPCODE says. The letter is its byte. `frame` is the three frame digits of U to Z; A to L have
+// none, and there it is 0. A collapse of 4 is what A to L mean where they have no digit.
+pub struct Capcode {
+    pub letter: u8,
+    pub frame: u8,
+    pub collapse: u8,
+    pub address: u64,
+}
+
+// The phase and the base frame of a CAPCODE: phases A to D are 0 to 3 (S8.6.5), any-phase is 4.
+pub struct Assignment {
+    pub phase: u8,
+    pub frame: u8,
+}
+
+// The phase and base frame, or the refusal.
+pub enum AssignAnswer {
+    Assigned(Assignment),
+    Refused(Refusal),
+}
+
+// What a text says, or the refusal.
+pub enum ReadAnswer {
+    Whole(Capcode, Assignment),
+    Refused(Refusal),
+}
+
+// How many bytes were written, or the refusal.
+pub enum PrintAnswer {
+    Length(usize),
+    Refused(Refusal),
+}
+
+// Whether a CAPCODE is one that may be used.
+pub enum Judged {
+    Fine,
+    Refused(Refusal),
+}
+
+// Where the reading of a text stands: how many digits came before the letter and their number, the letter
+// (0 while none came), how many digits came after it and their number.
+pub struct Reading {
+    pub before: u32,
+    pub number: u32,
+    pub letter: u8,
+    pub after: u32,
+    pub address: u64,
+}
+
+// One byte more: the reading goes on, or no correct text goes on so.
+pub enum Step {
+    On(Reading),
+    Stop,
+}
+
+// A text in the form and what it says, or the first place at which no correct text could go on: the
+// text's length where it only stops too soon.
+pub enum Form {
+    Says(Capcode),
+    Wrong(usize),
+}
+
+// A to L: phase and base frame come from the address.
+fn is_standard(letter: u8) -> bool
+    ensures { λ r. ⌜ r ≡ standard letter ⌝ }
+{
+    (65 <= letter) & (letter <= 76)
+}
+
+// U to Z: the base frame stands in the text.
+fn is_framed(letter: u8) -> bool
+    ensures { λ r. ⌜ r ≡ framed letter ⌝ }
+{
+    (85 <= letter) & (letter <= 90)
+}
+
+fn is_any_phase(letter: u8) -> bool
+    ensures { λ r. ⌜ r ≡ anyPhase letter ⌝ }
+{
+    ((69 <= letter) & (letter <= 72)) | (letter == 89)
+}
+
+fn is_all_phase(letter: u8) -> bool
+    ensures { λ r. ⌜ r ≡ allPhase letter ⌝ }
+{
+    ((73 <= letter) & (letter <= 76)) | (letter == 90)
+}
+
+// What is taken off the address before phase and base frame are counted (Table 25).
+fn offset_of(letter: u8) -> u64
+    ensures { λ r. ⌜ r ≡ offsetOf letter ⌝ }
+{
+    if is_standard(letter) {
+        ((letter - 65) % 4) as u64
+    } else {
+        0
+    }
+}
+
+fn is_below_offset(c: Capcode) -> bool
+    ensures { λ r. ⌜ r ≡ ltb (c .address) (offsetOf (c .letter)) ⌝ }
+{
+    c.address < offset_of(c.letter)
+}
+
+fn is_accepted(address: u64) -> bool
+    ensures { λ r. ⌜ r ≡ accepted address ⌝ }
+{
+    match address::class_of(address) {
+        Classed::In(_) => true,
+        Classed::Refused(_) => false,
+    }
+}
+
+fn fields_fit(c: Capcode) -> bool
+    ensures { λ r. ⌜ r ≡ fieldsFit c ⌝ }
+{
+    if is_standard(c.letter) {
+        (c.collapse <= 5) & (c.frame == 0)
+    } else {
+        (c.collapse <= 5) & (c.frame <= 127)
+    }
+}
+
+// What is asked of every CAPCODE before it is used, in 01's order: the first refusal is the answer.
+fn judge(c: Capcode) -> Judged
+    ensures { λ r. ⌜ ((rest : Told) → toldJudged r rest ≡ asked c rest) ⌝ }
+{
+    if !(is_standard(c.letter) | is_framed(c.letter)) {
+        return Judged::Refused(Refusal::Text);
+    }
+    if is_all_phase(c.letter) {
+        return Judged::Refused(Refusal::Type);
+    }
+    if !is_accepted(c.address) {
+        return Judged::Refused(Refusal::Range);
+    }
+    if is_below_offset(c) {
+        return Judged::Refused(Refusal::Offset);
+    }
+    if !fields_fit(c) {
+        return Judged::Refused(Refusal::Packet);
+    }
+    Judged::Fine
+}
+
+// The phase of a CAPCODE that was judged fine.
+fn phase_of(c: Capcode) -> u8
+    requires { ⌜ Fine c ⌝ }
+    ensures { λ r. ⌜ r ≡ phaseOf c ⌝ }
+{
+    if is_any_phase(c.letter) {
+        return 4;
+    }
+    if is_standard(c.letter) {
+        ((c.address - offset_of(c.letter)) / 4 % 4) as u8
+    } else {
+        c.letter - 85
+    }
+}
+
+// The base frame of a CAPCODE that was judged fine.
+fn base_of(c: Capcode) -> u8
+    requires { ⌜ Fine c ⌝ }
+    ensures { λ r. ⌜ r ≡ baseOf c ⌝ }
+{
+    if is_standard(c.letter) {
+        ((c.address - offset_of(c.letter)) / 16 % 128) as u8
+    } else {
+        c.frame
+    }
+}
+
+// The phase and the base frame of a CAPCODE that was judged fine.
+fn placed(c: Capcode) -> Assignment
+    requires { ⌜ Fine c ⌝ }
+    ensures { λ r. ⌜ (r .phase ≡ phaseOf c) × (r .frame ≡ baseOf c) ⌝ }
+{
+    Assignment {
+        phase: phase_of(c),
+        frame: base_of(c),
+    }
+}
+
+// The phase and the base frame of a CAPCODE (S8.6.5), or the first refusal.
+pub fn assign(c: Capcode) -> AssignAnswer
+    ensures { λ r. ⌜ toldAssign r ≡ assigned c ⌝ }
+{
+    match judge(c) {
+        Judged::Fine => AssignAnswer::Assigned(placed(c)),
+        Judged::Refused(r) => AssignAnswer::Refused(r),
+    }
+}
+
+fn is_digit(byte: u8) -> bool
+    ensures { λ r. ⌜ r ≡ isDigit byte ⌝ }
+{
+    (48 <= byte) & (byte <= 57)
+}
+
+// Whether some correct text begins with so many digits of this number.
+fn head_goes_on(count: u32, number: u32) -> bool
+    ensures { λ r. ⌜ r ≡ headGoesOn count number ⌝ }
+{
+    ((count == 1) & ((number <= 3) | (number == 5)))
+        | ((count == 2) & (number <= 12))
+        | ((count == 3) & (number <= 127))
+        | ((count == 4) & (number % 10 <= 5))
+}
+
+fn letter_goes_on(count: u32, letter: u8) -> bool
+    ensures { λ r. ⌜ r ≡ letterGoesOn count letter ⌝ }
+{
+    (((count == 0) | (count == 1)) & ((65 <= letter) & (letter <= 76)))
+        | ((count == 4) & ((85 <= letter) & (letter <= 90)))
+}
+
+// Whether some address begins with so many digits of this number: ten digits are for the large ones only.
+fn address_goes_on(count: u32, number: u64) -> bool
+    ensures { λ r. ⌜ r ≡ addressGoesOn count number ⌝ }
+{
+    (count <= 7)
+        | ((count == 8) & (20316 <= number))
+        | ((count == 9) & (203161 <= number))
+        | ((count == 10) & (2031615 <= number))
+}
+
+// A digit before the letter.
+fn head_digit(s: Reading, digit: u8) -> Step
+    requires { ⌜ Bounded s ⌝ }
+    ensures { λ r. ⌜ r ≡ headDigit s digit ⌝ }
+{
+    let count = s.before + 1;
+    let number = s.number * 10 + digit as u32;
+    if head_goes_on(count, number) {
+        Step::On(Reading {
+            before: count,
+            number,
+            letter: 0,
+            after: 0,
+            address: 0,
+        })
+    } else {
+        Step::Stop
+    }
+}
+
+// The letter, or what stands in its place.
+fn the_letter(s: Reading, byte: u8) -> Step
+    ensures { λ r. ⌜ r ≡ theLetter s byte ⌝ }
+{
+    if letter_goes_on(s.before, byte) {
+        Step::On(Reading {
+            before: s.before,
+            number: s.number,
+            letter: byte,
+            after: 0,
+            address: 0,
+        })
+    } else {
+        Step::Stop
+    }
+}
+
+// A digit after the letter.
+fn address_digit(s: Reading, digit: u8) -> Step
+    requires { ⌜ Bounded s ⌝ }
+    ensures { λ r. ⌜ r ≡ addressDigit s digit ⌝ }
+{
+    let count = s.after + 1;
+    let number = s.address * 10 + digit as u64;
+    if address_goes_on(count, number) {
+        Step::On(Reading {
+            before: s.before,
+            number: s.number,
+            letter: s.letter,
+            after: count,
+            address: number,
+        })
+    } else {
+        Step::Stop
+    }
+}
+
+// One byte more.
+fn step_of(s: Reading, byte: u8) -> Step
+    requires { ⌜ Bounded s ⌝ }
+    ensures { λ r. ⌜ r ≡ stepOf s byte ⌝ }
+{
+    if is_digit(byte) {
+        if s.letter == 0 {
+            return head_digit(s, byte - 48);
+        }
+        return address_digit(s, byte - 48);
+    }
+    if s.letter == 0 {
+        return the_letter(s, byte);
+    }
+    Step::Stop
+}
+
+// Whether a text may end here.
+fn is_whole(s: Reading) -> bool
+    ensures { λ r. ⌜ r ≡ isWhole s ⌝ }
+{
+    !(s.letter == 0) & (((s.after == 7) & (s.address <= 2031614)) | (s.after == 10))
+}
+
+fn said_frame(s: Reading) -> u8
+    requires { ⌜ Bounded s ⌝ }
+    ensures { λ r. ⌜ r ≡ saidBy s .frame ⌝ }
+{
+    if s.before == 4 {
+        (s.number / 10) as u8
+    } else {
+        0
+    }
+}
+
+fn said_collapse(s: Reading) -> u8
+    ensures { λ r. ⌜ r ≡ saidBy s .collapse ⌝ }
+{
+    if s.before == 0 {
+        4
+    } else {
+        (s.number % 10) as u8
+    }
+}
+
+// The form of a text that was read to its end, `place`.
+fn form_at_end(s: Reading, place: usize) -> Form
+    requires { ⌜ Bounded s ⌝ }
+    ensures { λ r. ⌜ r ≡ endOf (going place s) ⌝ }
+{
+    if is_whole(s) {
+        return Form::Says(Capcode {
+            letter: s.letter,
+            frame: said_frame(s),
+            collapse: said_collapse(s),
+            address: s.address,
+        });
+    }
+    Form::Wrong(place)
+}
+
+// What a text says, or the first place at which no correct text goes on as it does.
+fn form_of(text: &[u8]) -> Form
+    ensures { λ r. ⌜ r ≡ formOf (now (text .entry)) ⌝ }
+{
+    let mut s = Reading {
+        before: 0,
+        number: 0,
+        letter: 0,
+        after: 0,
+        address: 0,
+    };
+    let mut i = 0;
+    while i < text.len() {
+        let Step::On(next) = step_of(s, text[i]) else {
+            return Form::Wrong(i);
+        };
+        s = next;
+        i += 1;
+    }
+    form_at_end(s, i)
+}
+
+// What is answered for a text that says `c`.
+fn read_as(c: Capcode) -> ReadAnswer
+    ensures { λ r. ⌜ toldRead r ≡ readBy (Form.Says c) ⌝ }
+{
+    match judge(c) {
+        Judged::Fine => ReadAnswer::Whole(c, placed(c)),
+        Judged::Refused(r) => ReadAnswer::Refused(r),
+    }
+}
+
+// What a text says, with the phase and base frame that it assigns, or the first refusal.
+pub fn read(text: &[u8]) -> ReadAnswer
+    ensures { λ r. ⌜ toldRead r ≡ readOf (now (text .entry)) ⌝ }
+{
+    match form_of(text) {
+        Form::Says(c) => read_as(c),
+        Form::Wrong(_) => ReadAnswer::Refused(Refusal::Text),
+    }
+}
+
+// The last `count` digits of a number, zeros written, at a place of a buffer that has room for them.
+fn write_digits(out: &mut [u8], place: usize, count: usize, number: u64)
+    requires { ⌜ place + count ≤ length (now out) ⌝ }
+    ensures { λ r. ⌜ now (out .exit) ≡ put (now (out .entry)) place (digits count number) ⌝ }
+{
+    let mut left = count;
+    let mut rest = number;
+    while 0 < left {
+        left -= 1;
+        out[place + left] = 48 + (rest % 10) as u8;
+        rest /= 10;
+    }
+}
+
+// How many digits stand before the letter: the collapse 4 of A to L is not written.
+fn head_width(c: Capcode) -> usize
+    ensures { λ r. ⌜ (r ≡ headWidth c) × (r ≤ 4) ⌝ }
+{
+    if is_standard(c.letter) {
+        if c.collapse == 4 {
+            return 0;
+        }
+        return 1;
+    }
+    4
+}
+
+fn width_of(address: u64) -> usize
+    ensures { λ r. ⌜ (r ≡ widthOf address) × (r ≤ 10) ⌝ }
+{
+    if address <= 2031614 { 7 } else { 10 }
+}
+
+// The text of a CAPCODE that was judged fine, at the start of a buffer that has room for it. Frame and
+// collapse are one number of which the last digits are written.
+fn write_text(c: Capcode, out: &mut [u8])
+    requires { ⌜ Fine c × (headWidth c + (1 + widthOf (c .address)) ≤ length (now out)) ⌝ }
+    ensures { λ r. ⌜ now (out .exit) ≡ put (now (out .entry)) 0 (textOf c) ⌝ }
+{
+    let head = head_width(c);
+    let number = c.frame as u64 * 10 + c.collapse as u64;
+    write_digits(out, 0, head, number);
+    out[head] = c.letter;
+    let width = width_of(c.address);
+    write_digits(out, head + 1, width, c.address);
+}
+
+// How long the text of a CAPCODE is.
+fn text_length(c: Capcode) -> usize
+    ensures { λ r. ⌜ r ≡ headWidth c + (1 + widthOf (c .address)) ⌝ }
+{
+    head_width(c) + (1 + width_of(c.address))
+}
+
+// A CAPCODE that was judged fine is printed if there is room.
+fn print_fine(c: Capcode, out: &mut [u8]) -> PrintAnswer
+    requires { ⌜ Fine c ⌝ }
+    ensures told { λ r. ⌜ toldPrint r ≡ printOf c (length (now (out .entry))) ⌝ }
+    ensures buffer { λ r. ⌜ now (out .exit) ≡ bufferAfter c (now (out .entry)) ⌝ }
+{
+    let needed = text_length(c);
+    if out.len() < needed {
+        return PrintAnswer::Refused(Refusal::Room);
+    }
+    write_text(c, out);
+    PrintAnswer::Length(needed)
+}
+
+// The text of a CAPCODE at the start of a lent buffer, and its length, or the first refusal. What is
+// refused leaves the buffer as it was.
+pub fn print(c: Capcode, out: &mut [u8]) -> PrintAnswer
+    ensures told { λ r. ⌜ toldPrint r ≡ printOf c (length (now (out .entry))) ⌝ }
+    ensures buffer { λ r. ⌜ now (out .exit) ≡ bufferAfter c (now (out .entry)) ⌝ }
+{
+    match judge(c) {
+        Judged::Fine => print_fine(c, out),
+        Judged::Refused(r) => PrintAnswer::Refused(r),
+    }
+}

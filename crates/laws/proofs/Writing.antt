@@ -1,0 +1,56 @@
+-- Texts put into a buffer one after the other, from the front or from the back.
+use Prim.Native.Nat.{ℕ, _+_, _≤_, _<_}
+use mathlib.Core.Path.{_≡_, refl, sym, ap, _∙_}
+use mathlib.Core.List.{List, [], _∷_, _++_, append-assoc, append-nil}
+use native.Mathlib.Nat.{add-zero, add-assoc}
+use native.Mathlib.Numerals.{add-one}
+use native.Mathlib.Omega.{arith}
+use lib.ListN.{length, take, drop, set, length-append, take-append-drop, length-drop}
+use lib.Seq.{length-take-le, take-at, drop-at, take-take, drop-drop, take-append-le, drop-append-add, set-split, append-snoc}
+use Rattle.laws.specs.Lists.{put}
+
+module _ {ℓ} {A : Type ℓ} where
+  -- an empty text changes nothing
+  pub put-nothing : (buffer : List A) (place : ℕ) → put buffer place [] ≡ buffer
+  put-nothing buffer place = rw (append-nil, add-zero) (take-append-drop place buffer)
+
+  -- a store is a text of one
+  pub put-one : (buffer : List A) (place : ℕ) (a : A) → place < length buffer → set buffer place a ≡ put buffer place (a ∷ [])
+  put-one buffer place a within = set-split buffer place a within ∙ rw (add-one, append-snoc)
+
+  -- a text goes on behind what was put
+  pub put-behind : (buffer xs ys : List A) (place : ℕ) → place + length xs ≤ length buffer → put (put buffer place xs) (place + length xs) ys ≡ put buffer place (xs ++ ys)
+  put-behind buffer xs ys place within =
+      let front = take place buffer ++ xs in
+      let back = drop (place + length xs) buffer in
+      let here : length front ≡ place + length xs =
+      length-append (take place buffer) xs ∙ ap (λ (n : ℕ). n + length xs) (length-take-le place buffer (omega arith)) in
+      let rest : drop (place + length xs + length ys) (front ++ back) ≡ drop (place + length xs + length ys) buffer =
+      ap (λ (n : ℕ). drop (n + length ys) (front ++ back)) (sym here) ∙ drop-append-add front back (length ys) ∙ drop-drop (length ys) (place + length xs) buffer in
+      rw (take-at front back (place + length xs) here, rest, length-append xs ys, ← add-assoc place (length xs) (length ys)) (simp append-assoc)
+
+  -- a text is put in front of what was put
+  pub put-before : (buffer xs ys : List A) (place : ℕ) → place + length xs + length ys ≤ length buffer → put (put buffer (place + length xs) ys) place xs ≡ put buffer place (xs ++ ys)
+  put-before buffer xs ys place within =
+      let front = take (place + length xs) buffer in
+      let back = ys ++ drop (place + length xs + length ys) buffer in
+      let here : length front ≡ place + length xs = length-take-le (place + length xs) buffer (omega arith) in
+      let first : take place (front ++ back) ≡ take place buffer =
+      take-append-le place front back (omega arith) ∙ take-take place (place + length xs) buffer (omega arith) in
+      rw (append-assoc front ys _, first, drop-at front back (place + length xs) here, length-append xs ys, ← add-assoc place (length xs) (length ys)) (simp append-assoc)
+
+  -- a buffer keeps its length
+  pub length-put : (buffer xs : List A) (place : ℕ) → place + length xs ≤ length buffer → length (put buffer place xs) ≡ length buffer
+  length-put buffer xs place within =
+      let before : length (take place buffer) ≡ place = length-take-le place buffer (omega arith) in
+      simp (length-append, length-drop) (omega arith)
+
+  -- a text, one element more, and a text behind it
+  pub put-joined : (buffer xs ys : List A) (place : ℕ) (a : A) → place + length xs + 1 ≤ length buffer → put (set (put buffer place xs) (place + length xs) a) (place + length xs + 1) ys ≡ put buffer place (xs ++ a ∷ ys)
+  put-joined buffer xs ys place a within =
+      let kept : length (put buffer place xs) ≡ length buffer = length-put buffer xs place (omega arith) in
+      let longer : place + length (xs ++ a ∷ []) ≡ place + length xs + 1 = ap (λ (n : ℕ). place + n) (length-append xs (a ∷ [])) ∙ sym (add-assoc place (length xs) 1) in
+      ap (λ (b : List A). put b (place + length xs + 1) ys) (put-one (put buffer place xs) (place + length xs) a (omega arith) ∙ put-behind buffer xs (a ∷ []) place (omega arith))
+      ∙ ap (λ (n : ℕ). put (put buffer place (xs ++ a ∷ [])) n ys) (sym longer)
+      ∙ put-behind buffer (xs ++ a ∷ []) ys place (omega arith)
+      ∙ ap (put buffer place) (append-snoc xs a ys)
