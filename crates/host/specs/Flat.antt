@@ -3,11 +3,19 @@ use Prim.Native.Nat.{ℕ}
 use mathlib.Core.List.{List}
 use lib.ListN.{length, getD, drop}
 use Rattle.refusal.specs.Told.{Told, told}
+use Rattle.capcode.specs.declared.Capcode.{Capcode}
 use Rattle.host.specs.declared.MortisevaneClass.{MortisevaneClass}
 use Rattle.host.specs.declared.MortisevaneWords.{MortisevaneWords}
 use Rattle.host.specs.declared.MortisevaneAddress.{MortisevaneAddress}
+use Rattle.host.specs.declared.MortisevaneCapcode.{MortisevaneCapcode}
+use Rattle.host.specs.declared.MortisevaneAssignment.{MortisevaneAssignment}
+use Rattle.host.specs.declared.MortisevaneLength.{MortisevaneLength}
 use Rattle.host.specs.declared.MortisevaneFrames.{MortisevaneFrames}
 use Rattle.host.specs.declared.MortisevaneWait.{MortisevaneWait}
+
+-- a CAPCODE by its parts
+abbrev pub capcodeOf : ℕ → ℕ → ℕ → ℕ → Capcode
+capcodeOf letter frame collapse address = record { letter = letter; frame = frame; collapse = collapse; address = address }
 
 -- a class
 abbrev pub classFrom : Told → MortisevaneClass
@@ -20,6 +28,27 @@ wordsFrom (told n values) = record { number = n; count = length values; first = 
 -- an address
 abbrev pub addressFrom : Told → MortisevaneAddress
 addressFrom (told n values) = record { number = n; address = getD values 0 0 }
+
+-- a CAPCODE, of which letter, frame, collapse, address, phase and base frame are told
+abbrev pub capcodeFrom : Told → MortisevaneCapcode
+capcodeFrom (told n values) =
+    record {
+      number = n;
+      letter = getD values 0 0;
+      frame = getD values 1 0;
+      collapse = getD values 2 0;
+      phase = getD values 4 0;
+      base = getD values 5 0;
+      address = getD values 3 0;
+    }
+
+-- a phase and a base frame
+abbrev pub assignmentFrom : Told → MortisevaneAssignment
+assignmentFrom (told n values) = record { number = n; phase = getD values 0 0; base = getD values 1 0 }
+
+-- how much was written
+abbrev pub lengthFrom : Told → MortisevaneLength
+lengthFrom (told n values) = record { number = n; length = getD values 0 0 }
 
 -- the frames listened to: their count, and the masks
 abbrev pub framesFrom : Told → MortisevaneFrames

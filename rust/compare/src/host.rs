@@ -41,7 +41,7 @@ pub struct MortisevaneCapcode {
 
 #[repr(C)]
 #[derive(Clone, Copy, Debug, Default, PartialEq, Eq)]
-pub struct MortisevanePlace {
+pub struct MortisevaneAssignment {
     pub number: u32,
     pub phase: u8,
     pub base: u8,
@@ -51,7 +51,7 @@ pub struct MortisevanePlace {
 #[derive(Clone, Copy, Debug, Default, PartialEq, Eq)]
 pub struct MortisevaneLength {
     pub number: u32,
-    pub length: u32,
+    pub length: usize,
 }
 
 #[repr(C)]
@@ -89,12 +89,12 @@ extern "C" {
     fn mortisevane_word_address(word: u32) -> MortisevaneAddress;
     fn mortisevane_pair_address(first: u32, second: u32) -> MortisevaneAddress;
     fn mortisevane_capcode_read(text: *const u8, length: usize) -> MortisevaneCapcode;
-    fn mortisevane_capcode_place(
+    fn mortisevane_capcode_assign(
         letter: u8,
         frame: u8,
         collapse: u8,
         address: u64,
-    ) -> MortisevanePlace;
+    ) -> MortisevaneAssignment;
     fn mortisevane_capcode_print(
         letter: u8,
         frame: u8,
@@ -130,8 +130,8 @@ pub fn capcode_read(text: &[u8]) -> MortisevaneCapcode {
     unsafe { mortisevane_capcode_read(text.as_ptr(), text.len()) }
 }
 
-pub fn capcode_place(letter: u8, frame: u8, collapse: u8, address: u64) -> MortisevanePlace {
-    unsafe { mortisevane_capcode_place(letter, frame, collapse, address) }
+pub fn capcode_assign(letter: u8, frame: u8, collapse: u8, address: u64) -> MortisevaneAssignment {
+    unsafe { mortisevane_capcode_assign(letter, frame, collapse, address) }
 }
 
 pub fn capcode_print(

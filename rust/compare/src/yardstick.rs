@@ -5,8 +5,8 @@ use second::capcode::{self, Capcode};
 use second::frames::{self, Listener};
 
 use crate::host::{
-    MortisevaneAddress, MortisevaneCapcode, MortisevaneClass, MortisevaneFrames, MortisevaneLength,
-    MortisevaneListeners, MortisevanePlace, MortisevaneWait, MortisevaneWords,
+    MortisevaneAddress, MortisevaneAssignment, MortisevaneCapcode, MortisevaneClass,
+    MortisevaneFrames, MortisevaneLength, MortisevaneListeners, MortisevaneWait, MortisevaneWords,
 };
 
 /// An answer of no: its number, and 0 in every other field.
@@ -72,23 +72,20 @@ pub fn capcode_read(text: &[u8]) -> MortisevaneCapcode {
     }
 }
 
-pub fn capcode_place(capcode: &Capcode) -> MortisevanePlace {
+pub fn capcode_assign(capcode: &Capcode) -> MortisevaneAssignment {
     match capcode::place(capcode) {
-        Ok(place) => MortisevanePlace {
+        Ok(place) => MortisevaneAssignment {
             number: 0,
             phase: place.phase.number(),
             base: place.base_frame,
         },
-        Err(refusal) => refused!(MortisevanePlace, refusal),
+        Err(refusal) => refused!(MortisevaneAssignment, refusal),
     }
 }
 
 pub fn capcode_print(capcode: &Capcode, out: &mut [u8]) -> MortisevaneLength {
     match capcode::print(capcode, out) {
-        Ok(length) => MortisevaneLength {
-            number: 0,
-            length: length as u32,
-        },
+        Ok(length) => MortisevaneLength { number: 0, length },
         Err(refusal) => refused!(MortisevaneLength, refusal),
     }
 }

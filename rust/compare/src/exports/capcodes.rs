@@ -49,13 +49,13 @@ pub fn compare_values(seed: u64) -> Result<usize, String> {
         let capcode = seeded_value(&mut random, &near_ends);
         agree(
             || format!("place of {capcode:?}"),
-            host::capcode_place(
+            host::capcode_assign(
                 capcode.letter,
                 capcode.frame,
                 capcode.collapse,
                 capcode.address,
             ),
-            yardstick::capcode_place(&capcode),
+            yardstick::capcode_assign(&capcode),
         )?;
         for lent in 0..=LONGEST_LENT {
             compare_printing(&capcode, lent)?;
