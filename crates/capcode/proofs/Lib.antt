@@ -4,3 +4,6 @@ pub mod Sound
 pub mod Course
 pub mod Writes
 pub mod Prints
+pub mod Parts
+pub mod Spoken
+pub mod Heard

@@ -101,6 +101,13 @@ address-upto : (n number : ℕ) → Digits addressGoesOn n number → n ≤ 10
 address-upto zero number e = omega arith
 address-upto (suc n) number e = address-by (suc n) number (one-of _ _ _ _ (e .0))
 
+-- an address of digits that go on is below ten digits' end
+pub address-below : (address width : ℕ) → Digits addressGoesOn width address → address < 10 ^ 10
+address-below address width goes-on =
+    let below : address < 10 ^ width = digits-below addressGoesOn width address goes-on in
+    let most : 10 ^ width ≤ 10 ^ 10 = pow-le-pow-right (omega arith) (address-upto width address goes-on) in
+    omega arith
+
 -- what holds of every reading under way
 pub record Sound (s : Reading) : Type 0 where
   pub head : Digits headGoesOn (s .before) (s .number)
@@ -115,10 +122,12 @@ sound-blank = record { head = refl; letter = inl refl; address = refl }
 pub sound-bounded : (s : Reading) → Sound s → Bounded s
 sound-bounded s sound =
     let head = head-upto (s .before) (s .number) (sound .head) in
-    let few : s .after ≤ 10 = address-upto (s .after) (s .address) (sound .address) in
-    let below : s .address < 10 ^ (s .after) = digits-below addressGoesOn (s .after) (s .address) (sound .address) in
-    let most : 10 ^ (s .after) ≤ 10 ^ 10 = pow-le-pow-right (omega arith) few in
-    record { before = head .0; number = head .1; after = few; address = omega arith }
+    record {
+      before = head .0;
+      number = head .1;
+      after = address-upto (s .after) (s .address) (sound .address);
+      address = address-below (s .address) (s .after) (sound .address);
+    }
 
 -- a reading that went on passed its test
 pub went-on : (test : Bool) (u t : Reading) → goOn test u ≡ Step.On t → (test ≡ true) × (u ≡ t)
