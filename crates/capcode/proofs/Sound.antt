@@ -10,9 +10,9 @@ use native.Mathlib.Omega.{arith}
 use borrow.Author.Tests.{leb-true, eqb-true, eqb-false}
 use Rattle.capcode.specs.declared.Reading.{Reading}
 use Rattle.capcode.specs.declared.Step.{Step}
-use Rattle.capcode.specs.Reads.{isDigit, headGoesOn, letterGoesOn, addressGoesOn, Bounded, goOn, withHead, withLetter, withAddress, stepOf, blank}
+use Rattle.capcode.specs.Reads.{headGoesOn, letterGoesOn, addressGoesOn, Bounded, stepOf, blank}
 use Rattle.capcode.proofs.Judging.{first-of, second-of}
-use Rattle.capcode.proofs.Steps.{step-head, step-letter, step-address, step-stop, digit-from, digit-to}
+use Rattle.capcode.proofs.Steps.{Stepped, by-head, by-letter, by-address, stepped, digit-small}
 
 -- a number of so many digits of which a test held at each digit
 abbrev pub Digits : (ℕ → ℕ → Bool) → ℕ → ℕ → Type 0
@@ -129,26 +129,17 @@ sound-bounded s sound =
       address = address-below (s .address) (s .after) (sound .address);
     }
 
--- a reading that went on passed its test
-pub went-on : (test : Bool) (u t : Reading) → goOn test u ≡ Step.On t → (test ≡ true) × (u ≡ t)
-went-on true u t e = (refl, cc)
-went-on false u t e = absurd (let no : _≡_ {A = ℕ} 0 1 = cc in omega arith)
-
 -- it holds after one byte more, whatever the byte is
-sound-by : (s t : Reading) (byte : ℕ) (digit none : Bool) → isDigit byte ≡ digit → eqb (s .letter) 0 ≡ none → Sound s → stepOf s byte ≡ Step.On t → Sound t
-sound-by s t byte true true digit none sound e =
-    let small : byte - 48 ≤ 9 = omega (arith, digit-from byte digit, digit-to byte digit) in
-    let went = went-on _ (withHead s (byte - 48)) t (step-head s byte digit (eqb-true _ _ none) ∙ e) in
-    subst (λ (u : Reading). Sound u) (went .1) (record { head = digits-more headGoesOn (s .before) (s .number) _ small (went .0) (sound .head); letter = inl refl; address = refl })
-sound-by s t byte true false digit none sound e =
-    let small : byte - 48 ≤ 9 = omega (arith, digit-from byte digit, digit-to byte digit) in
-    let went = went-on _ (withAddress s (byte - 48)) t (step-address s byte digit (eqb-false _ _ none) ∙ e) in
-    subst (λ (u : Reading). Sound u) (went .1) (record { head = sound .head; letter = sound .letter; address = digits-more addressGoesOn (s .after) (s .address) _ small (went .0) (sound .address) })
-sound-by s t byte false true digit none sound e =
-    let went = went-on _ (withLetter s byte) t (step-letter s byte digit (eqb-true _ _ none) ∙ e) in
-    subst (λ (u : Reading). Sound u) (went .1) (record { head = sound .head; letter = inr (went .0); address = refl })
-sound-by s t byte false false digit none sound e = absurd (let no : _≡_ {A = ℕ} 0 1 = cc (step-stop s byte digit (eqb-false _ _ none) ∙ e) in omega arith)
+sound-by : (s t : Reading) (byte : ℕ) → Sound s → Stepped s byte t → Sound t
+sound-by s t byte sound (by-head digit none goes-on same) =
+    subst (λ (u : Reading). Sound u) same
+    (record { head = digits-more headGoesOn (s .before) (s .number) _ (digit-small byte digit) goes-on (sound .head); letter = inl refl; address = refl })
+sound-by s t byte sound (by-letter none goes-on same) =
+    subst (λ (u : Reading). Sound u) same (record { head = sound .head; letter = inr goes-on; address = refl })
+sound-by s t byte sound (by-address digit some goes-on same) =
+    subst (λ (u : Reading). Sound u) same
+    (record { head = sound .head; letter = sound .letter; address = digits-more addressGoesOn (s .after) (s .address) _ (digit-small byte digit) goes-on (sound .address) })
 
 -- it holds after each byte with which the reading goes on
 pub sound-step : (s t : Reading) (byte : ℕ) → Sound s → stepOf s byte ≡ Step.On t → Sound t
-sound-step s t byte = sound-by s t byte _ _ refl refl
+sound-step s t byte sound e = sound-by s t byte sound (stepped s t byte e)
