@@ -99,9 +99,9 @@ said s sound whole =
     (rw (head .written, width-of (s .address) (s .after) end, some), record { letter = head .letter; fields = head .fields; address = address-below (s .address) (s .after) (sound .address) })
 
 -- a text in the form is the text of what it says, which is sayable
-pub heard-text : (text : List ℕ) (c : Capcode) → formOf text ≡ Form.Says c → (textOf c ≡ text) × Sayable c
+pub printed-of-read : (text : List ℕ) (c : Capcode) → formOf text ≡ Form.Says c → (textOf c ≡ text) × Sayable c
 unfolding formOf digits
-heard-text text c e =
+printed-of-read text c e =
     let end = ending (follow (going 0 blank) text) c e in
     let taken = heard text 0 (end .place) blank (end .reading) sound-blank (end .here) in
     let says = said (end .reading) (taken .0) (end .whole) in

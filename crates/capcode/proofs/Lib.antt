@@ -7,3 +7,5 @@ pub mod Prints
 pub mod Parts
 pub mod Spoken
 pub mod Heard
+pub mod Laws
+pub mod Examples

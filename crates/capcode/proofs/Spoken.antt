@@ -33,8 +33,8 @@ digit-byte digit small = rw (le-leb 48 (48 + digit) (omega arith), le-leb (48 + 
 
 -- digits that go on are taken one by one; `at` is where the reading stands after so many of a number
 module _ (goesOn : ℕ → ℕ → Bool) (at : ℕ → ℕ → Reading)
-  (steps : (n number digit : ℕ) → digit ≤ 9 → goesOn (suc n) (number * 10 + digit) ≡ true → stepOf (at n number) (48 + digit) ≡ Step.On (at (suc n) (number * 10 + digit)))
-  (place : ℕ) where
+    (steps : (n number digit : ℕ) → digit ≤ 9 → goesOn (suc n) (number * 10 + digit) ≡ true → stepOf (at n number) (48 + digit) ≡ Step.On (at (suc n) (number * 10 + digit)))
+    (place : ℕ) where
   pub taken : (n number : ℕ) → Digits goesOn n number → follow (going place (at 0 0)) (digits n number) ≡ going (place + n) (at n number)
   unfolding digits follow
   taken zero number e = rw (e, add-zero)
@@ -92,7 +92,7 @@ module _ (c : Capcode) (width number : ℕ) (head : Head c width number) (end : 
       let there = withLetter (headAt width number) (c .letter) in
       let rest = digits (widthOf (c .address)) (c .address) in
       let first : follow (going 0 blank) (headOf c) ≡ going (0 + width) (headAt width number) =
-          ap (follow (going 0 blank)) (head .written) ∙ taken headGoesOn headAt head-steps 0 width number (head .goes-on) in
+      ap (follow (going 0 blank)) (head .written) ∙ taken headGoesOn headAt head-steps 0 width number (head .goes-on) in
       follow-append (going 0 blank) (headOf c) (c .letter ∷ rest)
       ∙ ap (λ (x : Course). follow x (c .letter ∷ rest)) first
       ∙ ap (λ (x : Step). follow (onward (0 + width) x) rest) (letter-step width number (c .letter) (head .letter))
@@ -104,5 +104,5 @@ module _ (c : Capcode) (width number : ℕ) (head : Head c width number) (end : 
   spoken = ap endOf course ∙ rw (ne-eqb (c .letter) 0 some, end .whole, head .frame, head .collapse)
 
 -- a text of a sayable CAPCODE says it
-pub sayable-spoken : (c : Capcode) → Sayable c → formOf (textOf c) ≡ Form.Says c
-sayable-spoken c sayable = spoken c _ _ (head-of c sayable) (ended (c .address) (sayable .address))
+pub read-of-printed : (c : Capcode) → Sayable c → formOf (textOf c) ≡ Form.Says c
+read-of-printed c sayable = spoken c _ _ (head-of c sayable) (ended (c .address) (sayable .address))
