@@ -1,7 +1,7 @@
 -- Worked examples: 01's marked cases 6 and 7, its examples of the listing and of the form, and some besides.
+use Prim.Native.Nat.{ℕ}
 use mathlib.Core.Path.{_≡_, refl}
 use mathlib.Core.List.{List, [], _∷_, map}
-use Prim.Native.Nat.{ℕ}
 use Rattle.refusal.specs.declared.Refusal.the-variants.{Text, «Type», Range, Offset}
 use Rattle.refusal.specs.Told.{Told, refused, given}
 use Rattle.address.specs.Ranges.{rows, classIn, classOf}

@@ -3,15 +3,13 @@ use Prim.Native.Nat.{ℕ, _^_, _≤_, _<_}
 use mathlib.Core.Bool.{Bool, true, false, _&&_}
 use mathlib.Core.Path.{_≡_, refl, sym, ap, _∙_}
 use mathlib.Core.List.{List, [], _∷_}
+use native.Mathlib.Omega.{arith}
 use lib.Dec.{leb}
 use lib.ListN.{getD}
-use native.Mathlib.Omega.{arith}
 use borrow.Author.Tests.{leb-true, not-false}
-use Rattle.laws.specs.Choice.{pick}
-use Rattle.refusal.specs.Told.{Told, refused, given}
+use Rattle.refusal.specs.Told.{Told, given}
 use Rattle.refusal.proofs.Laws.{toldValues, given-not-refused, refused-tells}
 use Rattle.address.specs.declared.Row.{Row}
-use Rattle.address.specs.declared.Classed.{Classed}
 use Rattle.address.specs.Ranges.{rows, holds, classIn, classOf, found, accepted}
 use Rattle.capcode.specs.declared.Capcode.{Capcode}
 use Rattle.capcode.specs.declared.AssignAnswer.{AssignAnswer}

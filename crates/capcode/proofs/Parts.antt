@@ -1,18 +1,17 @@
 -- The two numbers of a text, before and after the letter: those of a sayable CAPCODE go on at each digit, and those that go on are of a sayable one.
 use Prim.Native.Nat.{ℕ, zero, suc, _+_, _*_, _/_, _%_, _^_, _≤_, _<_}
-use mathlib.Core.Bool.{Bool, true, false, not, _&&_, _||_, and-false}
+use mathlib.Core.Bool.{Bool, true, false, _&&_, _||_, and-false}
 use mathlib.Core.Path.{_≡_, refl, sym, ap, _∙_}
 use mathlib.Core.Logic.{_⊎_, inl, inr}
-use mathlib.Core.List.{List, [], _∷_, _++_}
-use lib.Dec.{leb, eqb}
 use native.Mathlib.Nat.{pow-suc}
 use native.Mathlib.Omega.{arith}
+use lib.Dec.{leb, eqb}
 use borrow.Author.Tests.{leb-true, leb-false, eqb-true, eqb-false, le-leb, lt-leb, eq-eqb, ne-eqb}
 use Rattle.laws.specs.Choice.{pick}
 use Rattle.capcode.specs.declared.Capcode.{Capcode}
 use Rattle.capcode.specs.Assigned.{standard, framed, fieldsFit}
 use Rattle.capcode.specs.Text.{digits, lastOfSeven, widthOf, headOf, headWidth, Sayable}
-use Rattle.capcode.specs.Reads.{isDigit, headGoesOn, letterGoesOn, addressGoesOn}
+use Rattle.capcode.specs.Reads.{headGoesOn, letterGoesOn, addressGoesOn}
 use Rattle.capcode.proofs.Judging.{first-of, second-of, other-of}
 use Rattle.capcode.proofs.Sound.{Digits, either-of, one-digit, head-frame}
 use Rattle.capcode.proofs.Writes.{head-digits}

@@ -1,21 +1,18 @@
 -- The text of a sayable CAPCODE is read as that CAPCODE.
-use Prim.Native.Nat.{ℕ, zero, suc, _+_, _-_, _*_, _/_, _%_, _≤_, _<_}
-use mathlib.Core.Bool.{Bool, true, false, not, _&&_, _||_}
+use Prim.Native.Nat.{ℕ, zero, suc, _+_, _-_, _*_, _/_, _%_, _≤_}
+use mathlib.Core.Bool.{Bool, true, false}
 use mathlib.Core.Path.{_≡_, refl, sym, ap, _∙_}
 use mathlib.Core.List.{List, [], _∷_, _++_}
-use lib.Dec.{leb, eqb}
 use native.Mathlib.Nat.{add-zero, add-suc}
 use native.Mathlib.Numerals.{add-one}
 use native.Mathlib.Omega.{arith}
 use borrow.Author.Tests.{leb-true, le-leb, lt-leb, ne-eqb}
-use Rattle.laws.specs.Choice.{pick}
 use Rattle.capcode.specs.declared.Capcode.{Capcode}
 use Rattle.capcode.specs.declared.Reading.{Reading}
 use Rattle.capcode.specs.declared.Step.{Step}
 use Rattle.capcode.specs.declared.Form.{Form}
-use Rattle.capcode.specs.Assigned.{standard, framed}
-use Rattle.capcode.specs.Text.{digits, widthOf, headOf, headWidth, textOf, Sayable}
-use Rattle.capcode.specs.Reads.{isDigit, headGoesOn, letterGoesOn, addressGoesOn, withLetter, withHead, withAddress, stepOf, Course, going, takes, onward, follow, blank, isWhole, saidBy, endOf, formOf}
+use Rattle.capcode.specs.Text.{digits, widthOf, headOf, textOf, Sayable}
+use Rattle.capcode.specs.Reads.{isDigit, headGoesOn, letterGoesOn, addressGoesOn, withLetter, stepOf, Course, going, takes, onward, follow, blank, endOf, formOf}
 use Rattle.capcode.proofs.Judging.{first-of}
 use Rattle.capcode.proofs.Steps.{step-head, step-letter, step-address}
 use Rattle.capcode.proofs.Sound.{Digits}
