@@ -1,12 +1,12 @@
 -- The course of a reading over a text: one turn, and its ends.
 use Prim.Native.Nat.{ℕ, suc, _≤_, _<_}
-use mathlib.Core.Path.{_≡_, refl, ap, _∙_}
+use mathlib.Core.Path.{_≡_, refl, _∙_}
 use mathlib.Core.List.{List, [], _∷_}
 use lib.ListN.{length, getD, drop, drop-of-length-le}
 use lib.Seq.{drop-cons}
 use Rattle.capcode.specs.declared.Reading.{Reading}
 use Rattle.capcode.specs.declared.Step.{Step}
-use Rattle.capcode.specs.Reads.{stepOf, Course, going, stopped, onward, follow}
+use Rattle.capcode.specs.Reads.{stepOf, going, stopped, onward, follow}
 
 -- a course that has stopped stays
 pub follow-stopped : (place : ℕ) (text : List ℕ) → follow (stopped place) text ≡ stopped place

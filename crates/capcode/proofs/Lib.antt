@@ -4,3 +4,8 @@ pub mod Sound
 pub mod Course
 pub mod Writes
 pub mod Prints
+pub mod Parts
+pub mod Spoken
+pub mod Heard
+pub mod Laws
+pub mod Examples

@@ -1,19 +1,18 @@
 -- What is answered when a CAPCODE is printed, and what the buffer holds then.
 use Prim.Native.Nat.{ℕ, _+_, _≤_, _<_}
-use mathlib.Core.Path.{_≡_, refl, sym, ap, _∙_}
+use mathlib.Core.Path.{_≡_}
 use mathlib.Core.List.{List, [], _∷_}
-use lib.Dec.{eqb, ltb}
-use lib.ListN.{length}
 use native.Mathlib.Omega.{arith}
+use lib.ListN.{length}
 use borrow.Author.Tests.{lt-ltb, le-ltb, ne-eqb}
 use Rattle.laws.specs.Lists.{put}
 use Rattle.refusal.specs.declared.Refusal.{Refusal}
 use Rattle.refusal.specs.declared.Refusal.the-variants.{Room}
-use Rattle.refusal.specs.Told.{Told, numberOf, refused, given}
+use Rattle.refusal.specs.Told.{numberOf, refused, given}
 use Rattle.refusal.proofs.Laws.{number-positive}
 use Rattle.capcode.specs.declared.Capcode.{Capcode}
 use Rattle.capcode.specs.Assigned.{Fine}
-use Rattle.capcode.specs.Text.{widthOf, headWidth, textOf, printOf, writtenBy, bufferAfter}
+use Rattle.capcode.specs.Text.{widthOf, headWidth, textOf, printOf, bufferAfter}
 use Rattle.capcode.proofs.Judging.{fine-asked, fine-collapse}
 use Rattle.capcode.proofs.Writes.{length-text}
 

@@ -1,18 +1,18 @@
 -- What holds of every reading under way: each byte so far was one with which some correct text goes on. The bounds follow.
-use Prim.Native.Nat.{ℕ, zero, suc, _+_, _-_, _*_, _/_, _%_, _^_, _≤_, _<_}
+use Prim.Native.Nat.{ℕ, zero, suc, _+_, _*_, _/_, _%_, _^_, _≤_, _<_}
 use mathlib.Core.Bool.{Bool, true, false, _&&_, _||_}
-use mathlib.Core.Path.{_≡_, refl, sym, ap, _∙_, subst}
+use mathlib.Core.Path.{_≡_, refl, subst}
 use mathlib.Core.Logic.{_⊎_, inl, inr, ⊎-elim}
-use lib.Dec.{leb, eqb}
 use native.Mathlib.Nat.{pow-suc, pow-le-pow-right}
 use native.Mathlib.Numerals.{add-one}
 use native.Mathlib.Omega.{arith}
-use borrow.Author.Tests.{leb-true, eqb-true, eqb-false}
+use lib.Dec.{leb, eqb}
+use borrow.Author.Tests.{leb-true, eqb-true}
 use Rattle.capcode.specs.declared.Reading.{Reading}
 use Rattle.capcode.specs.declared.Step.{Step}
-use Rattle.capcode.specs.Reads.{isDigit, headGoesOn, letterGoesOn, addressGoesOn, Bounded, goOn, withHead, withLetter, withAddress, stepOf, blank}
+use Rattle.capcode.specs.Reads.{headGoesOn, letterGoesOn, addressGoesOn, Bounded, stepOf, blank}
 use Rattle.capcode.proofs.Judging.{first-of, second-of}
-use Rattle.capcode.proofs.Steps.{step-head, step-letter, step-address, step-stop, digit-from, digit-to}
+use Rattle.capcode.proofs.Steps.{Stepped, by-head, by-letter, by-address, stepped, digit-small}
 
 -- a number of so many digits of which a test held at each digit
 abbrev pub Digits : (ℕ → ℕ → Bool) → ℕ → ℕ → Type 0
@@ -101,6 +101,13 @@ address-upto : (n number : ℕ) → Digits addressGoesOn n number → n ≤ 10
 address-upto zero number e = omega arith
 address-upto (suc n) number e = address-by (suc n) number (one-of _ _ _ _ (e .0))
 
+-- an address of digits that go on is below ten digits' end
+pub address-below : (address width : ℕ) → Digits addressGoesOn width address → address < 10 ^ 10
+address-below address width goes-on =
+    let below : address < 10 ^ width = digits-below addressGoesOn width address goes-on in
+    let most : 10 ^ width ≤ 10 ^ 10 = pow-le-pow-right (omega arith) (address-upto width address goes-on) in
+    omega arith
+
 -- what holds of every reading under way
 pub record Sound (s : Reading) : Type 0 where
   pub head : Digits headGoesOn (s .before) (s .number)
@@ -115,31 +122,24 @@ sound-blank = record { head = refl; letter = inl refl; address = refl }
 pub sound-bounded : (s : Reading) → Sound s → Bounded s
 sound-bounded s sound =
     let head = head-upto (s .before) (s .number) (sound .head) in
-    let few : s .after ≤ 10 = address-upto (s .after) (s .address) (sound .address) in
-    let below : s .address < 10 ^ (s .after) = digits-below addressGoesOn (s .after) (s .address) (sound .address) in
-    let most : 10 ^ (s .after) ≤ 10 ^ 10 = pow-le-pow-right (omega arith) few in
-    record { before = head .0; number = head .1; after = few; address = omega arith }
-
--- a reading that went on passed its test
-pub went-on : (test : Bool) (u t : Reading) → goOn test u ≡ Step.On t → (test ≡ true) × (u ≡ t)
-went-on true u t e = (refl, cc)
-went-on false u t e = absurd (let no : _≡_ {A = ℕ} 0 1 = cc in omega arith)
+    record {
+      before = head .0;
+      number = head .1;
+      after = address-upto (s .after) (s .address) (sound .address);
+      address = address-below (s .address) (s .after) (sound .address);
+    }
 
 -- it holds after one byte more, whatever the byte is
-sound-by : (s t : Reading) (byte : ℕ) (digit none : Bool) → isDigit byte ≡ digit → eqb (s .letter) 0 ≡ none → Sound s → stepOf s byte ≡ Step.On t → Sound t
-sound-by s t byte true true digit none sound e =
-    let small : byte - 48 ≤ 9 = omega (arith, digit-from byte digit, digit-to byte digit) in
-    let went = went-on _ (withHead s (byte - 48)) t (step-head s byte digit (eqb-true _ _ none) ∙ e) in
-    subst (λ (u : Reading). Sound u) (went .1) (record { head = digits-more headGoesOn (s .before) (s .number) _ small (went .0) (sound .head); letter = inl refl; address = refl })
-sound-by s t byte true false digit none sound e =
-    let small : byte - 48 ≤ 9 = omega (arith, digit-from byte digit, digit-to byte digit) in
-    let went = went-on _ (withAddress s (byte - 48)) t (step-address s byte digit (eqb-false _ _ none) ∙ e) in
-    subst (λ (u : Reading). Sound u) (went .1) (record { head = sound .head; letter = sound .letter; address = digits-more addressGoesOn (s .after) (s .address) _ small (went .0) (sound .address) })
-sound-by s t byte false true digit none sound e =
-    let went = went-on _ (withLetter s byte) t (step-letter s byte digit (eqb-true _ _ none) ∙ e) in
-    subst (λ (u : Reading). Sound u) (went .1) (record { head = sound .head; letter = inr (went .0); address = refl })
-sound-by s t byte false false digit none sound e = absurd (let no : _≡_ {A = ℕ} 0 1 = cc (step-stop s byte digit (eqb-false _ _ none) ∙ e) in omega arith)
+sound-by : (s t : Reading) (byte : ℕ) → Sound s → Stepped s byte t → Sound t
+sound-by s t byte sound (by-head digit none goes-on same) =
+    subst (λ (u : Reading). Sound u) same
+    (record { head = digits-more headGoesOn (s .before) (s .number) _ (digit-small byte digit) goes-on (sound .head); letter = inl refl; address = refl })
+sound-by s t byte sound (by-letter none goes-on same) =
+    subst (λ (u : Reading). Sound u) same (record { head = sound .head; letter = inr goes-on; address = refl })
+sound-by s t byte sound (by-address digit some goes-on same) =
+    subst (λ (u : Reading). Sound u) same
+    (record { head = sound .head; letter = sound .letter; address = digits-more addressGoesOn (s .after) (s .address) _ (digit-small byte digit) goes-on (sound .address) })
 
 -- it holds after each byte with which the reading goes on
 pub sound-step : (s t : Reading) (byte : ℕ) → Sound s → stepOf s byte ≡ Step.On t → Sound t
-sound-step s t byte = sound-by s t byte _ _ refl refl
+sound-step s t byte sound e = sound-by s t byte sound (stepped s t byte e)

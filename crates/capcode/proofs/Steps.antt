@@ -1,12 +1,13 @@
 -- One byte of a reading, by what the byte is and whether the letter has come.
-use Prim.Native.Nat.{ℕ, _-_, _≤_}
+use Prim.Native.Nat.{ℕ, _+_, _-_, _*_, _≤_}
 use mathlib.Core.Bool.{Bool, true, false}
-use mathlib.Core.Path.{_≡_, refl}
+use mathlib.Core.Path.{_≡_, refl, _∙_}
+use native.Mathlib.Omega.{arith}
 use lib.Dec.{leb, eqb}
-use borrow.Author.Tests.{eq-eqb, ne-eqb, leb-true}
+use borrow.Author.Tests.{eq-eqb, ne-eqb, eqb-true, eqb-false, leb-true}
 use Rattle.capcode.specs.declared.Reading.{Reading}
 use Rattle.capcode.specs.declared.Step.{Step}
-use Rattle.capcode.specs.Reads.{isDigit, headDigit, theLetter, addressDigit, stepOf}
+use Rattle.capcode.specs.Reads.{isDigit, headGoesOn, letterGoesOn, addressGoesOn, goOn, withHead, withLetter, withAddress, headDigit, theLetter, addressDigit, stepOf}
 use Rattle.capcode.proofs.Judging.{first-of, second-of}
 
 module _ (s : Reading) (byte : ℕ) where
@@ -37,3 +38,37 @@ digit-from byte e = leb-true 48 byte (first-of _ _ e)
 -- and at most 57
 pub digit-to : (byte : ℕ) → isDigit byte ≡ true → byte ≤ 57
 digit-to byte e = leb-true byte 57 (second-of (leb 48 byte) _ e)
+
+-- a reading that went on passed its test
+went-on : (test : Bool) (u t : Reading) → goOn test u ≡ Step.On t → (test ≡ true) × (u ≡ t)
+went-on true u t e = (refl, cc)
+went-on false u t e = absurd (let no : _≡_ {A = ℕ} 0 1 = cc in omega arith)
+
+-- how a reading goes on with a byte: a digit before the letter, the letter, or a digit after it
+pub data Stepped (s : Reading) (byte : ℕ) (t : Reading) : Type 0 where
+  by-head : isDigit byte ≡ true → s .letter ≡ 0 → headGoesOn (s .before + 1) (s .number * 10 + (byte - 48)) ≡ true → withHead s (byte - 48) ≡ t → Stepped s byte t
+  by-letter : s .letter ≡ 0 → letterGoesOn (s .before) byte ≡ true → withLetter s byte ≡ t → Stepped s byte t
+  by-address : isDigit byte ≡ true → (s .letter ≡ 0 → ⊥) → addressGoesOn (s .after + 1) (s .address * 10 + (byte - 48)) ≡ true → withAddress s (byte - 48) ≡ t → Stepped s byte t
+
+stepped-by : (s t : Reading) (byte : ℕ) (digit none : Bool) → isDigit byte ≡ digit → eqb (s .letter) 0 ≡ none → stepOf s byte ≡ Step.On t → Stepped s byte t
+stepped-by s t byte true true digit none e =
+    let before = eqb-true (s .letter) 0 none in
+    let went = went-on (headGoesOn (s .before + 1) (s .number * 10 + (byte - 48))) (withHead s (byte - 48)) t (step-head s byte digit before ∙ e) in
+    by-head digit before (went .0) (went .1)
+stepped-by s t byte true false digit none e =
+    let behind = eqb-false (s .letter) 0 none in
+    let went = went-on (addressGoesOn (s .after + 1) (s .address * 10 + (byte - 48))) (withAddress s (byte - 48)) t (step-address s byte digit behind ∙ e) in
+    by-address digit behind (went .0) (went .1)
+stepped-by s t byte false true digit none e =
+    let before = eqb-true (s .letter) 0 none in
+    let went = went-on (letterGoesOn (s .before) byte) (withLetter s byte) t (step-letter s byte digit before ∙ e) in
+    by-letter before (went .0) (went .1)
+stepped-by s t byte false false digit none e = absurd (let no : _≡_ {A = ℕ} 0 1 = cc (step-stop s byte digit (eqb-false (s .letter) 0 none) ∙ e) in omega arith)
+
+-- a reading goes on in one of these ways
+pub stepped : (s t : Reading) (byte : ℕ) → stepOf s byte ≡ Step.On t → Stepped s byte t
+stepped s t byte = stepped-by s t byte _ _ refl refl
+
+-- the number of a digit's byte
+pub digit-small : (byte : ℕ) → isDigit byte ≡ true → byte - 48 ≤ 9
+digit-small byte digit = omega (arith, digit-from byte digit, digit-to byte digit)

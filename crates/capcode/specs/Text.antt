@@ -1,6 +1,7 @@
 -- A CAPCODE as text (document 01, "CAPCODE text"; the house form of S8.6.2).
-use Prim.Native.Nat.{ℕ, zero, suc, _+_, _/_, _%_}
-use mathlib.Core.Bool.{Bool, true, false}
+use Prim.Native.Nat.{ℕ, zero, suc, _+_, _/_, _%_, _^_, _<_}
+use mathlib.Core.Bool.{true, _||_}
+use mathlib.Core.Path.{_≡_}
 use mathlib.Core.List.{List, [], _∷_, _++_}
 use lib.Dec.{leb, ltb, eqb}
 use lib.ListN.{length}
@@ -10,7 +11,7 @@ use Rattle.refusal.specs.declared.Refusal.the-variants.{Room}
 use Rattle.refusal.specs.Told.{Told, told, refused, given, ask}
 use Rattle.capcode.specs.declared.Capcode.{Capcode}
 use Rattle.capcode.specs.declared.PrintAnswer.{PrintAnswer}
-use Rattle.capcode.specs.Assigned.{standard, asked}
+use Rattle.capcode.specs.Assigned.{standard, framed, fieldsFit, asked}
 
 -- the last n decimal digits of a number as bytes, highest first; zeros are written
 unfoldable pub digits : ℕ → ℕ → List ℕ
@@ -39,6 +40,12 @@ headWidth c = pick (standard (c .letter)) (pick (eqb (c .collapse) 4) 0 1) 4
 -- 01: .. "the letter, the address"
 unfoldable pub textOf : Capcode → List ℕ
 textOf c = headOf c ++ c .letter ∷ digits (widthOf (c .address)) (c .address)
+
+-- a CAPCODE that a text could have: a letter A to L or U to Z, a frame and a collapse that fit it, an address of ten digits at most
+pub record Sayable (c : Capcode) : Type 0 where
+  pub letter : (standard (c .letter) || framed (c .letter)) ≡ true
+  pub fields : fieldsFit c ≡ true
+  pub address : c .address < 10 ^ 10
 
 -- what is answered when a CAPCODE is printed into a buffer of `room` bytes: the text's length, and last of all refusals 1
 abbrev pub printOf : Capcode → ℕ → Told

@@ -1,17 +1,13 @@
-use Rattle.capcode.proofs.Course.{turn-on, turn-stop, turn-end}
-use Rattle.capcode.proofs.Sound.{Sound, sound-blank, sound-bounded, sound-step}
-use Rattle.capcode.specs.Reads.{going, follow, endOf, formOf}
-use lib.ListN.{length, drop}
-use native.Mathlib.Numerals.{add-one}
 use Prim.Native.Nat.{_≤_, _-_}
 use mathlib.Core.Path.{_≡_, refl, sym, ap, _∙_}
+use native.Mathlib.Numerals.{add-one}
+use lib.ListN.{length, drop}
 use borrow.Author.Needs.{needs}
+use Rattle.capcode.specs.Reads.{going, follow, endOf, formOf}
+use Rattle.capcode.proofs.Course.{turn-on, turn-stop, turn-end}
+use Rattle.capcode.proofs.Sound.{Sound, sound-blank, sound-bounded, sound-step}
 use Rattle.capcode.proofs.form_of.Statement.{statement}
 use Rattle.capcode.proofs.form_of.Tie as tie
-use Rattle.capcode.proofs.form_of.Reads as reads
-use Rattle.capcode.proofs.form_of.Lts as lts
-use Rattle.capcode.proofs.form_at_end.Reads as form-at-end-reads
-use Rattle.capcode.proofs.step_of.Reads as step-of-reads
 
 abbrev Inv-loop : tie.InvT-loop
 Inv-loop text s₀ i₀ s i = (i ≤ length text) × Sound s × (formOf text ≡ endOf (follow (going i s) (drop i text)))
@@ -19,28 +15,22 @@ Inv-loop text s₀ i₀ s i = (i ≤ length text) × Sound s × (formOf text ≡
 abbrev μ-loop : tie.MeasureT-loop
 μ-loop text s₀ i₀ s i = length text - i
 
--- src/lib.rt:369:5
 loop-holds : tie.Need-loop-holds Inv-loop μ-loop
 unfolding formOf
 loop-holds c = (search needs, sound-blank, refl)
 
--- src/lib.rt:370:41
 shared-slice-read-step-of : tie.Need-shared-slice-read-step-of Inv-loop μ-loop
 shared-slice-read-step-of c = search needs
 
--- src/lib.rt:370:30
 step-of-requires : tie.Need-step-of-requires Inv-loop μ-loop
 step-of-requires c κs = sound-bounded _ (c .before .before .loop .inv .1)
 
--- src/lib.rt:370:22
 enum-known-next : tie.Need-enum-known-next Inv-loop μ-loop
 enum-known-next c = search needs
 
--- src/lib.rt:371:13
 enum-told : tie.Need-enum-told Inv-loop μ-loop
 enum-told c = search needs
 
--- src/lib.rt:371:13
 returns : tie.Need-returns Inv-loop μ-loop
 unfolding formOf
 returns c =
@@ -48,15 +38,12 @@ returns c =
     let step = sym (c .before .before .step-of .ensures) ∙ c .enum-told .given .1 in
     sym (a .loop .inv .2 ∙ ap endOf (turn-stop _ (a .loop .i) (a .loop .s) (search needs) step))
 
--- src/lib.rt:374:9
 add-i : tie.Need-add-i Inv-loop μ-loop
 add-i c = search needs
 
--- src/lib.rt:369:5
 loop-less : tie.Need-loop-less Inv-loop μ-loop
 loop-less c = search needs
 
--- src/lib.rt:369:5
 loop-again : tie.Need-loop-again Inv-loop μ-loop
 unfolding formOf
 loop-again c =
@@ -65,11 +52,9 @@ loop-again c =
     let next = c .before .next .given .0 .0 in
     (search needs, sound-step (a .loop .s) next _ (a .loop .inv .1) step, a .loop .inv .2 ∙ rw add-one (ap endOf (turn-on _ (a .loop .i) (a .loop .s) next (search needs) step)))
 
--- src/lib.rt:376:5
 form-at-end-requires : tie.Need-form-at-end-requires Inv-loop μ-loop
 form-at-end-requires c κs = sound-bounded _ (c .before .loop .inv .1)
 
--- src/lib.rt:358:1
 returns-2 : tie.Need-returns-2 Inv-loop μ-loop
 unfolding formOf
 returns-2 c =

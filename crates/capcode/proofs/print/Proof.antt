@@ -1,40 +1,28 @@
+use borrow.Author.Needs.{needs}
+use Rattle.capcode.specs.declared.Judged.{Judged}
 use Rattle.capcode.proofs.Prints.{refused-keeps}
 use Rattle.capcode.proofs.Judging.{judged-tells, judged-fine}
-use Rattle.capcode.specs.declared.Judged.{Judged}
-use mathlib.Core.Path.{_≡_, refl, sym, ap, _∙_}
-use borrow.Author.Needs.{needs}
 use Rattle.capcode.proofs.print.Statement.{statement}
 use Rattle.capcode.proofs.print.Tie as tie
-use Rattle.capcode.proofs.print.Reads as reads
-use Rattle.capcode.proofs.print.Lts as lts
-use Rattle.capcode.proofs.judge.Reads as judge-reads
-use Rattle.capcode.proofs.print_fine.Reads as print-fine-reads
 
--- src/lib.rt:481:11
 judge-requires : tie.Need-judge-requires
 judge-requires c κs = search needs
 
--- src/lib.rt:482:39
 enum-told : tie.Need-enum-told
 enum-told c = search needs
 
--- src/lib.rt:482:25
 print-fine-requires : tie.Need-print-fine-requires
 print-fine-requires c κs = judged-fine _ (judged-tells _ _ Judged.Fine (c .before .before .before .judge .ensures) (c .before .enum-told .given .1))
 
--- src/lib.rt:483:25
 enum-known-r : tie.Need-enum-known-r
 enum-known-r c = search needs
 
--- src/lib.rt:477:1
 same-length : tie.Need-same-length
 same-length c = search needs
 
--- src/lib.rt:477:1
 returns : tie.Need-returns
 returns c = search needs
 
--- src/lib.rt:477:1
 returns-2 : tie.Need-returns-2
 returns-2 c =
     let a = c .before .before .before .before .before in

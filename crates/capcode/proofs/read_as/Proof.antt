@@ -1,37 +1,26 @@
+use borrow.Author.Needs.{needs}
 use Rattle.capcode.specs.declared.Judged.{Judged}
 use Rattle.capcode.proofs.Judging.{judged-tells, judged-fine}
-use mathlib.Core.Path.{_≡_, refl, sym, ap, _∙_}
-use borrow.Author.Needs.{needs}
 use Rattle.capcode.proofs.read_as.Statement.{statement}
 use Rattle.capcode.proofs.read_as.Tie as tie
-use Rattle.capcode.proofs.read_as.Reads as reads
-use Rattle.capcode.proofs.read_as.Lts as lts
-use Rattle.capcode.proofs.judge.Reads as judge-reads
-use Rattle.capcode.proofs.placed.Reads as placed-reads
 
--- src/lib.rt:383:11
 judge-requires : tie.Need-judge-requires
 judge-requires c κs = search needs
 
--- src/lib.rt:384:46
 enum-told : tie.Need-enum-told
 enum-told c = search needs
 
--- src/lib.rt:384:46
 placed-requires : tie.Need-placed-requires
 placed-requires c κs = judged-fine _ (judged-tells _ _ Judged.Fine (c .before .before .judge .ensures) (c .enum-told .given .1))
 
--- src/lib.rt:385:25
 enum-known-r : tie.Need-enum-known-r
 enum-known-r c = search needs
 
--- src/lib.rt:380:1
 returns : tie.Need-returns
 returns c =
     let fine = judged-tells _ _ Judged.Fine (c .before .before .before .judge .ensures) (c .before .enum-told .given .1) in
     rw (c .placed .ensures .0, c .placed .ensures .1) (fine _)
 
--- src/lib.rt:380:1
 returns-2 : tie.Need-returns-2
 returns-2 c = judged-tells _ _ (Judged.Refused (c .before .r .given .0 .0)) (c .before .before .before .judge .ensures) (c .before .r .given .1) _
 

@@ -1,20 +1,14 @@
 use borrow.Author.Tests.{eq-eqb, ne-eqb}
-use mathlib.Core.Path.{_≡_, refl, sym, ap, _∙_}
 use borrow.Author.Needs.{needs}
 use Rattle.capcode.proofs.said_frame.Statement.{statement}
 use Rattle.capcode.proofs.said_frame.Tie as tie
-use Rattle.capcode.proofs.said_frame.Reads as reads
-use Rattle.capcode.proofs.said_frame.Lts as lts
 
--- src/lib.rt:325:9
 cast-result : tie.Need-cast-result
 cast-result c = search needs
 
--- src/lib.rt:320:1
 returns : tie.Need-returns
 returns c = rw (eq-eqb _ _ (c .before .if1 .taken))
 
--- src/lib.rt:320:1
 returns-2 : tie.Need-returns-2
 returns-2 c = rw (ne-eqb _ _ (c .if1 .left))
 

@@ -1,52 +1,36 @@
-use Rattle.capcode.proofs.Steps.{step-head, step-letter, step-address, step-stop, digit-from}
-use mathlib.Core.Path.{_≡_, refl, sym, ap, _∙_}
+use mathlib.Core.Path.{sym, _∙_}
 use borrow.Author.Needs.{needs}
+use Rattle.capcode.proofs.Steps.{step-head, step-letter, step-address, step-stop, digit-from}
 use Rattle.capcode.proofs.step_of.Statement.{statement}
 use Rattle.capcode.proofs.step_of.Tie as tie
-use Rattle.capcode.proofs.step_of.Reads as reads
-use Rattle.capcode.proofs.step_of.Lts as lts
-use Rattle.capcode.proofs.address_digit.Reads as address-digit-reads
-use Rattle.capcode.proofs.head_digit.Reads as head-digit-reads
-use Rattle.capcode.proofs.is_digit.Reads as is-digit-reads
-use Rattle.capcode.proofs.the_letter.Reads as the-letter-reads
 
--- src/lib.rt:301:8
 is-digit-requires : tie.Need-is-digit-requires
 is-digit-requires c κs = search needs
 
--- src/lib.rt:303:34
 sub-head-digit : tie.Need-sub-head-digit
 sub-head-digit c = digit-from _ (sym (c .before .before .before .is-digit .ensures) ∙ c .before .before .if1 .taken)
 
--- src/lib.rt:303:13
 head-digit-requires : tie.Need-head-digit-requires
 head-digit-requires c κs = search needs
 
--- src/lib.rt:303:13
 returns : tie.Need-returns
 returns c = c .head-digit .ensures ∙ step-head _ _ (sym (c .before .before .before .before .is-digit .ensures) ∙ c .before .before .before .if1 .taken) (c .before .if2 .taken)
 
--- src/lib.rt:305:33
 sub-address-digit : tie.Need-sub-address-digit
 sub-address-digit c = digit-from _ (sym (c .before .before .before .is-digit .ensures) ∙ c .before .before .if1 .taken)
 
--- src/lib.rt:305:9
 address-digit-requires : tie.Need-address-digit-requires
 address-digit-requires c κs = search needs
 
--- src/lib.rt:305:9
 returns-2 : tie.Need-returns-2
 returns-2 c = c .address-digit .ensures ∙ step-address _ _ (sym (c .before .before .before .before .is-digit .ensures) ∙ c .before .before .before .if1 .taken) (c .before .if2 .left)
 
--- src/lib.rt:308:9
 the-letter-requires : tie.Need-the-letter-requires
 the-letter-requires c κs = search needs
 
--- src/lib.rt:308:9
 returns-3 : tie.Need-returns-3
 returns-3 c = c .the-letter .ensures ∙ step-letter _ _ (sym (c .before .before .before .before .is-digit .ensures) ∙ c .before .before .before .if1 .left) (c .before .if3 .taken)
 
--- src/lib.rt:297:1
 returns-4 : tie.Need-returns-4
 returns-4 c = step-stop _ _ (sym (c .before .before .before .is-digit .ensures) ∙ c .before .before .if1 .left) (c .if3 .left)
 

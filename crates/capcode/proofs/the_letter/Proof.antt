@@ -1,20 +1,13 @@
-use mathlib.Core.Path.{_≡_, refl, sym, ap, _∙_}
 use borrow.Author.Needs.{needs}
 use Rattle.capcode.proofs.the_letter.Statement.{statement}
 use Rattle.capcode.proofs.the_letter.Tie as tie
-use Rattle.capcode.proofs.the_letter.Reads as reads
-use Rattle.capcode.proofs.the_letter.Lts as lts
-use Rattle.capcode.proofs.letter_goes_on.Reads as letter-goes-on-reads
 
--- src/lib.rt:263:8
 letter-goes-on-requires : tie.Need-letter-goes-on-requires
 letter-goes-on-requires c κs = search needs
 
--- src/lib.rt:260:1
 returns : tie.Need-returns
 returns c = rw (← c .before .letter-goes-on .ensures, c .if1 .taken)
 
--- src/lib.rt:260:1
 returns-2 : tie.Need-returns-2
 returns-2 c = rw (← c .before .letter-goes-on .ensures, c .if1 .left)
 

@@ -1,16 +1,14 @@
-use Rattle.capcode.proofs.Writes.{write-turn}
-use Rattle.capcode.specs.Text.{digits}
+use Prim.Native.Nat.{_+_, _≤_}
+use mathlib.Core.Path.{_≡_, refl, sym, _∙_}
+use native.Mathlib.Omega.{arith}
+use lib.ListN.{length, length-set}
+use borrow.Author.Needs.{needs}
 use Rattle.laws.proofs.Writing.{put-nothing}
 use Rattle.laws.specs.Lists.{put}
-use lib.ListN.{length, length-set}
-use native.Mathlib.Omega.{arith}
-use Prim.Native.Nat.{_+_, _≤_}
-use mathlib.Core.Path.{_≡_, refl, sym, ap, _∙_}
-use borrow.Author.Needs.{needs}
+use Rattle.capcode.specs.Text.{digits}
+use Rattle.capcode.proofs.Writes.{write-turn}
 use Rattle.capcode.proofs.write_digits.Statement.{statement}
 use Rattle.capcode.proofs.write_digits.Tie as tie
-use Rattle.capcode.proofs.write_digits.Reads as reads
-use Rattle.capcode.proofs.write_digits.Lts as lts
 
 abbrev Inv-loop : tie.InvT-loop
 Inv-loop out₀ place count number left₀ rest₀ out left rest = (place + left ≤ length out) × (length out ≡ length out₀) × (put out place (digits left rest) ≡ put out₀ place (digits count number))
@@ -18,45 +16,35 @@ Inv-loop out₀ place count number left₀ rest₀ out left rest = (place + left
 abbrev μ-loop : tie.MeasureT-loop
 μ-loop out₀ place count number left₀ rest₀ out left rest = left
 
--- src/lib.rt:410:5
 loop-holds : tie.Need-loop-holds Inv-loop μ-loop
 loop-holds c = (c .pre, refl, refl)
 
--- src/lib.rt:411:9
 sub-left : tie.Need-sub-left Inv-loop μ-loop
 sub-left c = search needs
 
--- src/lib.rt:412:34
 cast-out : tie.Need-cast-out Inv-loop μ-loop
 cast-out c = search needs
 
--- src/lib.rt:412:29
 add-out : tie.Need-add-out Inv-loop μ-loop
 add-out c = search needs
 
--- src/lib.rt:412:13
 add-out-2 : tie.Need-add-out-2 Inv-loop μ-loop
 add-out-2 c = search needs
 
--- src/lib.rt:412:9
 slice-write-out : tie.Need-slice-write-out Inv-loop μ-loop
 slice-write-out c = search needs
 
--- src/lib.rt:410:5
 loop-less : tie.Need-loop-less Inv-loop μ-loop
 loop-less c = search needs
 
--- src/lib.rt:410:5
 loop-again : tie.Need-loop-again Inv-loop μ-loop
 loop-again c =
     let a = c .before in
     (simp length-set (omega arith), simp length-set (a .loop .inv .1), write-turn (a .loop .out) (a .before .args .place) (a .loop .rest) (a .loop .left) (search needs) (a .loop .inv .0) ∙ a .loop .inv .2)
 
--- src/lib.rt:404:1
 same-length : tie.Need-same-length Inv-loop μ-loop
 same-length c = c .before .loop .inv .1
 
--- src/lib.rt:404:1
 returns : tie.Need-returns Inv-loop μ-loop
 unfolding digits
 returns c =

@@ -1,0 +1,95 @@
+-- What the definitions promise: reading and printing are each other's way back, a text is in the form exactly if it is printed, an answer's telling is its own.
+use Prim.Native.Nat.{ℕ, _^_, _≤_, _<_}
+use mathlib.Core.Bool.{Bool, true, false, _&&_}
+use mathlib.Core.Path.{_≡_, refl, sym, ap, _∙_}
+use mathlib.Core.List.{List, [], _∷_}
+use native.Mathlib.Omega.{arith}
+use lib.Dec.{leb}
+use lib.ListN.{getD}
+use borrow.Author.Tests.{leb-true, not-false}
+use Rattle.refusal.specs.Told.{Told, given}
+use Rattle.refusal.proofs.Laws.{toldValues, given-not-refused, refused-tells}
+use Rattle.address.specs.declared.Row.{Row}
+use Rattle.address.specs.Ranges.{rows, holds, classIn, classOf, found, accepted}
+use Rattle.capcode.specs.declared.Capcode.{Capcode}
+use Rattle.capcode.specs.declared.AssignAnswer.{AssignAnswer}
+use Rattle.capcode.specs.declared.ReadAnswer.{ReadAnswer}
+use Rattle.capcode.specs.declared.PrintAnswer.{PrintAnswer}
+use Rattle.capcode.specs.declared.Form.{Form}
+use Rattle.capcode.specs.Assigned.{Fine, phaseOf, baseOf, toldAssign}
+use Rattle.capcode.specs.Text.{textOf, Sayable, printOf, toldPrint}
+use Rattle.capcode.specs.Reads.{formOf, readBy, readOf, toldRead}
+use Rattle.capcode.proofs.Judging.{given-fine, fine-asked, first-of, second-of}
+use Rattle.capcode.proofs.Spoken.{read-of-printed}
+use Rattle.capcode.proofs.Heard.{printed-of-read}
+
+-- no row of a table ends above a bound
+abbrev all-upto : List Row → ℕ → Bool
+all-upto [] bound = true
+all-upto (r ∷ rs) bound = leb (r .to) bound && all-upto rs bound
+
+-- an address that a row holds is not above the rows' bound
+found-upto : (rs : List Row) (address bound : ℕ) → all-upto rs bound ≡ true → found (classIn rs address) ≡ true → address ≤ bound
+unfolding classIn
+found-upto [] address bound upto e = absurd (let no : _≡_ {A = ℕ} 0 1 = cc in omega arith)
+found-upto (r ∷ rs) address bound upto e = found-by (found-upto rs address bound (second-of (leb (r .to) bound) _ upto)) (holds r address) refl
+  where
+    found-by : (found (classIn rs address) ≡ true → address ≤ bound) → (held : Bool) → holds r address ≡ held → address ≤ bound
+    found-by later true h =
+        let within = leb-true address (r .to) (second-of (leb (r .from) address) _ h) in
+        let below = leb-true (r .to) bound (first-of _ (all-upto rs bound) upto) in
+        omega arith
+    found-by later false h = later (rw h at e)
+
+-- an accepted address has ten digits at most
+accepted-below : (address : ℕ) → accepted address ≡ true → address < 10 ^ 10
+unfolding classOf rows
+accepted-below address e =
+    let upto : address ≤ 4291000000 = found-upto rows address 4291000000 refl e in
+    omega arith
+
+-- a CAPCODE of which nothing is refused is one that a text could have
+pub fine-sayable : (c : Capcode) → Fine c → Sayable c
+fine-sayable c fine =
+    record { letter = not-false _ (fine .text); fields = not-false _ (fine .packet); address = accepted-below (c .address) (not-false _ (fine .range)) }
+
+-- what was printed is read as it was
+pub printed-is-read : (c : Capcode) (room : ℕ) (values : List ℕ) → printOf c room ≡ given values
+    → readOf (textOf c) ≡ given (c .letter ∷ c .frame ∷ c .collapse ∷ c .address ∷ phaseOf c ∷ baseOf c ∷ [])
+printed-is-read c room values e =
+    let fine = given-fine c _ values e .0 in
+    ap readBy (read-of-printed c (fine-sayable c fine)) ∙ sym (fine-asked c _ fine)
+
+-- a text is in the form exactly if it is the text of a CAPCODE that a text could have
+pub form-exactly : (text : List ℕ) (c : Capcode) → (formOf text ≡ Form.Says c → (textOf c ≡ text) × Sayable c) × ((textOf c ≡ text) × Sayable c → formOf text ≡ Form.Says c)
+form-exactly text c = (printed-of-read text c, λ both. ap formOf (sym (both .0)) ∙ read-of-printed c (both .1))
+
+-- two different texts never say the same CAPCODE
+pub one-text : (text other : List ℕ) (c : Capcode) → formOf text ≡ Form.Says c → formOf other ≡ Form.Says c → text ≡ other
+one-text text other c e f = sym (printed-of-read text c e .0) ∙ printed-of-read other c f .0
+
+-- the value at a place of a telling
+abbrev valueAt : Told → ℕ → ℕ
+valueAt t n = getD (toldValues t) n 0
+
+-- one telling, one answer to `assign`
+pub assign-tells : (a b : AssignAnswer) → toldAssign a ≡ toldAssign b → a ≡ b
+assign-tells (AssignAnswer.Assigned a) (AssignAnswer.Assigned b) e = ap (λ (t : Told). AssignAnswer.Assigned (record { phase = valueAt t 0; frame = valueAt t 1 })) e
+assign-tells (AssignAnswer.Assigned a) (AssignAnswer.Refused r) e = absurd (given-not-refused _ r e)
+assign-tells (AssignAnswer.Refused r) (AssignAnswer.Assigned b) e = absurd (given-not-refused _ r (sym e))
+assign-tells (AssignAnswer.Refused r) (AssignAnswer.Refused q) e = ap AssignAnswer.Refused (refused-tells r q e)
+
+-- one telling, one answer to `read`
+pub read-tells : (a b : ReadAnswer) → toldRead a ≡ toldRead b → a ≡ b
+read-tells (ReadAnswer.Whole c a) (ReadAnswer.Whole d b) e =
+    ap (λ (t : Told). ReadAnswer.Whole (record { letter = valueAt t 0; frame = valueAt t 1; collapse = valueAt t 2; address = valueAt t 3 }) (record { phase = valueAt t 4; frame = valueAt t 5 })) e
+read-tells (ReadAnswer.Whole c a) (ReadAnswer.Refused r) e = absurd (given-not-refused _ r e)
+read-tells (ReadAnswer.Refused r) (ReadAnswer.Whole d b) e = absurd (given-not-refused _ r (sym e))
+read-tells (ReadAnswer.Refused r) (ReadAnswer.Refused q) e = ap ReadAnswer.Refused (refused-tells r q e)
+
+-- one telling, one answer to `print`
+pub print-tells : (a b : PrintAnswer) → toldPrint a ≡ toldPrint b → a ≡ b
+print-tells (PrintAnswer.Length n) (PrintAnswer.Length m) e = ap (λ (t : Told). PrintAnswer.Length (valueAt t 0)) e
+print-tells (PrintAnswer.Length n) (PrintAnswer.Refused r) e = absurd (given-not-refused _ r e)
+print-tells (PrintAnswer.Refused r) (PrintAnswer.Length m) e = absurd (given-not-refused _ r (sym e))
+print-tells (PrintAnswer.Refused r) (PrintAnswer.Refused q) e = ap PrintAnswer.Refused (refused-tells r q e)
