@@ -1,6 +1,6 @@
 -- An address of a class lies in that class's row, and so its words can be built.
-use Prim.Native.Nat.{ℕ, _-_, _≤_}
-use mathlib.Core.Bool.{Bool, true, false, _&&_}
+use Prim.Native.Nat.{ℕ, _-_, _^_, _≤_, _<_}
+use mathlib.Core.Bool.{Bool, true, false, _&&_, and-eq-true-iff}
 use mathlib.Core.Path.{_≡_, refl, ap, sym, _∙_, subst}
 use mathlib.Core.List.{List, [], _∷_}
 use lib.Dec.{leb}
@@ -8,14 +8,14 @@ use lib.ListN.{getD}
 use native.Mathlib.Omega.{arith}
 use borrow.Author.Tests.{leb-true}
 use Rattle.laws.specs.Choice.{pick}
-use Rattle.laws.proofs.Choice.{both-hold}
 use Rattle.refusal.specs.Told.{given}
 use Rattle.address.specs.declared.Class.{Class}
 use Rattle.address.specs.declared.Class.the-variants.{Short, InformationService, Network, Operator, Set12, Set13, Set14, Set23Country, Set23InformationService}
 use Rattle.address.specs.declared.Row.{Row}
 use Rattle.address.specs.declared.Classed.{Classed}
 use Rattle.address.specs.declared.Layout.{Layout}
-use Rattle.address.specs.Ranges.{rows, holds, classIn, classOf, classNumber}
+use Rattle.address.specs.declared.Layout.the-variants.{OneWord, Words12, Words13, Words23}
+use Rattle.address.specs.Ranges.{rows, holds, classIn, classOf, classNumber, found, accepted}
 use Rattle.address.specs.Words.{layoutOf, wordsAs, wordsBy, wordsOf, FitsAs}
 
 -- the row of a class
@@ -52,7 +52,7 @@ in-row-by (r ∷ rs) address class own e = at-row r (classIn rs address) address
 -- the ends of a row that holds an address
 row-bounds : (r : Row) (address : ℕ) → holds r address ≡ true → (r .from ≤ address) × (address ≤ r .to)
 row-bounds r address h =
-    let both = both-hold (leb (r .from) address) (leb address (r .to)) h in
+    let both = and-eq-true-iff (leb (r .from) address) (leb address (r .to)) .0 h in
     (leb-true (r .from) address (both .0), leb-true address (r .to) (both .1))
 
 -- an address of a class lies between the ends of that class's row
@@ -87,3 +87,18 @@ known-words address e = sym (ap (λ (l : Layout). given (wordsAs l address)) e)
 pub known-class : {a : Classed} (address : ℕ) → classOf address ≡ a → wordsBy a address ≡ wordsOf address
 unfolding wordsOf
 known-class address e = sym (ap (λ (found : Classed). wordsBy found address) e)
+
+-- what fits a line of Table 24 has 32 bits
+layout-below : (layout : Layout) (address : ℕ) → FitsAs layout address → address < 2 ^ 32
+layout-below OneWord address fits = omega arith
+layout-below Words12 address fits = fits .1
+layout-below Words13 address fits = fits .1
+layout-below Words23 address fits = fits .1
+
+found-below : (answer : Classed) (address : ℕ) → classOf address ≡ answer → found answer ≡ true → address < 2 ^ 32
+found-below (Classed.In class) address e f = layout-below (layoutOf class) address (class-fits address class e)
+found-below (Classed.Refused r) address e f = let no : _≡_ {A = ℕ} 0 1 = cc in absurd (omega arith)
+
+-- an accepted address has 32 bits
+pub accepted-below : (address : ℕ) → accepted address ≡ true → address < 2 ^ 32
+accepted-below address e = found-below (classOf address) address refl e

@@ -1,6 +1,6 @@
 -- Words and addresses lead to each other: what document 01 promises of the way back.
 use Prim.Native.Nat.{ℕ, _+_, _-_, _*_, _/_, _%_, _≤_, _<_}
-use mathlib.Core.Bool.{Bool, true, false, _&&_}
+use mathlib.Core.Bool.{Bool, true, false, _&&_, and-eq-true-iff}
 use mathlib.Core.Path.{_≡_, refl, ap, sym, _∙_}
 use mathlib.Core.List.{List, [], _∷_, map}
 use mathlib.Core.Logic.{_⊎_, inl, inr, ⊎-elim}
@@ -9,7 +9,6 @@ use lib.ListN.{getD}
 use native.Mathlib.Omega.{arith}
 use borrow.Author.Tests.{eq-eqb, eqb-true, le-leb, lt-leb}
 use Rattle.laws.specs.Choice.{pick}
-use Rattle.laws.proofs.Choice.{both-hold}
 use Rattle.refusal.specs.declared.Refusal.{Refusal}
 use Rattle.refusal.specs.declared.Refusal.the-variants.{Range}
 use Rattle.refusal.specs.Told.{Told, told, refused, given, numberOf}
@@ -36,7 +35,7 @@ same-equal [] [] e = refl
 same-equal [] (y ∷ ys) e = cc
 same-equal (x ∷ xs) [] e = cc
 same-equal (x ∷ xs) (y ∷ ys) e =
-    let both = both-hold (eqb x y) (same xs ys) e in
+    let both = and-eq-true-iff (eqb x y) (same xs ys) .0 e in
     let head : x ≡ y = eqb-true x y (both .0) in
     let rest : xs ≡ ys = same-equal xs ys (both .1) in
     cc
@@ -48,7 +47,7 @@ gives-told answer words e = rw e (same-self words)
 -- .. and no others
 told-gives : (answer : Told) (words : List ℕ) → gives answer words ≡ true → answer ≡ given words
 told-gives (told n values) words e =
-    let both = both-hold (eqb n 0) (same values words) e in
+    let both = and-eq-true-iff (eqb n 0) (same values words) .0 e in
     let none : n ≡ 0 = eqb-true n 0 (both .0) in
     let same : values ≡ words = same-equal values words (both .1) in
     cc

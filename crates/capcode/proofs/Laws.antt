@@ -1,16 +1,13 @@
 -- What the definitions promise: reading and printing are each other's way back, a text is in the form exactly if it is printed, an answer's telling is its own.
-use Prim.Native.Nat.{ℕ, _^_, _≤_, _<_}
-use mathlib.Core.Bool.{Bool, true, false, _&&_}
-use mathlib.Core.Path.{_≡_, refl, sym, ap, _∙_}
+use Prim.Native.Nat.{ℕ, _^_, _<_}
+use mathlib.Core.Path.{_≡_, sym, ap, _∙_}
 use mathlib.Core.List.{List, [], _∷_}
 use native.Mathlib.Omega.{arith}
-use lib.Dec.{leb}
 use lib.ListN.{getD}
-use borrow.Author.Tests.{leb-true, not-false}
+use borrow.Author.Tests.{not-false}
 use Rattle.refusal.specs.Told.{Told, given}
 use Rattle.refusal.proofs.Laws.{toldValues, given-not-refused, refused-tells}
-use Rattle.address.specs.declared.Row.{Row}
-use Rattle.address.specs.Ranges.{rows, holds, classIn, classOf, found, accepted}
+use Rattle.address.proofs.Bounds.{accepted-below}
 use Rattle.capcode.specs.declared.Capcode.{Capcode}
 use Rattle.capcode.specs.declared.AssignAnswer.{AssignAnswer}
 use Rattle.capcode.specs.declared.ReadAnswer.{ReadAnswer}
@@ -19,39 +16,15 @@ use Rattle.capcode.specs.declared.Form.{Form}
 use Rattle.capcode.specs.Assigned.{Fine, phaseOf, baseOf, toldAssign}
 use Rattle.capcode.specs.Text.{textOf, Sayable, printOf, toldPrint}
 use Rattle.capcode.specs.Reads.{formOf, readBy, readOf, toldRead}
-use Rattle.capcode.proofs.Judging.{given-fine, fine-asked, first-of, second-of}
+use Rattle.capcode.proofs.Judging.{given-fine, fine-asked}
 use Rattle.capcode.proofs.Spoken.{read-of-printed}
 use Rattle.capcode.proofs.Heard.{printed-of-read}
-
--- no row of a table ends above a bound
-abbrev all-upto : List Row → ℕ → Bool
-all-upto [] bound = true
-all-upto (r ∷ rs) bound = leb (r .to) bound && all-upto rs bound
-
--- an address that a row holds is not above the rows' bound
-found-upto : (rs : List Row) (address bound : ℕ) → all-upto rs bound ≡ true → found (classIn rs address) ≡ true → address ≤ bound
-unfolding classIn
-found-upto [] address bound upto e = absurd (let no : _≡_ {A = ℕ} 0 1 = cc in omega arith)
-found-upto (r ∷ rs) address bound upto e = found-by (found-upto rs address bound (second-of (leb (r .to) bound) _ upto)) (holds r address) refl
-  where
-    found-by : (found (classIn rs address) ≡ true → address ≤ bound) → (held : Bool) → holds r address ≡ held → address ≤ bound
-    found-by later true h =
-        let within = leb-true address (r .to) (second-of (leb (r .from) address) _ h) in
-        let below = leb-true (r .to) bound (first-of _ (all-upto rs bound) upto) in
-        omega arith
-    found-by later false h = later (rw h at e)
-
--- an accepted address has ten digits at most
-accepted-below : (address : ℕ) → accepted address ≡ true → address < 10 ^ 10
-unfolding classOf rows
-accepted-below address e =
-    let upto : address ≤ 4291000000 = found-upto rows address 4291000000 refl e in
-    omega arith
 
 -- a CAPCODE of which nothing is refused is one that a text could have
 pub fine-sayable : (c : Capcode) → Fine c → Sayable c
 fine-sayable c fine =
-    record { letter = not-false _ (fine .text); fields = not-false _ (fine .packet); address = accepted-below (c .address) (not-false _ (fine .range)) }
+    let ten-digits : c .address < 10 ^ 10 = omega (arith, accepted-below (c .address) (not-false _ (fine .range))) in
+    record { letter = not-false _ (fine .text); fields = not-false _ (fine .packet); address = ten-digits }
 
 -- what was printed is read as it was
 pub printed-is-read : (c : Capcode) (room : ℕ) (values : List ℕ) → printOf c room ≡ given values

@@ -1,4 +1,3 @@
 pub mod Bits
-pub mod Choice
 pub mod Counting
 pub mod Writing
