@@ -19,9 +19,10 @@ use Rattle.capcode.specs.declared.Form.{Form}
 use Rattle.capcode.specs.Assigned.{Fine, phaseOf, baseOf, toldAssign}
 use Rattle.capcode.specs.Text.{textOf, Sayable, printOf, toldPrint}
 use Rattle.capcode.specs.Reads.{formOf, readBy, readOf, toldRead}
-use Rattle.capcode.proofs.Judging.{given-fine, fine-asked, first-of, second-of}
+use Rattle.capcode.proofs.Judging.{given-fine, fine-asked}
 use Rattle.capcode.proofs.Spoken.{read-of-printed}
 use Rattle.capcode.proofs.Heard.{printed-of-read}
+use Rattle.capcode.proofs.Tests.{first-of, second-of}
 
 -- no row of a table ends above a bound
 abbrev all-upto : List Row → ℕ → Bool
