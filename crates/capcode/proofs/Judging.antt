@@ -1,6 +1,6 @@
 -- The questions asked of every CAPCODE, by the answers to their tests.
 use Prim.Native.Nat.{ℕ, _≤_}
-use mathlib.Core.Bool.{Bool, true, false, not, _&&_, _||_}
+use mathlib.Core.Bool.{Bool, true, false, not, _||_}
 use mathlib.Core.Path.{_≡_, refl, sym, ap, _∙_}
 use mathlib.Core.List.{List, []}
 use native.Mathlib.Omega.{arith}
@@ -14,6 +14,7 @@ use Rattle.address.specs.Ranges.{accepted}
 use Rattle.capcode.specs.declared.Capcode.{Capcode}
 use Rattle.capcode.specs.declared.Judged.{Judged}
 use Rattle.capcode.specs.Assigned.{Fine, standard, framed, allPhase, offsetOf, fieldsFit, asked, toldJudged}
+use Rattle.capcode.proofs.Tests.{first-of, other-of}
 
 -- the answer, with each test's value in its place
 pub asked-by : (text type range offset packet : Bool) (c : Capcode) (rest : Told)
@@ -53,23 +54,6 @@ judged-tells c j k tells e rest = ap (λ (x : Judged). toldJudged x rest) (sym e
 -- a CAPCODE judged fine is fine
 pub judged-fine : (c : Capcode) → ((rest : Told) → rest ≡ asked c rest) → Fine c
 judged-fine c tells = given-fine c (given []) [] (sym (tells (given []))) .0
-
--- of two tests that both hold, the first holds
-pub first-of : (a b : Bool) → (a && b) ≡ true → a ≡ true
-first-of true b e = refl
-first-of false b e = e
-
--- and the second
-pub second-of : (a b : Bool) → (a && b) ≡ true → b ≡ true
-second-of true b e = e
-second-of false true e = refl
-second-of false false e = e
-
--- of two tests of which one holds, the second if the first does not
-pub other-of : (a b : Bool) → (a || b) ≡ true → a ≡ false → b ≡ true
-other-of true true e f = refl
-other-of true false e f = sym f
-other-of false b e f = e
 
 -- a letter A to L is 65 or more
 pub standard-from : (letter : ℕ) → standard letter ≡ true → 65 ≤ letter

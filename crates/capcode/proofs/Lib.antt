@@ -1,3 +1,4 @@
+pub mod Tests
 pub mod Judging
 pub mod Steps
 pub mod Sound

@@ -12,9 +12,9 @@ use Rattle.capcode.specs.declared.Capcode.{Capcode}
 use Rattle.capcode.specs.Assigned.{standard, framed, fieldsFit}
 use Rattle.capcode.specs.Text.{digits, lastOfSeven, widthOf, headOf, headWidth, Sayable}
 use Rattle.capcode.specs.Reads.{headGoesOn, letterGoesOn, addressGoesOn}
-use Rattle.capcode.proofs.Judging.{first-of, second-of, other-of}
-use Rattle.capcode.proofs.Sound.{Digits, either-of, one-digit, head-frame}
+use Rattle.capcode.proofs.Sound.{Digits, one-digit, head-frame}
 use Rattle.capcode.proofs.Writes.{head-digits}
+use Rattle.capcode.proofs.Tests.{first-of, second-of, other-of, either-of, only}
 
 -- a letter U to Z is none of A to L
 framed-only : (letter : ℕ) → framed letter ≡ true → standard letter ≡ false
@@ -50,11 +50,6 @@ pub record Head (c : Capcode) (width number : ℕ) : Type 0 where
   pub letter : letterGoesOn width (c .letter) ≡ true
   pub frame : pick (eqb width 4) (number / 10) 0 ≡ c .frame
   pub collapse : pick (eqb width 0) 4 (number % 10) ≡ c .collapse
-
--- the first of four tests, where the others are false
-only : (test : Bool) → (test || false || false || false) ≡ true → test ≡ true
-only true e = refl
-only false e = e
 
 -- one digit that is no 4 goes on
 head-one : (number : ℕ) (low : Bool) → leb number 3 ≡ low → number ≤ 5 → (number ≡ 4 → ⊥) → headGoesOn 1 number ≡ true

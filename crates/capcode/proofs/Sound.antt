@@ -1,6 +1,6 @@
 -- What holds of every reading under way: each byte so far was one with which some correct text goes on. The bounds follow.
 use Prim.Native.Nat.{ℕ, zero, suc, _+_, _*_, _/_, _%_, _^_, _≤_, _<_}
-use mathlib.Core.Bool.{Bool, true, false, _&&_, _||_}
+use mathlib.Core.Bool.{Bool, true, _&&_, _||_}
 use mathlib.Core.Path.{_≡_, refl, subst}
 use mathlib.Core.Logic.{_⊎_, inl, inr, ⊎-elim}
 use native.Mathlib.Nat.{pow-suc, pow-le-pow-right}
@@ -11,8 +11,8 @@ use borrow.Author.Tests.{leb-true, eqb-true}
 use Rattle.capcode.specs.declared.Reading.{Reading}
 use Rattle.capcode.specs.declared.Step.{Step}
 use Rattle.capcode.specs.Reads.{headGoesOn, letterGoesOn, addressGoesOn, Bounded, stepOf, blank}
-use Rattle.capcode.proofs.Judging.{first-of, second-of}
 use Rattle.capcode.proofs.Steps.{Stepped, by-head, by-letter, by-address, stepped, digit-small}
+use Rattle.capcode.proofs.Tests.{first-of, second-of, either-of, one-of}
 
 -- a number of so many digits of which a test held at each digit
 abbrev pub Digits : (ℕ → ℕ → Bool) → ℕ → ℕ → Type 0
@@ -32,11 +32,6 @@ digits-below goesOn (suc n) number e =
     let less : number / 10 < 10 ^ n = digits-below goesOn n (number / 10) (e .1) in
     rw (pow-suc 10 n) (omega arith)
 
--- of two tests of which one holds
-pub either-of : (a b : Bool) → (a || b) ≡ true → (a ≡ true) ⊎ (b ≡ true)
-either-of true b e = inl refl
-either-of false b e = inr e
-
 -- a collapse digit of A to L: 0 to 5, but never 4
 pub one-digit : (number : ℕ) → (leb number 3 || eqb number 5) ≡ true → (number ≤ 5) × (number ≡ 4 → ⊥)
 one-digit number e =
@@ -44,13 +39,6 @@ one-digit number e =
     (λ (low : leb number 3 ≡ true). let small = leb-true number 3 low in (omega arith, λ four. omega arith))
     (λ (five : eqb number 5 ≡ true). let exact = eqb-true number 5 five in (omega arith, λ four. omega arith))
     (either-of (leb number 3) (eqb number 5) e)
-
--- which of four tests holds
-pub one-of : (a b c d : Bool) → (a || b || c || d) ≡ true → (a ≡ true) ⊎ ((b ≡ true) ⊎ ((c ≡ true) ⊎ (d ≡ true)))
-one-of true b c d e = inl refl
-one-of false true c d e = inr (inl refl)
-one-of false false true d e = inr (inr (inl refl))
-one-of false false false d e = inr (inr (inr e))
 
 -- digits before the letter that go on are four, or three or fewer of a number up to 127
 head-by : (count number : ℕ)

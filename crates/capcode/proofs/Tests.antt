@@ -1,0 +1,38 @@
+-- Tests joined by and, and by or: what one of them says of the others.
+use mathlib.Core.Bool.{Bool, true, false, _&&_, _||_}
+use mathlib.Core.Path.{_≡_, refl, sym}
+use mathlib.Core.Logic.{_⊎_, inl, inr}
+
+-- of two tests that both hold, the first holds
+pub first-of : (a b : Bool) → (a && b) ≡ true → a ≡ true
+first-of true b e = refl
+first-of false b e = e
+
+-- and the second
+pub second-of : (a b : Bool) → (a && b) ≡ true → b ≡ true
+second-of true b e = e
+second-of false true e = refl
+second-of false false e = e
+
+-- of two tests of which one holds, the second if the first does not
+pub other-of : (a b : Bool) → (a || b) ≡ true → a ≡ false → b ≡ true
+other-of true true e f = refl
+other-of true false e f = sym f
+other-of false b e f = e
+
+-- of two tests of which one holds
+pub either-of : (a b : Bool) → (a || b) ≡ true → (a ≡ true) ⊎ (b ≡ true)
+either-of true b e = inl refl
+either-of false b e = inr e
+
+-- which of four tests holds
+pub one-of : (a b c d : Bool) → (a || b || c || d) ≡ true → (a ≡ true) ⊎ ((b ≡ true) ⊎ ((c ≡ true) ⊎ (d ≡ true)))
+one-of true b c d e = inl refl
+one-of false true c d e = inr (inl refl)
+one-of false false true d e = inr (inr (inl refl))
+one-of false false false d e = inr (inr (inr e))
+
+-- the first of four tests, where the others are false
+pub only : (test : Bool) → (test || false || false || false) ≡ true → test ≡ true
+only true e = refl
+only false e = e
