@@ -21,7 +21,7 @@ use Rattle.capcode.proofs.Sound.{Sound, sound-blank, sound-step, addres
 use Rattle.capcode.proofs.Course.{follow-stopped}
 use Rattle.capcode.proofs.Parts.{lettered, headed, Ended, width-of}
 use Rattle.capcode.proofs.Spoken.{letter-high}
-use Rattle.capcode.proofs.Tests.{first-of, second-of}
+use Rattle.laws.proofs.Tests.{first-of, second-of}
 
 -- the bytes that a reading has taken
 abbrev bytes : Reading → List ℕ

@@ -14,7 +14,7 @@ use Rattle.address.specs.Ranges.{accepted}
 use Rattle.capcode.specs.declared.Capcode.{Capcode}
 use Rattle.capcode.specs.declared.Judged.{Judged}
 use Rattle.capcode.specs.Assigned.{Fine, standard, framed, allPhase, offsetOf, fieldsFit, asked, toldJudged}
-use Rattle.capcode.proofs.Tests.{first-of, other-of}
+use Rattle.laws.proofs.Tests.{first-of, other-of}
 
 -- the answer, with each test's value in its place
 pub asked-by : (text type range offset packet : Bool) (c : Capcode) (rest : Told)

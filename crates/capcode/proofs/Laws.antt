@@ -19,7 +19,7 @@ use Rattle.capcode.specs.Reads.{formOf, readBy, readOf, toldRead}
 use Rattle.capcode.proofs.Judging.{given-fine, fine-asked}
 use Rattle.capcode.proofs.Spoken.{read-of-printed}
 use Rattle.capcode.proofs.Heard.{printed-of-read}
-use Rattle.capcode.proofs.Tests.{first-of, second-of}
+use Rattle.laws.proofs.Tests.{first-of, second-of}
 
 -- a CAPCODE of which nothing is refused is one that a text could have
 pub fine-sayable : (c : Capcode) → Fine c → Sayable c

@@ -1,4 +1,3 @@
-pub mod Tests
 pub mod Judging
 pub mod Steps
 pub mod Sound

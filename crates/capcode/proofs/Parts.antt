@@ -14,7 +14,7 @@ use Rattle.capcode.specs.Text.{digits, lastOfSeven, widthOf, headOf, hea
 use Rattle.capcode.specs.Reads.{headGoesOn, letterGoesOn, addressGoesOn}
 use Rattle.capcode.proofs.Sound.{Digits, one-digit, head-frame}
 use Rattle.capcode.proofs.Writes.{head-digits}
-use Rattle.capcode.proofs.Tests.{first-of, second-of, other-of, either-of, only}
+use Rattle.laws.proofs.Tests.{first-of, second-of, other-of, either-of, only}
 
 -- a letter U to Z is none of A to L
 framed-only : (letter : ℕ) → framed letter ≡ true → standard letter ≡ false

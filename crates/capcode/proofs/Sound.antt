@@ -12,7 +12,7 @@ use Rattle.capcode.specs.declared.Reading.{Reading}
 use Rattle.capcode.specs.declared.Step.{Step}
 use Rattle.capcode.specs.Reads.{headGoesOn, letterGoesOn, addressGoesOn, Bounded, stepOf, blank}
 use Rattle.capcode.proofs.Steps.{Stepped, by-head, by-letter, by-address, stepped, digit-small}
-use Rattle.capcode.proofs.Tests.{first-of, second-of, either-of, one-of}
+use Rattle.laws.proofs.Tests.{first-of, second-of, either-of, one-of}
 
 -- a number of so many digits of which a test held at each digit
 abbrev pub Digits : (ℕ → ℕ → Bool) → ℕ → ℕ → Type 0

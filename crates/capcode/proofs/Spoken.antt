@@ -16,7 +16,7 @@ use Rattle.capcode.specs.Reads.{isDigit, headGoesOn, letterGoesOn, addre
 use Rattle.capcode.proofs.Steps.{step-head, step-letter, step-address}
 use Rattle.capcode.proofs.Sound.{Digits}
 use Rattle.capcode.proofs.Parts.{Lettered, none, one, four, lettered, Head, head-of, Ended, ended}
-use Rattle.capcode.proofs.Tests.{first-of}
+use Rattle.laws.proofs.Tests.{first-of}
 
 -- a course over two texts, one after the other
 pub follow-append : (course : Course) (text more : List ℕ) → follow course (text ++ more) ≡ follow (follow course text) more

@@ -8,7 +8,7 @@ use borrow.Author.Tests.{eq-eqb, ne-eqb, eqb-true, eqb-false, leb-true}
 use Rattle.capcode.specs.declared.Reading.{Reading}
 use Rattle.capcode.specs.declared.Step.{Step}
 use Rattle.capcode.specs.Reads.{isDigit, headGoesOn, letterGoesOn, addressGoesOn, goOn, withHead, withLetter, withAddress, headDigit, theLetter, addressDigit, stepOf}
-use Rattle.capcode.proofs.Tests.{first-of, second-of}
+use Rattle.laws.proofs.Tests.{first-of, second-of}
 
 module _ (s : Reading) (byte : ℕ) where
   -- a digit before the letter

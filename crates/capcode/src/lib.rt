@@ -75,30 +75,33 @@ pub enum Form {
     Wrong(usize),
 }
 
+// 01: "An address up to 2031614 is seven digits; a larger one is ten".
+const LAST_OF_SEVEN: u64 = 2031614;
+
 // A to L: phase and base frame come from the address.
 fn is_standard(letter: u8) -> bool
     ensures { λ r. ⌜ r ≡ standard letter ⌝ }
 {
-    (65 <= letter) & (letter <= 76)
+    (b'A' <= letter) & (letter <= b'L')
 }
 
 // U to Z: the base frame stands in the text.
 fn is_framed(letter: u8) -> bool
     ensures { λ r. ⌜ r ≡ framed letter ⌝ }
 {
-    (85 <= letter) & (letter <= 90)
+    (b'U' <= letter) & (letter <= b'Z')
 }
 
 fn is_any_phase(letter: u8) -> bool
     ensures { λ r. ⌜ r ≡ anyPhase letter ⌝ }
 {
-    ((69 <= letter) & (letter <= 72)) | (letter == 89)
+    ((b'E' <= letter) & (letter <= b'H')) | (letter == b'Y')
 }
 
 fn is_all_phase(letter: u8) -> bool
     ensures { λ r. ⌜ r ≡ allPhase letter ⌝ }
 {
-    ((73 <= letter) & (letter <= 76)) | (letter == 90)
+    ((b'I' <= letter) & (letter <= b'L')) | (letter == b'Z')
 }
 
 // What is taken off the address before phase and base frame are counted (Table 25).
@@ -106,7 +109,7 @@ fn offset_of(letter: u8) -> u64
     ensures { λ r. ⌜ r ≡ offsetOf letter ⌝ }
 {
     if is_standard(letter) {
-        ((letter - 65) % 4) as u64
+        ((letter - b'A') % 4) as u64
     } else {
         0
     }
@@ -176,7 +179,7 @@ fn phase_of(c: Capcode) -> u8
     if is_standard(c.letter) {
         ((c.address - offset_of(c.letter)) / 4 % 4) as u8
     } else {
-        c.letter - 85
+        c.letter - b'U'
     }
 }
 
@@ -216,7 +219,7 @@ pub fn assign(c: Capcode) -> AssignAnswer
 fn is_digit(byte: u8) -> bool
     ensures { λ r. ⌜ r ≡ isDigit byte ⌝ }
 {
-    (48 <= byte) & (byte <= 57)
+    (b'0' <= byte) & (byte <= b'9')
 }
 
 // Whether some correct text begins with so many digits of this number.
@@ -232,8 +235,8 @@ fn head_goes_on(count: u32, number: u32) -> bool
 fn letter_goes_on(count: u32, letter: u8) -> bool
     ensures { λ r. ⌜ r ≡ letterGoesOn count letter ⌝ }
 {
-    (((count == 0) | (count == 1)) & ((65 <= letter) & (letter <= 76)))
-        | ((count == 4) & ((85 <= letter) & (letter <= 90)))
+    (((count == 0) | (count == 1)) & ((b'A' <= letter) & (letter <= b'L')))
+        | ((count == 4) & ((b'U' <= letter) & (letter <= b'Z')))
 }
 
 // Whether some address begins with so many digits of this number: ten digits are for the large ones only.
@@ -310,9 +313,9 @@ fn step_of(s: Reading, byte: u8) -> Step
 {
     if is_digit(byte) {
         if s.letter == 0 {
-            return head_digit(s, byte - 48);
+            return head_digit(s, byte - b'0');
         }
-        return address_digit(s, byte - 48);
+        return address_digit(s, byte - b'0');
     }
     if s.letter == 0 {
         return the_letter(s, byte);
@@ -324,7 +327,7 @@ fn step_of(s: Reading, byte: u8) -> Step
 fn is_whole(s: Reading) -> bool
     ensures { λ r. ⌜ r ≡ isWhole s ⌝ }
 {
-    !(s.letter == 0) & (((s.after == 7) & (s.address <= 2031614)) | (s.after == 10))
+    !(s.letter == 0) & (((s.after == 7) & (s.address <= LAST_OF_SEVEN)) | (s.after == 10))
 }
 
 fn said_frame(s: Reading) -> u8
@@ -415,7 +418,7 @@ fn write_digits(out: &mut [u8], place: usize, count: usize, number: u64)
     let mut rest = number;
     while 0 < left {
         left -= 1;
-        out[place + left] = 48 + (rest % 10) as u8;
+        out[place + left] = b'0' + (rest % 10) as u8;
         rest /= 10;
     }
 }
@@ -436,7 +439,7 @@ fn head_width(c: Capcode) -> usize
 fn width_of(address: u64) -> usize
     ensures { λ r. ⌜ (r ≡ widthOf address) × (r ≤ 10) ⌝ }
 {
-    if address <= 2031614 { 7 } else { 10 }
+    if address <= LAST_OF_SEVEN { 7 } else { 10 }
 }
 
 // The text of a CAPCODE that was judged fine, at the start of a buffer that has room for it. Frame and

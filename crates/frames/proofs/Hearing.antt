@@ -13,7 +13,8 @@ use lib.Dec.{T, leb, eqb, eqb→eq}
 use lib.ListN.{length, take, drop, getD, length-take, drop-of-length-le}
 use lib.Pow.{pow-add, pow-pos}
 use lib.Seq.{take-suc, drop-cons, getD-take, length-take-le}
-use Rattle.laws.proofs.Counting.{allBelow, of-all-below, one-of, take-min}
+use Rattle.laws.proofs.Counting.{allBelow, of-all-below, take-min}
+use Rattle.laws.proofs.Tests.{either-of}
 use Rattle.frames.specs.declared.Listener.{Listener}
 use Rattle.frames.specs.Listening.{Frameset, listens, heard, maskFrom, allFit}
 use Rattle.frames.specs.Repeating.{combs}
@@ -137,7 +138,7 @@ heard-by (l ∷ ls) past f h =
     (λ e.
     let rest = heard-by ls past f e in
     (suc (rest .0), omega (arith, rest .1), rest .2))
-    (one-of (listens l f) (heard ls f) h)
+    (either-of (listens l f) (heard ls f) h)
 
 -- .. and what some listener listens to is heard
 pub by-heard : (ls : List Listener) (past : Listener) (f k : ℕ) → k < length ls → listens (getD ls k past) f ≡ true → heard ls f ≡ true

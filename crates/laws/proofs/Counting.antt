@@ -1,9 +1,9 @@
 -- Tests and bounds: a rule over all numbers below a bound, by one test that is computed; a row cut at a bound.
 use Prim.Native.Nat.{ℕ, zero, suc, _<_, min}
-use mathlib.Core.Bool.{Bool, true, false, _&&_, _||_}
-use mathlib.Core.Logic.{_⊎_, inl, inr, ⊎-elim}
+use mathlib.Core.Bool.{Bool, true, false, _&&_}
+use mathlib.Core.Logic.{⊎-elim}
 use mathlib.Core.List.{List, [], _∷_}
-use mathlib.Core.Path.{_≡_, refl}
+use mathlib.Core.Path.{_≡_}
 use native.Mathlib.Nat.{eq-or-lt-of-le, le-of-suc-le-suc, zero-min, min-zero, suc-min-suc}
 use native.Mathlib.Omega.{arith}
 use lib.Dec.{T}
@@ -17,11 +17,6 @@ both-left false b t = t
 both-right : (a b : Bool) → T (a && b) → T b
 both-right true b t = t
 both-right false b t = absurd t
-
--- where one of two tests holds, it is the first or the second
-pub one-of : (a b : Bool) → (a || b) ≡ true → (a ≡ true) ⊎ (b ≡ true)
-one-of true b h = inl refl
-one-of false b h = inr h
 
 -- the test holds of each number below the bound
 abbrev pub allBelow : (ℕ → Bool) → ℕ → Bool
