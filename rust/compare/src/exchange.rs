@@ -5,16 +5,14 @@
 use std::fmt::Debug;
 use std::io::{self, BufReader, Read, Write};
 use std::process::{Child, ChildStdin, ChildStdout, ExitStatus};
-use std::sync::mpsc::{sync_channel, Receiver, SyncSender};
+use std::sync::mpsc::{channel, Receiver, Sender};
 use std::thread;
 use std::time::Duration;
 
 use crate::child::start;
 
-/// Requests that are written in one piece, and pieces that may be written
-/// while the answers to an earlier one are compared.
+/// Requests that are written in one piece.
 const REQUESTS_IN_PIECE: usize = 2_048;
-const PIECES_AHEAD: usize = 4;
 const READ_BYTES: usize = 1 << 16;
 
 /// How long a child that has stopped answering may take to end.
@@ -94,9 +92,9 @@ pub fn compare<R: Request>(
     let stdin = child.stdin.take().expect("the input is a pipe");
     let output = child.stdout.take().expect("the output is a pipe");
     // Asking and comparing go side by side: a pipe holds only so much. A piece
-    // is handed on before it is written, so whatever the child answers, someone
-    // is there to read it.
-    let (sender, pieces) = sync_channel(PIECES_AHEAD);
+    // is handed on before it is written, and handing on never waits, so asking
+    // waits for nobody but the child, and the child's answers are always read.
+    let (sender, pieces) = channel();
     let (compared, ending) = thread::scope(|scope| {
         scope.spawn(move || ask(requests, stdin, sender));
         let compared = compare_answers(pieces, output);
@@ -119,7 +117,7 @@ pub fn compare<R: Request>(
 fn ask<R: Request>(
     mut requests: impl Iterator<Item = R>,
     mut stdin: ChildStdin,
-    sender: SyncSender<Vec<R>>,
+    sender: Sender<Vec<R>>,
 ) {
     let mut bytes = Vec::new();
     loop {
@@ -191,4 +189,109 @@ fn end(child: &mut Child) -> io::Result<ExitStatus> {
     }
     child.kill()?;
     child.wait()
+}
+
+#[cfg(test)]
+mod tests {
+    use super::*;
+
+    /// A request that is its own answer, so that `cat` answers it right.
+    struct Echo {
+        number: u32,
+    }
+
+    impl Request for Echo {
+        const EXPORT: u8 = b'E';
+        type Answer = (u8, u32);
+
+        fn arguments(&self, bytes: &mut Vec<u8>) {
+            bytes.extend(self.number.to_le_bytes());
+        }
+
+        fn library(&self, fields: &mut Fields) -> io::Result<Self::Answer> {
+            Ok((fields.u8()?, fields.u32()?))
+        }
+
+        fn second(&self) -> Self::Answer {
+            (Self::EXPORT, self.number)
+        }
+
+        fn question(&self) -> String {
+            format!("echo of {}", self.number)
+        }
+    }
+
+    /// What comes of asking a shell command for so many echoes.
+    fn compare_with(shell_command: &str, count: u32) -> Result<usize, String> {
+        let command = ["sh", "-c", shell_command].map(str::to_string);
+        compare(&command, (0..count).map(|number| Echo { number }))
+    }
+
+    #[track_caller]
+    fn assert_fails(outcome: Result<usize, String>, said: &str) {
+        let failure = outcome.expect_err("the child was at fault");
+        assert!(failure.contains(said), "{failure}");
+    }
+
+    #[test]
+    fn right_answers_agree() {
+        assert_eq!(compare_with("cat", 0), Ok(0));
+        assert_eq!(compare_with("cat", 1), Ok(1));
+        assert_eq!(compare_with("cat", 300_000), Ok(300_000));
+    }
+
+    /// Far more than the pipes hold is asked before the first answer comes;
+    /// after it, far more is answered than the pipes hold.
+    #[test]
+    fn answers_may_come_late() {
+        let late = "sleep 1; dd bs=5000000 iflag=fullblock 2>/dev/null";
+        assert_eq!(compare_with(late, 100_000), Ok(100_000));
+    }
+
+    #[test]
+    fn a_wrong_answer_is_a_difference() {
+        let outcome = compare_with("tr E F", 100_000);
+        assert_fails(outcome, "echo of 0\n  library (70, 0)\n  second  (69, 0)");
+    }
+
+    #[test]
+    fn a_child_that_dies_is_told() {
+        assert_fails(compare_with("exit 1", 100_000), "gave 0 answers");
+        let outcome = compare_with("head -c 500; exit 3", 100_000);
+        assert_fails(outcome, "gave 100 answers");
+    }
+
+    #[test]
+    fn a_short_answer_is_told_even_at_the_end() {
+        let outcome = compare_with("head -c 499", 100);
+        assert_fails(
+            outcome,
+            "gave 99 answers, then no whole answer to: echo of 99",
+        );
+    }
+
+    #[test]
+    fn a_child_that_closes_its_output_and_stays_is_stopped() {
+        let outcome = compare_with("exec >&-; exec sleep 1000", 100_000);
+        assert_fails(outcome, "gave 0 answers");
+    }
+
+    #[test]
+    fn answers_that_nobody_asked_for_are_told() {
+        let outcome = compare_with("cat; echo more", 100);
+        assert_fails(outcome, "more than the 100 requests");
+    }
+
+    #[test]
+    fn a_bad_ending_is_told() {
+        let outcome = compare_with("cat; exit 7", 100);
+        assert_fails(outcome, "exit status: 7 after 100 right answers");
+    }
+
+    #[test]
+    fn a_program_that_is_not_there_is_told() {
+        let command = ["./no-such-program".to_string()];
+        let outcome = compare(&command, [Echo { number: 1 }].into_iter());
+        assert_fails(outcome, "./no-such-program: cannot start");
+    }
 }
