@@ -287,7 +287,7 @@ enum { LONGEST_LENT = 255, GUARD_LENGTH = 16, GUARD_BYTE = 0xA5 };
 static uint8_t lent_memory[GUARD_LENGTH + LONGEST_LENT + GUARD_LENGTH];
 static uint8_t *const lent_buffer = lent_memory + GUARD_LENGTH;
 
-/* Takes what stands in the buffer before. */
+/* Takes what stands in the buffer before the call. */
 static void take_lent_buffer(size_t length)
 {
     memset(lent_memory, GUARD_BYTE, GUARD_LENGTH);
@@ -295,13 +295,12 @@ static void take_lent_buffer(size_t length)
     memset(lent_buffer + length, GUARD_BYTE, GUARD_LENGTH);
 }
 
-/* Gives what stands in the buffer after. */
-static void give_lent_buffer(size_t length)
+/* Comes before the answer is given: after a fault there must be none. */
+static void check_guards(size_t length)
 {
     for (size_t place = 0; place < GUARD_LENGTH; place++)
         if (lent_memory[place] != GUARD_BYTE || lent_buffer[length + place] != GUARD_BYTE)
             fail("exchange: the library wrote outside the buffer it was lent\n");
-    give_bytes(lent_buffer, length);
 }
 
 /* ---- One function for each export ---- */
@@ -378,9 +377,10 @@ static void serve_capcode_print(void)
     take_lent_buffer(lent);
     struct length_answer answer =
         mortisevane_capcode_print(letter, frame, collapse, address, lent_buffer, lent);
+    check_guards(lent);
     give_u32(answer.number);
     give_u64(answer.length);
-    give_lent_buffer(lent);
+    give_bytes(lent_buffer, lent);
 }
 
 static void serve_frames_wait(void)

@@ -103,7 +103,7 @@ pub fn compare<R: Request>(
     let ending = ending.map_err(|error| format!("{name}: {error}"))?;
     match compared {
         Err(Break::Difference(difference)) => Err(difference),
-        Err(Break::Fault(fault)) => Err(format!("{name}: {fault} (it ended with {ending})")),
+        Err(Break::Fault(fault)) => Err(format!("{name}: {fault}\n  it ended with {ending}")),
         Ok(count) if ending.success() => Ok(count),
         Ok(count) => Err(format!(
             "{name}: ended with {ending} after {count} right answers"
@@ -162,12 +162,9 @@ fn compare_answer<R: Request>(
     fields: &mut Fields,
     answered: usize,
 ) -> Result<(), Break> {
-    let library = request.library(fields).map_err(|error| {
-        Break::Fault(format!(
-            "gave {answered} answers, then no whole answer to: {}: {error}",
-            request.question()
-        ))
-    })?;
+    let library = request
+        .library(fields)
+        .map_err(|error| missing_answer(request, answered, &error))?;
     let second = request.second();
     if library == second {
         return Ok(());
@@ -176,6 +173,17 @@ fn compare_answer<R: Request>(
         "{}\n  library {library:?}\n  second  {second:?}",
         request.question()
     )))
+}
+
+fn missing_answer<R: Request>(request: &R, answered: usize, error: &io::Error) -> Break {
+    let reason = match error.kind() {
+        io::ErrorKind::UnexpectedEof => "its output ended".to_string(),
+        _ => error.to_string(),
+    };
+    Break::Fault(format!(
+        "gave {answered} answers, then {reason} before the whole answer to: {}",
+        request.question()
+    ))
 }
 
 /// A child whose output is closed has ended or soon will; one that does not is
@@ -266,7 +274,7 @@ mod tests {
         let outcome = compare_with("head -c 499", 100);
         assert_fails(
             outcome,
-            "gave 99 answers, then no whole answer to: echo of 99",
+            "gave 99 answers, then its output ended before the whole answer to: echo of 99",
         );
     }
 

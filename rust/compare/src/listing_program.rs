@@ -45,13 +45,12 @@ fn output_of(command: &[String], input: &[u8], feeding: Feeding) -> io::Result<V
         });
         read.and(fed)
     });
+    // Told first: a program that ended early is also why feeding it failed.
     let status = child.wait()?;
-    fed?;
-    if status.success() {
-        Ok(output)
-    } else {
-        Err(io::Error::other(format!("ended with {status}")))
+    if !status.success() {
+        return Err(io::Error::other(format!("ended with {status}")));
     }
+    fed.map(|()| output)
 }
 
 fn feed(mut stdin: impl Write, input: &[u8], feeding: Feeding) -> io::Result<()> {

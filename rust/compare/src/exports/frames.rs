@@ -35,7 +35,14 @@ impl Request for FramesListened {
     }
 
     fn question(&self) -> String {
-        format!("frames of {:?}", self.row)
+        let listeners: Vec<String> = (self.row.listeners.iter())
+            .map(|listener| format!("{}/{}", listener.frame, listener.collapse))
+            .collect();
+        format!(
+            "frames of the first {} listeners of frame/collapse {}",
+            self.row.count,
+            listeners.join(" ")
+        )
     }
 }
 
