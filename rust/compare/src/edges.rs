@@ -27,18 +27,18 @@ const TAILS: [&[u8]; 5] = [
     b"\r",
 ];
 
-pub fn compare(program: &str) -> Result<String, String> {
+pub fn compare(listing: &[String]) -> Result<String, String> {
     let mut compared = 0;
     for input in fixed_inputs() {
-        agree(program, &input, Feeding::AtOnce)?;
+        agree(listing, &input, Feeding::AtOnce)?;
         compared += 1;
         if input.len() <= 512 {
-            agree(program, &input, Feeding::ByteByByte)?;
+            agree(listing, &input, Feeding::ByteByByte)?;
             compared += 1;
         }
     }
     for input in probes_across_buffer_ends().chain(tails_across_buffer_ends()) {
-        agree(program, &input, Feeding::AtOnce)?;
+        agree(listing, &input, Feeding::AtOnce)?;
         compared += 1;
     }
     Ok(format!("edges: {compared} inputs compared, all agree"))

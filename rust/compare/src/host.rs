@@ -1,17 +1,29 @@
-//! The proved library's exports. Every answer has the refusal's number first,
-//! 0 where nothing is refused; on refusal all other fields are 0.
+//! The answers of the proved library's exports, as the exchange program hands
+//! them over. Every answer has the refusal's number first, 0 where nothing is
+//! refused; on refusal all other fields are 0.
+
+use std::io;
+
+use crate::exchange::Fields;
 
 /// How many listeners the library takes at most.
 pub const LISTENERS: usize = 16;
 
-#[repr(C)]
 #[derive(Clone, Copy, Debug, Default, PartialEq, Eq)]
 pub struct MortisevaneClass {
     pub number: u32,
     pub class: u32,
 }
 
-#[repr(C)]
+impl MortisevaneClass {
+    pub fn read(fields: &mut Fields) -> io::Result<Self> {
+        Ok(MortisevaneClass {
+            number: fields.u32()?,
+            class: fields.u32()?,
+        })
+    }
+}
+
 #[derive(Clone, Copy, Debug, Default, PartialEq, Eq)]
 pub struct MortisevaneWords {
     pub number: u32,
@@ -20,14 +32,32 @@ pub struct MortisevaneWords {
     pub second: u32,
 }
 
-#[repr(C)]
+impl MortisevaneWords {
+    pub fn read(fields: &mut Fields) -> io::Result<Self> {
+        Ok(MortisevaneWords {
+            number: fields.u32()?,
+            count: fields.u32()?,
+            first: fields.u32()?,
+            second: fields.u32()?,
+        })
+    }
+}
+
 #[derive(Clone, Copy, Debug, Default, PartialEq, Eq)]
 pub struct MortisevaneAddress {
     pub number: u32,
     pub address: u64,
 }
 
-#[repr(C)]
+impl MortisevaneAddress {
+    pub fn read(fields: &mut Fields) -> io::Result<Self> {
+        Ok(MortisevaneAddress {
+            number: fields.u32()?,
+            address: fields.u64()?,
+        })
+    }
+}
+
 #[derive(Clone, Copy, Debug, Default, PartialEq, Eq)]
 pub struct MortisevaneCapcode {
     pub number: u32,
@@ -39,7 +69,20 @@ pub struct MortisevaneCapcode {
     pub address: u64,
 }
 
-#[repr(C)]
+impl MortisevaneCapcode {
+    pub fn read(fields: &mut Fields) -> io::Result<Self> {
+        Ok(MortisevaneCapcode {
+            number: fields.u32()?,
+            letter: fields.u8()?,
+            frame: fields.u8()?,
+            collapse: fields.u8()?,
+            phase: fields.u8()?,
+            base: fields.u8()?,
+            address: fields.u64()?,
+        })
+    }
+}
+
 #[derive(Clone, Copy, Debug, Default, PartialEq, Eq)]
 pub struct MortisevaneAssignment {
     pub number: u32,
@@ -47,28 +90,43 @@ pub struct MortisevaneAssignment {
     pub base: u8,
 }
 
-#[repr(C)]
+impl MortisevaneAssignment {
+    pub fn read(fields: &mut Fields) -> io::Result<Self> {
+        Ok(MortisevaneAssignment {
+            number: fields.u32()?,
+            phase: fields.u8()?,
+            base: fields.u8()?,
+        })
+    }
+}
+
 #[derive(Clone, Copy, Debug, Default, PartialEq, Eq)]
 pub struct MortisevaneLength {
     pub number: u32,
-    pub length: usize,
+    pub length: u64,
 }
 
-#[repr(C)]
+impl MortisevaneLength {
+    pub fn read(fields: &mut Fields) -> io::Result<Self> {
+        Ok(MortisevaneLength {
+            number: fields.u32()?,
+            length: fields.u64()?,
+        })
+    }
+}
+
 #[derive(Clone, Copy, Debug, Default, PartialEq, Eq)]
 pub struct MortisevaneListener {
     pub frame: u8,
     pub collapse: u8,
 }
 
-#[repr(C)]
 #[derive(Clone, Copy, Debug, Default, PartialEq, Eq)]
 pub struct MortisevaneListeners {
     pub listeners: [MortisevaneListener; LISTENERS],
     pub count: u32,
 }
 
-#[repr(C)]
 #[derive(Clone, Copy, Debug, Default, PartialEq, Eq)]
 pub struct MortisevaneFrames {
     pub number: u32,
@@ -76,79 +134,31 @@ pub struct MortisevaneFrames {
     pub masks: [u16; 8],
 }
 
-#[repr(C)]
+impl MortisevaneFrames {
+    pub fn read(fields: &mut Fields) -> io::Result<Self> {
+        let mut frames = MortisevaneFrames {
+            number: fields.u32()?,
+            count: fields.u32()?,
+            ..Default::default()
+        };
+        for mask in &mut frames.masks {
+            *mask = fields.u16()?;
+        }
+        Ok(frames)
+    }
+}
+
 #[derive(Clone, Copy, Debug, Default, PartialEq, Eq)]
 pub struct MortisevaneWait {
     pub number: u32,
     pub frames: u32,
 }
 
-extern "C" {
-    fn mortisevane_address_class(address: u64) -> MortisevaneClass;
-    fn mortisevane_address_words(address: u64) -> MortisevaneWords;
-    fn mortisevane_word_address(word: u32) -> MortisevaneAddress;
-    fn mortisevane_pair_address(first: u32, second: u32) -> MortisevaneAddress;
-    fn mortisevane_capcode_read(text: *const u8, length: usize) -> MortisevaneCapcode;
-    fn mortisevane_capcode_assign(
-        letter: u8,
-        frame: u8,
-        collapse: u8,
-        address: u64,
-    ) -> MortisevaneAssignment;
-    fn mortisevane_capcode_print(
-        letter: u8,
-        frame: u8,
-        collapse: u8,
-        address: u64,
-        out: *mut u8,
-        out_length: usize,
-    ) -> MortisevaneLength;
-    fn mortisevane_frames_listened(listeners: MortisevaneListeners) -> MortisevaneFrames;
-    fn mortisevane_frames_wait(from: u8, to: u8) -> MortisevaneWait;
-}
-
-// SAFETY of all calls below: plain numbers go in and come out, and a pointer
-// goes only together with the length of the slice it was taken from.
-
-pub fn address_class(address: u64) -> MortisevaneClass {
-    unsafe { mortisevane_address_class(address) }
-}
-
-pub fn address_words(address: u64) -> MortisevaneWords {
-    unsafe { mortisevane_address_words(address) }
-}
-
-pub fn word_address(word: u32) -> MortisevaneAddress {
-    unsafe { mortisevane_word_address(word) }
-}
-
-pub fn pair_address(first: u32, second: u32) -> MortisevaneAddress {
-    unsafe { mortisevane_pair_address(first, second) }
-}
-
-pub fn capcode_read(text: &[u8]) -> MortisevaneCapcode {
-    unsafe { mortisevane_capcode_read(text.as_ptr(), text.len()) }
-}
-
-pub fn capcode_assign(letter: u8, frame: u8, collapse: u8, address: u64) -> MortisevaneAssignment {
-    unsafe { mortisevane_capcode_assign(letter, frame, collapse, address) }
-}
-
-pub fn capcode_print(
-    letter: u8,
-    frame: u8,
-    collapse: u8,
-    address: u64,
-    out: &mut [u8],
-) -> MortisevaneLength {
-    let length = out.len();
-    unsafe { mortisevane_capcode_print(letter, frame, collapse, address, out.as_mut_ptr(), length) }
-}
-
-pub fn frames_listened(listeners: MortisevaneListeners) -> MortisevaneFrames {
-    unsafe { mortisevane_frames_listened(listeners) }
-}
-
-pub fn frames_wait(from: u8, to: u8) -> MortisevaneWait {
-    unsafe { mortisevane_frames_wait(from, to) }
+impl MortisevaneWait {
+    pub fn read(fields: &mut Fields) -> io::Result<Self> {
+        Ok(MortisevaneWait {
+            number: fields.u32()?,
+            frames: fields.u32()?,
+        })
+    }
 }

@@ -1,10 +1,13 @@
 //! Runs a listing program and lays its output beside the second program's.
 
 use std::io::{self, Read, Write};
-use std::process::{Child, Command, Stdio};
+use std::process::Child;
 use std::thread;
 
 use second::listing::list;
+
+use crate::child::start;
+use crate::texts::shown;
 
 /// How the input reaches the program.
 #[derive(Clone, Copy)]
@@ -13,13 +16,11 @@ pub enum Feeding {
     ByteByByte,
 }
 
-/// Bytes of a line that are shown of a difference.
-const SHOWN_BYTES: usize = 300;
-
 /// Feeds the input to the program; the first line on which it and the second
 /// program differ is the error.
-pub fn agree(program: &str, input: &[u8], feeding: Feeding) -> Result<(), String> {
-    let told = output_of(program, input, feeding).map_err(|error| format!("{program}: {error}"))?;
+pub fn agree(command: &[String], input: &[u8], feeding: Feeding) -> Result<(), String> {
+    let told = output_of(command, input, feeding)
+        .map_err(|error| format!("{}: {error}", command.join(" ")))?;
     let mut expected = Vec::new();
     list(input, &mut expected).map_err(|error| error.to_string())?;
     if told == expected {
@@ -29,11 +30,8 @@ pub fn agree(program: &str, input: &[u8], feeding: Feeding) -> Result<(), String
     }
 }
 
-fn output_of(program: &str, input: &[u8], feeding: Feeding) -> io::Result<Vec<u8>> {
-    let mut child = Command::new(program)
-        .stdin(Stdio::piped())
-        .stdout(Stdio::piped())
-        .spawn()?;
+fn output_of(command: &[String], input: &[u8], feeding: Feeding) -> io::Result<Vec<u8>> {
+    let mut child = start(command)?;
     let mut output = Vec::new();
     // Feeding and reading go side by side: a pipe holds only so much.
     let fed = thread::scope(|scope| {
@@ -47,13 +45,12 @@ fn output_of(program: &str, input: &[u8], feeding: Feeding) -> io::Result<Vec<u8
         });
         read.and(fed)
     });
+    // Told first: a program that ended early is also why feeding it failed.
     let status = child.wait()?;
-    fed?;
-    if status.success() {
-        Ok(output)
-    } else {
-        Err(io::Error::other(format!("ended with {status}")))
+    if !status.success() {
+        return Err(io::Error::other(format!("ended with {status}")));
     }
+    fed.map(|()| output)
 }
 
 fn feed(mut stdin: impl Write, input: &[u8], feeding: Feeding) -> io::Result<()> {
@@ -86,26 +83,17 @@ fn first_difference(input: &[u8], told: &[u8], expected: &[u8]) -> String {
         .unwrap_or(0);
     // The header has no line of its own in the input.
     let line = match index.checked_sub(1) {
-        Some(line) => shown(lines(input).get(line)),
+        Some(line) => shown_line(lines(input).get(line)),
         None => "(the header)".to_string(),
     };
     format!(
         "output line {}\n  line    {line}\n  program {}\n  second  {}",
         index + 1,
-        shown(told.get(index)),
-        shown(expected.get(index))
+        shown_line(told.get(index)),
+        shown_line(expected.get(index))
     )
 }
 
-fn shown(line: Option<&Vec<u8>>) -> String {
-    match line {
-        None => "(nothing)".to_string(),
-        Some(line) if line.len() <= SHOWN_BYTES => line.escape_ascii().to_string(),
-        Some(line) => format!(
-            "{} .. ({} bytes) .. {}",
-            line[..SHOWN_BYTES / 2].escape_ascii(),
-            line.len(),
-            line[line.len() - SHOWN_BYTES / 2..].escape_ascii()
-        ),
-    }
+fn shown_line(line: Option<&Vec<u8>>) -> String {
+    line.map_or("(nothing)".to_string(), |line| shown(line))
 }

@@ -2,7 +2,10 @@
 //! second program. The first difference ends the run with exit code 1.
 
 mod boundaries;
+mod child;
+mod command_line;
 mod edges;
+mod exchange;
 mod exports;
 mod host;
 mod lines;
@@ -12,26 +15,19 @@ mod texts;
 mod yardstick;
 
 use std::env;
+use std::io;
 use std::process::ExitCode;
 
-const DEFAULT_LINES: u64 = 200_000;
-const DEFAULT_SEED: u64 = 5008;
-
-const USAGE: &str = "usage: compare lines LISTING_PROGRAM [COUNT] [SEED]
-       compare edges LISTING_PROGRAM
-       compare exports [SEED]";
+use command_line::Task;
 
 fn main() -> ExitCode {
-    let arguments: Vec<String> = env::args().skip(1).collect();
-    let Some(outcome) = run(&arguments) else {
-        eprintln!("{USAGE}");
+    let words: Vec<String> = env::args().skip(1).collect();
+    let Some(task) = command_line::read(&words) else {
+        eprintln!("{}", command_line::USAGE);
         return ExitCode::from(2);
     };
-    match outcome {
-        Ok(compared) => {
-            println!("{compared}");
-            ExitCode::SUCCESS
-        }
+    match carry_out(&task) {
+        Ok(()) => ExitCode::SUCCESS,
         Err(difference) => {
             eprintln!("{difference}");
             ExitCode::FAILURE
@@ -39,25 +35,20 @@ fn main() -> ExitCode {
     }
 }
 
-/// Nothing where the arguments are no command; else what was compared, or the
-/// first difference.
-fn run(arguments: &[String]) -> Option<Result<String, String>> {
-    let (command, rest) = arguments.split_first()?;
-    match (command.as_str(), rest) {
-        ("lines", [program, numbers @ ..]) if numbers.len() <= 2 => {
-            let count = number_or(numbers.first(), DEFAULT_LINES)?;
-            let seed = number_or(numbers.get(1), DEFAULT_SEED)?;
-            Some(lines::compare(program, count, seed))
+fn carry_out(task: &Task) -> Result<(), String> {
+    let compared = match task {
+        Task::Exports { exchange, seed } => exports::compare(exchange, *seed)?,
+        Task::Lines {
+            listing,
+            count,
+            seed,
+        } => lines::compare(listing, *count, *seed)?,
+        Task::Edges { listing } => edges::compare(listing)?,
+        Task::WriteLines { count, seed } => {
+            return lines::write(io::stdout().lock(), *count, *seed)
+                .map_err(|error| format!("the lines cannot be written: {error}"));
         }
-        ("edges", [program]) => Some(edges::compare(program)),
-        ("exports", numbers) if numbers.len() <= 1 => {
-            let seed = number_or(numbers.first(), DEFAULT_SEED)?;
-            Some(exports::compare(seed))
-        }
-        _ => None,
-    }
-}
-
-fn number_or(argument: Option<&String>, default: u64) -> Option<u64> {
-    argument.map_or(Some(default), |text| text.parse().ok())
+    };
+    println!("{compared}");
+    Ok(())
 }

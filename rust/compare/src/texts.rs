@@ -9,6 +9,8 @@ use crate::random::Random;
 pub const TYPE_LETTERS: &[u8] = b"ABCDEFGHIJKLUVWXYZ";
 /// The longest text that `long_text` makes.
 const LONGEST_TEXT: u64 = 200 * 1024;
+/// Bytes of a text that are shown where it matters.
+const SHOWN_BYTES: usize = 300;
 /// A short address and a long one, both accepted.
 const GOOD_ADDRESSES: [u64; 2] = [1_234, 2_101_249];
 
@@ -153,6 +155,20 @@ impl Texts {
             .map(|_| self.random.between(0x20, 0x7E) as u8)
             .collect()
     }
+}
+
+/// The text for the reader of a difference; of a long one its two ends.
+pub fn shown(text: &[u8]) -> String {
+    if text.len() <= SHOWN_BYTES {
+        return text.escape_ascii().to_string();
+    }
+    let half = SHOWN_BYTES / 2;
+    format!(
+        "{} .. ({} bytes) .. {}",
+        text[..half].escape_ascii(),
+        text.len(),
+        text[text.len() - half..].escape_ascii()
+    )
 }
 
 fn replace_line_feeds(text: &mut [u8]) {

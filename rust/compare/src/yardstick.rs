@@ -85,7 +85,10 @@ pub fn capcode_assign(capcode: &Capcode) -> MortisevaneAssignment {
 
 pub fn capcode_print(capcode: &Capcode, out: &mut [u8]) -> MortisevaneLength {
     match capcode::print(capcode, out) {
-        Ok(length) => MortisevaneLength { number: 0, length },
+        Ok(length) => MortisevaneLength {
+            number: 0,
+            length: length as u64,
+        },
         Err(refusal) => refused!(MortisevaneLength, refusal),
     }
 }

@@ -1,37 +1,78 @@
 //! Addresses: their class, and their words.
 
+use std::io;
+
 use crate::boundaries::{addresses_near_ends, likely_address};
-use crate::exports::agree;
+use crate::exchange::{self, Fields, Request};
+use crate::host::{MortisevaneClass, MortisevaneWords};
 use crate::random::Random;
-use crate::{host, yardstick};
+use crate::yardstick;
 
 const COUNT: usize = 1_000_000;
 
-pub fn compare(seed: u64) -> Result<usize, String> {
-    let mut random = Random::new(seed);
-    let near_ends = addresses_near_ends();
-    let fixed = fixed_addresses();
-    for index in 0..COUNT {
-        let address = match fixed.get(index) {
-            Some(&address) => address,
-            None => seeded_address(&mut random, &near_ends),
-        };
-        compare_address(address)?;
-    }
-    Ok(COUNT)
+struct AddressClass {
+    address: u64,
 }
 
-fn compare_address(address: u64) -> Result<(), String> {
-    agree(
-        || format!("class of address {address}"),
-        host::address_class(address),
-        yardstick::address_class(address),
-    )?;
-    agree(
-        || format!("words of address {address}"),
-        host::address_words(address),
-        yardstick::address_words(address),
-    )
+impl Request for AddressClass {
+    const EXPORT: u8 = 1;
+    type Answer = MortisevaneClass;
+
+    fn arguments(&self, bytes: &mut Vec<u8>) {
+        bytes.extend(self.address.to_le_bytes());
+    }
+
+    fn library(&self, fields: &mut Fields) -> io::Result<Self::Answer> {
+        MortisevaneClass::read(fields)
+    }
+
+    fn second(&self) -> Self::Answer {
+        yardstick::address_class(self.address)
+    }
+
+    fn question(&self) -> String {
+        format!("class of address {}", self.address)
+    }
+}
+
+struct AddressWords {
+    address: u64,
+}
+
+impl Request for AddressWords {
+    const EXPORT: u8 = 2;
+    type Answer = MortisevaneWords;
+
+    fn arguments(&self, bytes: &mut Vec<u8>) {
+        bytes.extend(self.address.to_le_bytes());
+    }
+
+    fn library(&self, fields: &mut Fields) -> io::Result<Self::Answer> {
+        MortisevaneWords::read(fields)
+    }
+
+    fn second(&self) -> Self::Answer {
+        yardstick::address_words(self.address)
+    }
+
+    fn question(&self) -> String {
+        format!("words of address {}", self.address)
+    }
+}
+
+/// Class and words are asked of the same addresses.
+pub fn compare(exchange: &[String], seed: u64) -> Result<usize, String> {
+    let classes = addresses(seed).map(|address| AddressClass { address });
+    exchange::compare(exchange, classes)?;
+    let words = addresses(seed).map(|address| AddressWords { address });
+    exchange::compare(exchange, words)
+}
+
+fn addresses(seed: u64) -> impl Iterator<Item = u64> + Send {
+    let mut random = Random::new(seed);
+    let near_ends = addresses_near_ends();
+    let seeded = std::iter::repeat_with(move || seeded_address(&mut random, &near_ends));
+    fixed_addresses().into_iter().chain(seeded).take(COUNT)
 }
 
 /// Every range end, every power of two and of ten, and their neighbours; and

@@ -1,38 +1,93 @@
 //! Frames listened to, and waits.
 
-use crate::exports::agree;
-use crate::host::{MortisevaneListener, MortisevaneListeners, LISTENERS};
+use std::io;
+
+use crate::exchange::{self, Fields, Request};
+use crate::host::{
+    MortisevaneFrames, MortisevaneListener, MortisevaneListeners, MortisevaneWait, LISTENERS,
+};
 use crate::random::Random;
-use crate::{host, yardstick};
+use crate::yardstick;
 
 const SEEDED_SETS: usize = 200_000;
 
-pub fn compare_listeners(seed: u64) -> Result<usize, String> {
-    let mut compared = 0;
-    // One listener of every frame and collapse a byte can hold.
-    for (frame, collapse) in every_two_bytes() {
-        let mut row = MortisevaneListeners {
-            count: 1,
-            ..Default::default()
-        };
-        row.listeners[0] = MortisevaneListener { frame, collapse };
-        compare_row(row)?;
-        compared += 1;
-    }
-    let mut random = Random::new(seed);
-    for _ in 0..SEEDED_SETS {
-        compare_row(seeded_row(&mut random))?;
-        compared += 1;
-    }
-    Ok(compared)
+struct FramesListened {
+    row: MortisevaneListeners,
 }
 
-fn compare_row(row: MortisevaneListeners) -> Result<(), String> {
-    agree(
-        || format!("frames of {row:?}"),
-        host::frames_listened(row),
-        yardstick::frames_listened(row),
-    )
+impl Request for FramesListened {
+    const EXPORT: u8 = 9;
+    type Answer = MortisevaneFrames;
+
+    fn arguments(&self, bytes: &mut Vec<u8>) {
+        for listener in &self.row.listeners {
+            bytes.extend([listener.frame, listener.collapse]);
+        }
+        bytes.extend(self.row.count.to_le_bytes());
+    }
+
+    fn library(&self, fields: &mut Fields) -> io::Result<Self::Answer> {
+        MortisevaneFrames::read(fields)
+    }
+
+    fn second(&self) -> Self::Answer {
+        yardstick::frames_listened(self.row)
+    }
+
+    fn question(&self) -> String {
+        let listeners: Vec<String> = (self.row.listeners.iter())
+            .map(|listener| format!("{}/{}", listener.frame, listener.collapse))
+            .collect();
+        format!(
+            "frames of the first {} listeners of frame/collapse {}",
+            self.row.count,
+            listeners.join(" ")
+        )
+    }
+}
+
+struct FramesWait {
+    from: u8,
+    to: u8,
+}
+
+impl Request for FramesWait {
+    const EXPORT: u8 = 8;
+    type Answer = MortisevaneWait;
+
+    fn arguments(&self, bytes: &mut Vec<u8>) {
+        bytes.extend([self.from, self.to]);
+    }
+
+    fn library(&self, fields: &mut Fields) -> io::Result<Self::Answer> {
+        MortisevaneWait::read(fields)
+    }
+
+    fn second(&self) -> Self::Answer {
+        yardstick::frames_wait(self.from, self.to)
+    }
+
+    fn question(&self) -> String {
+        format!("wait from frame {} to frame {}", self.from, self.to)
+    }
+}
+
+pub fn compare_listeners(exchange: &[String], seed: u64) -> Result<usize, String> {
+    let mut random = Random::new(seed);
+    let single = every_two_bytes().map(|(frame, collapse)| single_row(frame, collapse));
+    let seeded = (0..SEEDED_SETS).map(|_| seeded_row(&mut random));
+    let rows = single.chain(seeded);
+    exchange::compare(exchange, rows.map(|row| FramesListened { row }))
+}
+
+/// One listener, of any frame and collapse a byte can hold.
+fn single_row(frame: u8, collapse: u8) -> MortisevaneListeners {
+    let mut row = MortisevaneListeners {
+        count: 1,
+        ..Default::default()
+    };
+    row.listeners[0] = MortisevaneListener { frame, collapse };
+    row
 }
 
 /// Good listeners with, now and then, a wrong one anywhere, also behind those
@@ -61,17 +116,9 @@ fn seeded_row(random: &mut Random) -> MortisevaneListeners {
     row
 }
 
-pub fn compare_waits() -> Result<usize, String> {
-    let mut compared = 0;
-    for (from, to) in every_two_bytes() {
-        agree(
-            || format!("wait from frame {from} to frame {to}"),
-            host::frames_wait(from, to),
-            yardstick::frames_wait(from, to),
-        )?;
-        compared += 1;
-    }
-    Ok(compared)
+pub fn compare_waits(exchange: &[String]) -> Result<usize, String> {
+    let waits = every_two_bytes().map(|(from, to)| FramesWait { from, to });
+    exchange::compare(exchange, waits)
 }
 
 fn every_two_bytes() -> impl Iterator<Item = (u8, u8)> {

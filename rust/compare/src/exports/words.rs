@@ -1,9 +1,12 @@
 //! The way back from words to addresses.
 
+use std::io;
+
 use crate::boundaries::{words_near_ends, ADDRESS_ROWS};
-use crate::exports::agree;
+use crate::exchange::{self, Fields, Request};
+use crate::host::MortisevaneAddress;
 use crate::random::Random;
-use crate::{host, yardstick};
+use crate::yardstick;
 
 /// Every word of 21 bits, and half as many again above them.
 const WORDS_IN_TURN: u32 = 3 << 20;
@@ -13,47 +16,75 @@ const SEEDED_PAIRS: usize = 1_000_000;
 /// 01 names them: pairs of the right banks that belong to no CAPCODE.
 const PAIRS_OF_NOBODY: [(u32, u32); 2] = [(0x1F_7FFF, 0x1E_0001), (0x1F_8000, 0x1E_0001)];
 
-pub fn compare_words(seed: u64) -> Result<usize, String> {
-    let mut random = Random::new(seed);
-    let mut compared = 0;
-    let near_ends = words_near_ends();
-    let seeded = (0..SEEDED_WORDS).map(|_| random.number() as u32);
-    for word in (0..WORDS_IN_TURN).chain(near_ends).chain(seeded) {
-        agree(
-            || format!("address of word {word:06X}"),
-            host::word_address(word),
-            yardstick::word_address(word),
-        )?;
-        compared += 1;
-    }
-    Ok(compared)
+struct WordAddress {
+    word: u32,
 }
 
-pub fn compare_pairs(seed: u64) -> Result<usize, String> {
+impl Request for WordAddress {
+    const EXPORT: u8 = 3;
+    type Answer = MortisevaneAddress;
+
+    fn arguments(&self, bytes: &mut Vec<u8>) {
+        bytes.extend(self.word.to_le_bytes());
+    }
+
+    fn library(&self, fields: &mut Fields) -> io::Result<Self::Answer> {
+        MortisevaneAddress::read(fields)
+    }
+
+    fn second(&self) -> Self::Answer {
+        yardstick::word_address(self.word)
+    }
+
+    fn question(&self) -> String {
+        format!("address of word {:06X}", self.word)
+    }
+}
+
+struct PairAddress {
+    first: u32,
+    second: u32,
+}
+
+impl Request for PairAddress {
+    const EXPORT: u8 = 4;
+    type Answer = MortisevaneAddress;
+
+    fn arguments(&self, bytes: &mut Vec<u8>) {
+        bytes.extend(self.first.to_le_bytes());
+        bytes.extend(self.second.to_le_bytes());
+    }
+
+    fn library(&self, fields: &mut Fields) -> io::Result<Self::Answer> {
+        MortisevaneAddress::read(fields)
+    }
+
+    fn second(&self) -> Self::Answer {
+        yardstick::pair_address(self.first, self.second)
+    }
+
+    fn question(&self) -> String {
+        format!("address of words {:06X}, {:06X}", self.first, self.second)
+    }
+}
+
+pub fn compare_words(exchange: &[String], seed: u64) -> Result<usize, String> {
     let mut random = Random::new(seed);
-    let mut compared = 0;
+    let seeded = (0..SEEDED_WORDS).map(|_| random.number() as u32);
+    let words = (0..WORDS_IN_TURN).chain(words_near_ends()).chain(seeded);
+    exchange::compare(exchange, words.map(|word| WordAddress { word }))
+}
+
+pub fn compare_pairs(exchange: &[String], seed: u64) -> Result<usize, String> {
+    let mut random = Random::new(seed);
     let near_ends = words_near_ends();
     let fixed = near_ends
         .iter()
         .flat_map(|&first| near_ends.iter().map(move |&second| (first, second)));
-    for (first, second) in fixed.chain(PAIRS_OF_NOBODY) {
-        compare_pair(first, second)?;
-        compared += 1;
-    }
-    for _ in 0..SEEDED_PAIRS {
-        let (first, second) = seeded_pair(&mut random, &near_ends);
-        compare_pair(first, second)?;
-        compared += 1;
-    }
-    Ok(compared)
-}
-
-fn compare_pair(first: u32, second: u32) -> Result<(), String> {
-    agree(
-        || format!("address of words {first:06X}, {second:06X}"),
-        host::pair_address(first, second),
-        yardstick::pair_address(first, second),
-    )
+    let seeded = (0..SEEDED_PAIRS).map(|_| seeded_pair(&mut random, &near_ends));
+    let pairs = fixed.chain(PAIRS_OF_NOBODY).chain(seeded);
+    let requests = pairs.map(|(first, second)| PairAddress { first, second });
+    exchange::compare(exchange, requests)
 }
 
 fn seeded_pair(random: &mut Random, near_ends: &[u32]) -> (u32, u32) {

@@ -1,0 +1,140 @@
+//! What the command line asks for.
+
+const DEFAULT_LINES: u64 = 200_000;
+const DEFAULT_SEED: u64 = 5008;
+
+pub const USAGE: &str = "usage: compare exports EXCHANGE_COMMAND.. [--seed NUMBER]
+       compare lines LISTING_COMMAND.. [--count NUMBER] [--seed NUMBER]
+       compare edges LISTING_COMMAND..
+       compare write-lines COUNT [SEED]
+A command is a program and its arguments, such as
+`tools/run-x86-64 target/exchange/exchange`.";
+
+/// A command is a program and its arguments.
+#[derive(Debug, PartialEq, Eq)]
+pub enum Task {
+    Exports {
+        exchange: Vec<String>,
+        seed: u64,
+    },
+    Lines {
+        listing: Vec<String>,
+        count: u64,
+        seed: u64,
+    },
+    Edges {
+        listing: Vec<String>,
+    },
+    WriteLines {
+        count: u64,
+        seed: u64,
+    },
+}
+
+/// Nothing where the words ask for nothing known.
+pub fn read(words: &[String]) -> Option<Task> {
+    let (task, rest) = words.split_first()?;
+    match task.as_str() {
+        "exports" => {
+            let (exchange, [seed]) = command_and_numbers(rest, ["--seed"])?;
+            let seed = seed.unwrap_or(DEFAULT_SEED);
+            Some(Task::Exports { exchange, seed })
+        }
+        "lines" => {
+            let (listing, [count, seed]) = command_and_numbers(rest, ["--count", "--seed"])?;
+            Some(Task::Lines {
+                listing,
+                count: count.unwrap_or(DEFAULT_LINES),
+                seed: seed.unwrap_or(DEFAULT_SEED),
+            })
+        }
+        "edges" => {
+            let (listing, []) = command_and_numbers(rest, [])?;
+            Some(Task::Edges { listing })
+        }
+        "write-lines" => write_lines(rest),
+        _ => None,
+    }
+}
+
+fn write_lines(words: &[String]) -> Option<Task> {
+    let (count, seed) = match words {
+        [count] => (count.parse().ok()?, DEFAULT_SEED),
+        [count, seed] => (count.parse().ok()?, seed.parse().ok()?),
+        _ => return None,
+    };
+    Some(Task::WriteLines { count, seed })
+}
+
+/// Only at the end of the words are options ours; those before belong to the
+/// command. A name there without its number is a slip, and so no task.
+fn command_and_numbers<const NAMES: usize>(
+    mut words: &[String],
+    names: [&str; NAMES],
+) -> Option<(Vec<String>, [Option<u64>; NAMES])> {
+    let place = |word: &String| names.iter().position(|name| name == word);
+    let mut numbers = [None; NAMES];
+    while let [rest @ .., name, number] = words {
+        let Some(place) = place(name) else { break };
+        numbers[place] = Some(number.parse().ok()?);
+        words = rest;
+    }
+    let last = words.last()?;
+    match place(last) {
+        Some(_) => None,
+        None => Some((words.to_vec(), numbers)),
+    }
+}
+
+#[cfg(test)]
+mod tests {
+    use super::*;
+
+    fn words(line: &str) -> Vec<String> {
+        line.split_whitespace().map(str::to_string).collect()
+    }
+
+    #[test]
+    fn a_command_keeps_its_own_arguments() {
+        let line = "lines run --seed 1 listing --seed 7 --count 9";
+        let task = Task::Lines {
+            listing: words("run --seed 1 listing"),
+            count: 9,
+            seed: 7,
+        };
+        assert_eq!(read(&words(line)), Some(task));
+    }
+
+    #[test]
+    fn numbers_left_out_have_defaults() {
+        let task = Task::Exports {
+            exchange: words("run exchange"),
+            seed: DEFAULT_SEED,
+        };
+        assert_eq!(read(&words("exports run exchange")), Some(task));
+        let task = Task::WriteLines {
+            count: 3,
+            seed: DEFAULT_SEED,
+        };
+        assert_eq!(read(&words("write-lines 3")), Some(task));
+    }
+
+    #[test]
+    fn slips_are_no_task() {
+        for line in [
+            "",
+            "export run",
+            "exports",
+            "exports --seed 1",
+            "exports run --seed",
+            "exports run --seed one",
+            "lines --count 5",
+            "edges",
+            "write-lines",
+            "write-lines many",
+            "write-lines 1 2 3",
+        ] {
+            assert_eq!(read(&words(line)), None, "{line}");
+        }
+    }
+}
