@@ -1,7 +1,7 @@
 -- Words and addresses lead to each other: what document 01 promises of the way back.
 use Prim.Native.Nat.{ℕ, _+_, _-_, _*_, _/_, _%_, _≤_, _<_}
 use mathlib.Core.Bool.{Bool, true, false, _&&_, and-eq-true-iff}
-use mathlib.Core.Path.{_≡_, refl, ap, sym, _∙_}
+use mathlib.Core.Path.{_≡_, refl, ap, sym, _∙_, subst}
 use mathlib.Core.List.{List, [], _∷_, map}
 use mathlib.Core.Logic.{_⊎_, inl, inr, ⊎-elim}
 use lib.Dec.{leb, eqb}
@@ -176,6 +176,33 @@ others-refused words none =
 -- two accepted addresses never have the same words
 pub words-apart : (a b : ℕ) (words : List ℕ) → wordsOf a ≡ given words → wordsOf b ≡ given words → a ≡ b
 words-apart a b words e f = sym (words-lead-back a words e) ∙ words-lead-back b words f
+
+-- Table 23: each word lies between the two idle words, and so has 21 bits
+abbrev pub Codewords : List ℕ → Type 0
+Codewords [] = Unit
+Codewords (w ∷ ws) = ((0 < w) × (w < 0x1FFFFF)) × Codewords ws
+
+row-codewords : (class : Class) (address : ℕ) → rowOf class .from ≤ address → address ≤ rowOf class .to → Codewords (wordsAs (layoutOf class) address)
+unfolding rows
+row-codewords Short address low high = (omega arith, tt)
+row-codewords InformationService address low high = (omega arith, tt)
+row-codewords Network address low high = (omega arith, tt)
+row-codewords Operator address low high = (omega arith, tt)
+row-codewords Set12 address low high = (omega arith, (omega arith, tt))
+row-codewords Set13 address low high = (omega arith, (omega arith, tt))
+row-codewords Set14 address low high = (omega arith, (omega arith, tt))
+row-codewords Set23Country address low high = (omega arith, (omega arith, tt))
+row-codewords Set23InformationService address low high = (omega arith, (omega arith, tt))
+
+class-codewords : (found : Classed) (address : ℕ) (words : List ℕ) → classOf address ≡ found → wordsBy found address ≡ given words → Codewords words
+class-codewords (Classed.In class) address words e w =
+    let bounds = class-bounds address class e in
+    subst Codewords (given-tells (wordsAs (layoutOf class) address) words w) (row-codewords class address (bounds .0) (bounds .1))
+class-codewords (Classed.Refused r) address words e w = absurd (given-not-refused words r (sym w))
+
+-- the words of an accepted address are words that the decoder can be given
+pub words-sendable : (address : ℕ) (words : List ℕ) → wordsOf address ≡ given words → Codewords words
+words-sendable address words e = class-codewords (classOf address) address words refl (known-class address refl ∙ e)
 
 -- the class of a number of 01's rows
 abbrev classOfNumber : ℕ → Class

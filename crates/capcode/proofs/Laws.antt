@@ -1,10 +1,13 @@
 -- What the definitions promise: reading and printing are each other's way back, a text is in the form exactly if it is printed, an answer's telling is its own.
-use Prim.Native.Nat.{ℕ, _^_, _<_}
-use mathlib.Core.Path.{_≡_, sym, ap, _∙_}
+use Prim.Native.Nat.{ℕ, _^_, _≤_, _<_}
+use mathlib.Core.Bool.{Bool, true, false}
+use mathlib.Core.Path.{_≡_, refl, sym, ap, _∙_}
 use mathlib.Core.List.{List, [], _∷_}
 use native.Mathlib.Omega.{arith}
 use lib.ListN.{getD}
-use borrow.Author.Tests.{not-false}
+use borrow.Author.Tests.{leb-true, not-false}
+use lib.Dec.{leb}
+use Rattle.laws.proofs.Tests.{first-of, second-of}
 use Rattle.refusal.specs.Told.{Told, given}
 use Rattle.refusal.proofs.Laws.{toldValues, given-not-refused, refused-tells}
 use Rattle.address.proofs.Bounds.{accepted-below}
@@ -13,7 +16,7 @@ use Rattle.capcode.specs.declared.AssignAnswer.{AssignAnswer}
 use Rattle.capcode.specs.declared.ReadAnswer.{ReadAnswer}
 use Rattle.capcode.specs.declared.PrintAnswer.{PrintAnswer}
 use Rattle.capcode.specs.declared.Form.{Form}
-use Rattle.capcode.specs.Assigned.{Fine, phaseOf, baseOf, toldAssign}
+use Rattle.capcode.specs.Assigned.{Fine, standard, fieldsFit, phaseOf, baseOf, toldAssign}
 use Rattle.capcode.specs.Text.{textOf, Sayable, printOf, toldPrint}
 use Rattle.capcode.specs.Reads.{formOf, readBy, readOf, toldRead}
 use Rattle.capcode.proofs.Judging.{given-fine, fine-asked}
@@ -67,3 +70,14 @@ print-tells (PrintAnswer.Length n) (PrintAnswer.Length m) e = ap (λ (t : Told).
 print-tells (PrintAnswer.Length n) (PrintAnswer.Refused r) e = absurd (given-not-refused _ r e)
 print-tells (PrintAnswer.Refused r) (PrintAnswer.Length m) e = absurd (given-not-refused _ r (sym e))
 print-tells (PrintAnswer.Refused r) (PrintAnswer.Refused q) e = ap PrintAnswer.Refused (refused-tells r q e)
+
+-- the base frame of letters A to L is one of the 128 of a cycle, and so is the frame of the others where no field is too large
+base-by : (c : Capcode) (by-rule : Bool) → standard (c .letter) ≡ by-rule → fieldsFit c ≡ true → baseOf c ≤ 127
+base-by c true e fits = rw e (omega arith)
+base-by c false e fits = rw e (leb-true (c .frame) 127 (rw e at (second-of (leb (c .collapse) 5) _ fits)))
+
+-- what a fine CAPCODE assigns can be listened to: no frame over 127, no collapse over 5
+pub fine-listens : (c : Capcode) → Fine c → (baseOf c ≤ 127) × (c .collapse ≤ 5)
+fine-listens c fine =
+    let fits = not-false _ (fine .packet) in
+    (base-by c (standard (c .letter)) refl fits, leb-true (c .collapse) 5 (first-of _ _ fits))
