@@ -1,6 +1,6 @@
--- Texts put into a buffer one after the other, from the front or from the back.
-use Prim.Native.Nat.{ℕ, _+_, _≤_, _<_}
-use mathlib.Core.Path.{_≡_, sym, ap, _∙_}
+-- Texts put into a buffer one after the other, from the front or from the back, and the first part of what is joined.
+use Prim.Native.Nat.{ℕ, zero, suc, _+_, _≤_, _<_}
+use mathlib.Core.Path.{_≡_, refl, sym, ap, _∙_}
 use mathlib.Core.List.{List, [], _∷_, _++_, append-assoc, append-nil}
 use native.Mathlib.Nat.{add-zero, add-assoc}
 use native.Mathlib.Numerals.{add-one}
@@ -19,12 +19,12 @@ module _ {ℓ} {A : Type ℓ} where
   put-one buffer place a within = set-split buffer place a within ∙ rw (add-one, append-snoc)
 
   -- a text goes on behind what was put
-  pub put-behind : (buffer xs ys : List A) (place : ℕ) → place + length xs ≤ length buffer → put (put buffer place xs) (place + length xs) ys ≡ put buffer place (xs ++ ys)
+  pub put-behind : (buffer xs ys : List A) (place : ℕ) → place ≤ length buffer → put (put buffer place xs) (place + length xs) ys ≡ put buffer place (xs ++ ys)
   put-behind buffer xs ys place within =
       let front = take place buffer ++ xs in
       let back = drop (place + length xs) buffer in
       let here : length front ≡ place + length xs =
-      length-append (take place buffer) xs ∙ ap (λ (n : ℕ). n + length xs) (length-take-le place buffer (omega arith)) in
+      length-append (take place buffer) xs ∙ ap (λ (n : ℕ). n + length xs) (length-take-le place buffer within) in
       let rest : drop (place + length xs + length ys) (front ++ back) ≡ drop (place + length xs + length ys) buffer =
       ap (λ (n : ℕ). drop (n + length ys) (front ++ back)) (sym here) ∙ drop-append-add front back (length ys) ∙ drop-drop (length ys) (place + length xs) buffer in
       rw (take-at front back (place + length xs) here, rest, length-append xs ys, ← add-assoc place (length xs) (length ys)) (simp append-assoc)
@@ -54,3 +54,9 @@ module _ {ℓ} {A : Type ℓ} where
       ∙ ap (λ (n : ℕ). put (put buffer place (xs ++ a ∷ [])) n ys) (sym longer)
       ∙ put-behind buffer (xs ++ a ∷ []) ys place (omega arith)
       ∙ ap (put buffer place) (append-snoc xs a ys)
+
+  -- the first n of what is joined, where of the one part the first n are taken before
+  pub take-joined : (n : ℕ) (xs ys : List A) → take n (take n xs ++ ys) ≡ take n (xs ++ ys)
+  take-joined zero xs ys = refl
+  take-joined (suc n) [] ys = refl
+  take-joined (suc n) (x ∷ xs) ys = rw (take-joined n xs ys)
