@@ -1,1 +1,4 @@
 pub mod Lookup
+pub mod Given
+pub mod Bounds
+pub mod Laws

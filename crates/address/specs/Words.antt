@@ -1,5 +1,5 @@
 -- Addresses as words, and words as addresses (document 01, "Words (Table 24, hexadecimal)").
-use Prim.Native.Nat.{ℕ, _+_, _-_, _*_, _/_, _%_}
+use Prim.Native.Nat.{ℕ, _+_, _-_, _*_, _/_, _%_, _^_, _≤_, _<_}
 use mathlib.Core.Bool.{Bool, true, false, _&&_}
 use mathlib.Core.List.{List, [], _∷_}
 use lib.Dec.{leb, eqb}
@@ -8,6 +8,8 @@ use Rattle.refusal.specs.declared.Refusal.the-variants.{Range}
 use Rattle.refusal.specs.Told.{Told, told, refused, given}
 use Rattle.address.specs.declared.Class.{Class}
 use Rattle.address.specs.declared.Class.the-variants.{Short, InformationService, Network, Operator, Set12, Set13, Set14, Set23Country, Set23InformationService}
+use Rattle.address.specs.declared.Layout.{Layout}
+use Rattle.address.specs.declared.Layout.the-variants.{OneWord, Words12, Words13, Words23}
 use Rattle.address.specs.declared.Classed.{Classed}
 use Rattle.address.specs.declared.Worded.{Worded}
 use Rattle.address.specs.declared.Addressed.{Addressed}
@@ -33,21 +35,35 @@ pair13 address = firstOfSet1 address ∷ (0x1D8000 + (address - 0x1F9001) / 0x80
 abbrev pub pair23 : ℕ → List ℕ
 pair23 address = (0x1F7FFF + (address - 0x1F8FFF) % 0x8000) ∷ (0x1C8000 + (address - 0x1F8FFF) / 0x8000) ∷ []
 
--- Table 24: the words of an address of a class
-abbrev pub wordsIn : Class → ℕ → List ℕ
-wordsIn Short address = oneWord address
-wordsIn InformationService address = oneWord address
-wordsIn Network address = oneWord address
-wordsIn Operator address = oneWord address
-wordsIn Set12 address = pair12 address
-wordsIn Set13 address = pair13 address
-wordsIn Set14 address = pair13 address
-wordsIn Set23Country address = pair23 address
-wordsIn Set23InformationService address = pair23 address
+-- Table 24: which of its four lines a class goes by
+abbrev pub layoutOf : Class → Layout
+layoutOf Short = OneWord
+layoutOf InformationService = OneWord
+layoutOf Network = OneWord
+layoutOf Operator = OneWord
+layoutOf Set12 = Words12
+layoutOf Set13 = Words13
+layoutOf Set14 = Words13
+layoutOf Set23Country = Words23
+layoutOf Set23InformationService = Words23
+
+-- the words of an address by a line of Table 24
+abbrev pub wordsAs : Layout → ℕ → List ℕ
+wordsAs OneWord address = oneWord address
+wordsAs Words12 address = pair12 address
+wordsAs Words13 address = pair13 address
+wordsAs Words23 address = pair23 address
+
+-- the addresses whose words by that line are words of 21 bits, with no difference below 0
+abbrev pub FitsAs : Layout → ℕ → Type 0
+FitsAs OneWord address = address ≤ 0x1F7FFE
+FitsAs Words12 address = (0x1F9001 ≤ address) × (address < 2 ^ 32)
+FitsAs Words13 address = (0x1F9001 ≤ address) × (address < 2 ^ 32)
+FitsAs Words23 address = (0x1F8FFF ≤ address) × (address < 2 ^ 32)
 
 -- the words of an address whose class was looked up
 abbrev pub wordsBy : Classed → ℕ → Told
-wordsBy (Classed.In class) address = given (wordsIn class address)
+wordsBy (Classed.In class) address = given (wordsAs (layoutOf class) address)
 wordsBy (Classed.Refused r) address = refused r
 
 -- the words of an address, or 5
@@ -99,3 +115,15 @@ toldWorded (Worded.Refused r) = refused r
 abbrev pub toldAddressed : Addressed → Told
 toldAddressed (Addressed.Address address) = given (address ∷ [])
 toldAddressed (Addressed.Refused r) = refused r
+
+-- an answer that is the one word given
+abbrev pub isOne : Worded → ℕ → Bool
+isOne (Worded.One w) word = eqb w word
+isOne (Worded.Two a b) word = false
+isOne (Worded.Refused r) word = false
+
+-- an answer that is the two words given
+abbrev pub isPair : Worded → ℕ → ℕ → Bool
+isPair (Worded.One w) first second = false
+isPair (Worded.Two a b) first second = eqb a first && eqb b second
+isPair (Worded.Refused r) first second = false

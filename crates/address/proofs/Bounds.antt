@@ -1,0 +1,89 @@
+-- An address of a class lies in that class's row, and so its words can be built.
+use Prim.Native.Nat.{ℕ, _-_, _≤_}
+use mathlib.Core.Bool.{Bool, true, false, _&&_}
+use mathlib.Core.Path.{_≡_, refl, ap, sym, _∙_, subst}
+use mathlib.Core.List.{List, [], _∷_}
+use lib.Dec.{leb}
+use lib.ListN.{getD}
+use native.Mathlib.Omega.{arith}
+use borrow.Author.Tests.{leb-true}
+use Rattle.laws.specs.Choice.{pick}
+use Rattle.laws.proofs.Choice.{both-hold}
+use Rattle.refusal.specs.Told.{given}
+use Rattle.address.specs.declared.Class.{Class}
+use Rattle.address.specs.declared.Class.the-variants.{Short, InformationService, Network, Operator, Set12, Set13, Set14, Set23Country, Set23InformationService}
+use Rattle.address.specs.declared.Row.{Row}
+use Rattle.address.specs.declared.Classed.{Classed}
+use Rattle.address.specs.declared.Layout.{Layout}
+use Rattle.address.specs.Ranges.{rows, holds, classIn, classOf, classNumber}
+use Rattle.address.specs.Words.{layoutOf, wordsAs, wordsBy, wordsOf, FitsAs}
+
+-- the row of a class
+abbrev pub rowOf : Class → Row
+rowOf class = getD rows (classNumber class - 1) (record { from = 0; to = 0; class = Short })
+
+-- what holds of every row of a table
+abbrev Every : (Row → Type 0) → List Row → Type 0
+Every P [] = Unit
+Every P (r ∷ rs) = P r × Every P rs
+
+-- a row is the row of its class
+abbrev Own : Row → Type 0
+Own r = rowOf (r .class) ≡ r
+
+own-rows : Every Own rows
+unfolding rows
+own-rows = (refl, (refl, (refl, (refl, (refl, (refl, (refl, (refl, (refl, tt)))))))))
+
+in-one : {a b : Class} → Classed.In a ≡ Classed.In b → a ≡ b
+in-one e = cc
+
+-- one row of the table: it holds the address, or the rest has it
+at-row : (r : Row) (rest : Classed) (address : ℕ) (class : Class) (b : Bool) → holds r address ≡ b → Own r → pick b (Classed.In (r .class)) rest ≡ Classed.In class → (rest ≡ Classed.In class → holds (rowOf class) address ≡ true) → holds (rowOf class) address ≡ true
+at-row r rest address class true h own e later = ap (λ (x : Row). holds x address) (sym (ap rowOf (in-one e)) ∙ own) ∙ h
+at-row r rest address class false h own e later = later e
+
+-- an address found in a table lies in the row of its class
+in-row-by : (rs : List Row) (address : ℕ) (class : Class) → Every Own rs → classIn rs address ≡ Classed.In class → holds (rowOf class) address ≡ true
+unfolding classIn
+in-row-by [] address class own e = let no : _≡_ {A = ℕ} 0 1 = cc in absurd (omega arith)
+in-row-by (r ∷ rs) address class own e = at-row r (classIn rs address) address class (holds r address) refl (own .0) e (in-row-by rs address class (own .1))
+
+-- the ends of a row that holds an address
+row-bounds : (r : Row) (address : ℕ) → holds r address ≡ true → (r .from ≤ address) × (address ≤ r .to)
+row-bounds r address h =
+    let both = both-hold (leb (r .from) address) (leb address (r .to)) h in
+    (leb-true (r .from) address (both .0), leb-true address (r .to) (both .1))
+
+-- an address of a class lies between the ends of that class's row
+pub class-bounds : (address : ℕ) (class : Class) → classOf address ≡ Classed.In class → (rowOf class .from ≤ address) × (address ≤ rowOf class .to)
+unfolding classOf
+class-bounds address class e = row-bounds (rowOf class) address (in-row-by rows address class own-rows e)
+
+row-fits : (class : Class) (address : ℕ) → rowOf class .from ≤ address → address ≤ rowOf class .to → FitsAs (layoutOf class) address
+unfolding rows
+row-fits Short address low high = omega arith
+row-fits InformationService address low high = omega arith
+row-fits Network address low high = omega arith
+row-fits Operator address low high = omega arith
+row-fits Set12 address low high = omega arith
+row-fits Set13 address low high = omega arith
+row-fits Set14 address low high = omega arith
+row-fits Set23Country address low high = omega arith
+row-fits Set23InformationService address low high = omega arith
+
+-- .. where its words can be built
+pub class-fits : (address : ℕ) (class : Class) → classOf address ≡ Classed.In class → FitsAs (layoutOf class) address
+class-fits address class e = let h = class-bounds address class e in row-fits class address (h .0) (h .1)
+
+-- what fits one line of Table 24 fits the line that it is known to be, and has the same words
+pub known-fits : {a b : Layout} (address : ℕ) → a ≡ b → FitsAs a address → FitsAs b address
+known-fits address e h = subst (λ (l : Layout). FitsAs l address) e h
+
+pub known-words : {a b : Layout} (address : ℕ) → a ≡ b → given (wordsAs b address) ≡ given (wordsAs a address)
+known-words address e = sym (ap (λ (l : Layout). given (wordsAs l address)) e)
+
+-- the words of an address whose class is known, or known to be none
+pub known-class : {a : Classed} (address : ℕ) → classOf address ≡ a → wordsBy a address ≡ wordsOf address
+unfolding wordsOf
+known-class address e = sym (ap (λ (found : Classed). wordsBy found address) e)

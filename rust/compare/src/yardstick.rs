@@ -1,0 +1,116 @@
+//! The second program's answers, in the shape of the proved library's exports.
+
+use second::address::{self, Words};
+use second::capcode::{self, Capcode};
+use second::frames::{self, Listener};
+
+use crate::host::{
+    MortisevaneAddress, MortisevaneCapcode, MortisevaneClass, MortisevaneFrames, MortisevaneLength,
+    MortisevaneListeners, MortisevanePlace, MortisevaneWait, MortisevaneWords,
+};
+
+/// An answer of no: its number, and 0 in every other field.
+macro_rules! refused {
+    ($answer:ident, $refusal:expr) => {
+        $answer {
+            number: $refusal.number(),
+            ..Default::default()
+        }
+    };
+}
+
+pub fn address_class(address: u64) -> MortisevaneClass {
+    match address::address_class(address) {
+        Ok(class) => MortisevaneClass {
+            number: 0,
+            class: class.number(),
+        },
+        Err(refusal) => refused!(MortisevaneClass, refusal),
+    }
+}
+
+pub fn address_words(address: u64) -> MortisevaneWords {
+    let (count, first, second) = match address::address_words(address) {
+        Ok(Words::Short(word)) => (1, word, 0),
+        Ok(Words::Long { first, second }) => (2, first, second),
+        Err(refusal) => return refused!(MortisevaneWords, refusal),
+    };
+    MortisevaneWords {
+        number: 0,
+        count,
+        first,
+        second,
+    }
+}
+
+pub fn word_address(word: u32) -> MortisevaneAddress {
+    match address::word_address(word) {
+        Ok(address) => MortisevaneAddress { number: 0, address },
+        Err(refusal) => refused!(MortisevaneAddress, refusal),
+    }
+}
+
+pub fn pair_address(first: u32, second: u32) -> MortisevaneAddress {
+    match address::pair_address(first, second) {
+        Ok(address) => MortisevaneAddress { number: 0, address },
+        Err(refusal) => refused!(MortisevaneAddress, refusal),
+    }
+}
+
+pub fn capcode_read(text: &[u8]) -> MortisevaneCapcode {
+    match capcode::read_with_place(text) {
+        Ok((capcode, place)) => MortisevaneCapcode {
+            number: 0,
+            letter: capcode.letter,
+            frame: capcode.frame,
+            collapse: capcode.collapse,
+            phase: place.phase.number(),
+            base: place.base_frame,
+            address: capcode.address,
+        },
+        Err(refusal) => refused!(MortisevaneCapcode, refusal),
+    }
+}
+
+pub fn capcode_place(capcode: &Capcode) -> MortisevanePlace {
+    match capcode::place(capcode) {
+        Ok(place) => MortisevanePlace {
+            number: 0,
+            phase: place.phase.number(),
+            base: place.base_frame,
+        },
+        Err(refusal) => refused!(MortisevanePlace, refusal),
+    }
+}
+
+pub fn capcode_print(capcode: &Capcode, out: &mut [u8]) -> MortisevaneLength {
+    match capcode::print(capcode, out) {
+        Ok(length) => MortisevaneLength {
+            number: 0,
+            length: length as u32,
+        },
+        Err(refusal) => refused!(MortisevaneLength, refusal),
+    }
+}
+
+pub fn frames_listened(row: MortisevaneListeners) -> MortisevaneFrames {
+    let listeners = row.listeners.map(|listener| Listener {
+        frame: listener.frame,
+        collapse: listener.collapse,
+    });
+    match frames::frames_listened(&listeners, row.count) {
+        Ok(listened) => MortisevaneFrames {
+            number: 0,
+            count: listened.count,
+            masks: listened.masks,
+        },
+        Err(refusal) => refused!(MortisevaneFrames, refusal),
+    }
+}
+
+pub fn frames_wait(from: u8, to: u8) -> MortisevaneWait {
+    match frames::frames_wait(from, to) {
+        Ok(frames) => MortisevaneWait { number: 0, frames },
+        Err(refusal) => refused!(MortisevaneWait, refusal),
+    }
+}

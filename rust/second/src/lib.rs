@@ -1,0 +1,10 @@
+//! The second program: the rules of document 01 written once more in plain Rust.
+//!
+//! It exists to be compared with the proved library, so it is written from the
+//! documents alone and shares nothing with that library.
+
+pub mod address;
+pub mod capcode;
+pub mod frames;
+pub mod listing;
+pub mod refusal;

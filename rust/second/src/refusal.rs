@@ -1,0 +1,27 @@
+//! The answers of no that this part can give, numbered as in 01's table.
+
+/// Why an input was refused.
+#[derive(Clone, Copy, Debug, PartialEq, Eq)]
+pub enum Refusal {
+    /// A lent buffer is shorter than the answer needs.
+    Room = 1,
+    /// A CAPCODE text is not in the form.
+    Text = 3,
+    /// The form is right, but the letter is I to L or Z.
+    Type = 4,
+    /// The address, or the words, belong to no accepted range.
+    Range = 5,
+    /// The address is below its letter's offset.
+    Offset = 6,
+    /// A field is too large: frame over 127, collapse over 5.
+    Packet = 7,
+    /// Over 16 addresses.
+    Size = 9,
+}
+
+impl Refusal {
+    /// The number in 01's table of the eighteen answers of no.
+    pub fn number(self) -> u32 {
+        self as u32
+    }
+}
