@@ -1,27 +1,39 @@
 -- The listing by portions: what each byte writes, and where the listing then stands.
-use Prim.Native.Nat.{ℕ, zero, suc, _+_, _-_}
+use Prim.Native.Nat.{ℕ, zero, suc, _+_, _-_, _≤_}
 use mathlib.Core.Bool.{Bool, true, false}
+use mathlib.Core.Path.{_≡_}
 use mathlib.Core.List.{List, [], _∷_, _++_}
-use lib.Dec.{leb, eqb}
+use lib.Dec.{leb, ltb, eqb}
 use lib.ListN.{length, take}
 use Rattle.laws.specs.Choice.{pick}
+use Rattle.laws.specs.Lists.{put}
+use Rattle.refusal.specs.declared.Refusal.the-variants.{Room}
+use Rattle.refusal.specs.Told.{Told, refused, given, ask}
 use Rattle.lister.specs.declared.Lister.{Lister}
+use Rattle.lister.specs.declared.Fed.{Fed}
+use Rattle.lister.specs.declared.Course.{Course}
+use Rattle.lister.specs.declared.Written.{Written}
+use Rattle.lister.specs.declared.LineEnd.{LineEnd}
 use Rattle.lister.specs.Lines.{lineFeed, carriageReturn, shownByte, verdictOf}
 
 -- where a listing stands: the bytes of the present line that are kept, and whether a carriage return is held back
 pub data Stand : Type 0 where
   stand : List ℕ → Bool → Stand
 
+-- the bytes that a lister keeps of the present line; a count over sixteen stands for sixteen
+abbrev pub keptOf : Lister → List ℕ
+keptOf l = take (l .count) (l .line)
+
 -- where a lister stands
 abbrev pub standOf : Lister → Stand
-standOf l = stand (take (l .count) (l .line)) (l .held)
+standOf l = stand (keptOf l) (l .held)
 
 -- before the first byte, and behind a line feed
 abbrev pub fresh : Stand
 fresh = stand [] false
 
 -- the bytes kept of a line: no correct text has more than fifteen, so sixteen tell all
-abbrev pub kept : List ℕ → List ℕ
+unfoldable pub kept : List ℕ → List ℕ
 kept text = take 16 text
 
 -- the carriage return that was held back
@@ -35,13 +47,13 @@ heldShown true = shownByte carriageReturn
 heldShown false = []
 
 -- what a byte writes
-abbrev pub writes : Stand → ℕ → List ℕ
+unfoldable pub writes : Stand → ℕ → List ℕ
 writes (stand text held) byte =
     pick (eqb byte lineFeed) (verdictOf text)
     (heldShown held ++ pick (eqb byte carriageReturn) [] (shownByte byte))
 
 -- where the listing stands behind it
-abbrev pub next : Stand → ℕ → Stand
+unfoldable pub next : Stand → ℕ → Stand
 next (stand text held) byte =
     pick (eqb byte lineFeed) fresh
     (pick (eqb byte carriageReturn) (stand (kept (text ++ heldBytes held)) true)
@@ -73,5 +85,45 @@ closedText [] held = []
 closedText (b ∷ text) held = heldShown held ++ verdictOf (b ∷ text)
 
 -- .. from where the listing stands
-abbrev pub closes : Stand → List ℕ
+unfoldable pub closes : Stand → List ℕ
 closes (stand text held) = closedText (kept (text ++ heldBytes held)) held
+
+-- what is answered when a text is written at the start of a buffer: its length, or 1 where the buffer is shorter
+abbrev pub answerOf : List ℕ → List ℕ → Told
+answerOf buffer text = ask (ltb (length buffer) (length text)) Room (given (length text ∷ []))
+
+-- what the buffer holds then: the text at its start, or after a refusal what it held
+abbrev pub bufferAfter : List ℕ → List ℕ → List ℕ
+bufferAfter buffer text = pick (ltb (length buffer) (length text)) buffer (put buffer 0 text)
+
+-- how it is told
+abbrev pub toldWritten : Written → Told
+toldWritten (Written.Length n) = given (n ∷ [])
+toldWritten (Written.Refused r) = refused r
+
+-- a text was written at a place: `behind` is the place behind it, and `after` what the buffer holds
+pub record Wrote (buffer : List ℕ) (place : ℕ) (text : List ℕ) (behind : ℕ) (after : List ℕ) : Type 0 where
+  pub ends : behind ≡ place + length text
+  pub holds : after ≡ put buffer place text
+
+-- the end of a line holds a text, in the first of its bytes
+pub record Ends (text : List ℕ) (end : LineEnd) : Type 0 where
+  pub long : length (end .bytes) ≡ 23
+  pub within : end .length ≤ 23
+  pub bytes : take (end .length) (end .bytes) ≡ text
+
+-- where the listing of a portion stands, with the bytes of the line beside it
+abbrev pub standAt : List ℕ → Course → Stand
+standAt line course = stand (take (course .count) line) (course .held)
+
+-- what one byte more does: to the line, to where the listing of the portion stands, and to the buffer
+pub record FedByte (line : List ℕ) (before : Course) (buffer : List ℕ) (byte : ℕ) (kept : List ℕ) (course : Course) (after : List ℕ) : Type 0 where
+  pub taken : course .taken ≡ before .taken + 1
+  pub stands : standAt kept course ≡ next (standAt line before) byte
+  pub wrote : Wrote buffer (before .written) (writes (standAt line before) byte) (course .written) after
+
+-- what is done with a portion: how much of it is taken, where the listing then stands, and what was written
+pub record FedAll (s : Stand) (input buffer : List ℕ) (n : ℕ) (fed : Fed) (after : List ℕ) : Type 0 where
+  pub taken : fed .taken ≡ n
+  pub stands : standOf (fed .lister) ≡ nextAll s (take n input)
+  pub wrote : Wrote buffer 0 (writesAll s (take n input)) (fed .written) after

@@ -1,0 +1,4 @@
+pub mod Keeping
+pub mod Phase
+pub mod LineEnds
+pub mod Writes
