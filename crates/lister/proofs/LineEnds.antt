@@ -6,6 +6,7 @@ use mathlib.Core.List.{List, [], _∷_, _++_}
 use native.Mathlib.Omega.{arith}
 use lib.Dec.{eqb, ltb}
 use lib.ListN.{length, take, getD}
+use lib.Seq.{length-take-le}
 use borrow.Author.Tests.{lt-ltb, le-ltb, ne-eqb}
 use Rattle.laws.specs.Choice.{pick}
 use Rattle.refusal.specs.declared.Refusal.{Refusal}
@@ -69,3 +70,7 @@ module _ (r : Refusal) (n : ℕ) (number : n ≡ numberOf r) where
 pub told-ends : (text : List ℕ) (answer : Told) (end : LineEnd) → answer ≡ readOf text → Ends (verdictBy answer ++ lineFeed ∷ []) end → Ends (verdictOf text) end
 unfolding verdictOf
 told-ends text answer end e ends = rw e at ends
+
+-- an end is as long as its text
+pub ends-length : (text : List ℕ) (end : LineEnd) → Ends text end → length text ≡ end .length
+ends-length text end e = sym (ap length (e .bytes)) ∙ length-take-le (end .length) (end .bytes) (omega (arith, e .long, e .within))

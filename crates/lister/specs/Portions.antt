@@ -101,6 +101,11 @@ abbrev pub toldWritten : Written → Told
 toldWritten (Written.Length n) = given (n ∷ [])
 toldWritten (Written.Refused r) = refused r
 
+-- a text was written at a buffer's start, or refused: what is told, and what the buffer holds
+pub record Answered (buffer text : List ℕ) (written : Written) (after : List ℕ) : Type 0 where
+  pub tells : toldWritten written ≡ answerOf buffer text
+  pub holds : after ≡ bufferAfter buffer text
+
 -- a text was written at a place: `behind` is the place behind it, and `after` what the buffer holds
 pub record Wrote (buffer : List ℕ) (place : ℕ) (text : List ℕ) (behind : ℕ) (after : List ℕ) : Type 0 where
   pub ends : behind ≡ place + length text

@@ -10,7 +10,7 @@ ghost use Rattle.refusal.specs.Told.{refused};
 ghost use Rattle.capcode.specs.Text.{digits};
 ghost use Rattle.capcode.specs.Reads.{toldRead};
 ghost use Rattle.lister.specs.Lines.{lineFeed, header, hexDigit, shownByte, sixDigits, phaseShown, verdictBy, verdictOf};
-ghost use Rattle.lister.specs.Portions.{stand, standOf, standAt, fresh, kept, heldBytes, heldShown, writes, next, closes, mostWritten, takenOf, answerOf, bufferAfter, toldWritten, Wrote, Ends, FedByte, FedAll};
+ghost use Rattle.lister.specs.Portions.{stand, standOf, standAt, fresh, kept, heldBytes, heldShown, writes, next, closes, mostWritten, takenOf, Answered, Wrote, Ends, FedByte, FedAll};
 use address::Worded;
 use capcode::Assignment;
 use capcode::Capcode;
@@ -210,7 +210,7 @@ fn show(byte: u8, out: &mut [u8], place: usize) -> usize
 
 // Writes the carriage return that was held back, now that it is a byte of the line.
 fn show_held(held: bool, out: &mut [u8], place: usize) -> usize
-    requires { ⌜ place + 4 ≤ length (now out) ⌝ }
+    requires { ⌜ place + length (heldShown held) ≤ length (now out) ⌝ }
     ensures { λ r. ⌜ Wrote (now (out .entry)) place (heldShown held) r (now (out .exit)) ⌝ }
 {
     if held { show(13, out, place) } else { place }
@@ -323,31 +323,42 @@ pub fn feed(lister: Lister, input: &[u8], out: &mut [u8]) -> Fed
     }
 }
 
-// Writes the end of the last line, if it has a byte and no line feed.
+// How many bytes the carriage return that was held back takes.
+fn held_length(held: bool) -> usize
+    ensures { λ r. ⌜ r ≡ length (heldShown held) ⌝ }
+{
+    if held { 4 } else { 0 }
+}
+
+// Writes the end of a last line that no line feed ends.
+fn write_last(line: &[u8], count: usize, held: bool, out: &mut [u8]) -> Written
+    ensures { λ r. ⌜ Answered (now (out .entry)) (heldShown held ++ verdictOf (take count (now (line .entry)))) r (now (out .exit)) ⌝ }
+{
+    let end = end_of_line(line, count);
+    let length = end.length;
+    if out.len() < held_length(held) + length {
+        return Written::Refused(Refusal::Room);
+    }
+    let bytes = end.bytes;
+    let place = show_held(held, out, 0);
+    Written::Length(copy(&bytes[..length], out, place))
+}
+
+// Writes what stands behind the last byte: the end of the last line, if that has a byte and no line feed.
 pub fn close(lister: Lister, out: &mut [u8]) -> Written
-    ensures { λ r. ⌜ toldWritten r ≡ answerOf (now (out .entry)) (closes (standOf lister)) ⌝ }
-    ensures { λ r. ⌜ now (out .exit) ≡ bufferAfter (now (out .entry)) (closes (standOf lister)) ⌝ }
+    ensures { λ r. ⌜ Answered (now (out .entry)) (closes (standOf lister)) r (now (out .exit)) ⌝ }
 {
     let mut line = lister.line;
     let count = keep_held(&mut line, lister.count, lister.held);
     if count == 0 {
         return Written::Length(0);
     }
-    let end = end_of_line(&line, count);
-    let mark = if lister.held { 4 } else { 0 };
-    let length = end.length;
-    if out.len() < mark + length {
-        return Written::Refused(Refusal::Room);
-    }
-    let bytes = end.bytes;
-    let place = show_held(lister.held, out, 0);
-    Written::Length(copy(&bytes[..length], out, place))
+    write_last(&line, count, lister.held, out)
 }
 
 // Writes the listing's first line.
 pub fn title(out: &mut [u8]) -> Written
-    ensures { λ r. ⌜ toldWritten r ≡ answerOf (now (out .entry)) header ⌝ }
-    ensures { λ r. ⌜ now (out .exit) ≡ bufferAfter (now (out .entry)) header ⌝ }
+    ensures { λ r. ⌜ Answered (now (out .entry)) header r (now (out .exit)) ⌝ }
 {
     if out.len() < 42 {
         return Written::Refused(Refusal::Room);

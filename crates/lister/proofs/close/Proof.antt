@@ -1,64 +1,57 @@
+use Prim.Native.Nat.{_<_}
+use Rattle.lister.proofs.Writes.{wrote-none, room-there, answered-same, closes-none, closes-some}
+use mathlib.Core.List.{[]}
+use lib.ListN.{length, take, length-take}
+use native.Mathlib.Omega.{arith}
+use mathlib.Core.Path.{_≡_, refl, sym, ap, _∙_}
 use borrow.Author.Needs.{needs}
 use Rattle.lister.proofs.close.Statement.{statement}
 use Rattle.lister.proofs.close.Tie as tie
 use Rattle.lister.proofs.close.Reads as reads
 use Rattle.lister.proofs.close.Lts as lts
-use Rattle.lister.proofs.copy.Reads as copy-reads
-use Rattle.lister.proofs.end_of_line.Reads as end-of-line-reads
 use Rattle.lister.proofs.keep_held.Reads as keep-held-reads
-use Rattle.lister.proofs.show_held.Reads as show-held-reads
+use Rattle.lister.proofs.write_last.Reads as write-last-reads
 
--- src/lib.rt:332:27
+-- src/lib.rt:352:27
 slice-aggregate-keep-held : tie.Need-slice-aggregate-keep-held
-slice-aggregate-keep-held c = search needs
+slice-aggregate-keep-held c = let long : length (c .before .before .before .args .lister .line) ≡ 16 = search needs in sym long
 
--- src/lib.rt:332:9
+-- src/lib.rt:352:9
 keep-held-requires : tie.Need-keep-held-requires
 keep-held-requires c κs = search needs
 
--- src/lib.rt:334:9
+-- src/lib.rt:354:9
 returns : tie.Need-returns
-returns c = search needs
+returns c =
+    let k = c .before .before in
+    let s = k .before .before .before .before in
+    let out = s .args .out .now in
+    let whole = rw (c .if1 .taken) at (k .keep-held .ensures) in
+    answered-same out [] _ _ out (closes-none (take (s .args .lister .count) (s .args .lister .line)) (s .args .lister .held) [] whole refl) (room-there out [] 0 out (omega arith) (wrote-none out 0))
 
--- src/lib.rt:336:27
-slice-aggregate-end-of-line : tie.Need-slice-aggregate-end-of-line
-slice-aggregate-end-of-line c = search needs
+-- src/lib.rt:356:16
+slice-aggregate-write-last : tie.Need-slice-aggregate-write-last
+slice-aggregate-write-last c = search needs
 
--- src/lib.rt:336:9
-end-of-line-requires : tie.Need-end-of-line-requires
-end-of-line-requires c κs = search needs
+-- src/lib.rt:356:5
+write-last-requires : tie.Need-write-last-requires
+write-last-requires c κs = search needs
 
--- src/lib.rt:339:20
-add-if3 : tie.Need-add-if3
-add-if3 c = search needs
-
--- src/lib.rt:340:9
-returns-2 : tie.Need-returns-2
-returns-2 c = search needs
-
--- src/lib.rt:343:9
-show-held-requires : tie.Need-show-held-requires
-show-held-requires c κs = search needs
-
--- src/lib.rt:344:26
-array-share-prefix-bytes : tie.Need-array-share-prefix-bytes
-array-share-prefix-bytes c = search needs
-
--- src/lib.rt:344:26
-slice-aggregate-copy : tie.Need-slice-aggregate-copy
-slice-aggregate-copy c = search needs
-
--- src/lib.rt:344:21
-copy-requires : tie.Need-copy-requires
-copy-requires c κs = search needs
-
--- src/lib.rt:327:1
+-- src/lib.rt:348:1
 same-length : tie.Need-same-length
 same-length c = search needs
 
--- src/lib.rt:327:1
-returns-3 : tie.Need-returns-3
-returns-3 c = search needs
+-- src/lib.rt:348:1
+returns-2 : tie.Need-returns-2
+returns-2 c =
+    let w = c .before .before in
+    let d = w .before .before .before in
+    let k = d .before .before in
+    let s = k .before .before .before .before in
+    let long : length (s .args .lister .line) ≡ 16 = search needs in
+    let whole = take (k .keep-held .result) (k .keep-held .last .0) in
+    let some : 0 < length whole = omega (arith, length-take (k .keep-held .result) (k .keep-held .last .0), k .keep-held .kept, long, d .if1 .left) in
+    answered-same _ _ _ _ _ (closes-some (take (s .args .lister .count) (s .args .lister .line)) (s .args .lister .held) whole (k .keep-held .ensures) some) (w .write-last .ensures)
 
 pub close-spec : {M : Type 1} → statement M
 close-spec =
@@ -67,13 +60,7 @@ close-spec =
     slice-aggregate-keep-held
     keep-held-requires
     returns
-    slice-aggregate-end-of-line
-    end-of-line-requires
-    add-if3
-    returns-2
-    show-held-requires
-    array-share-prefix-bytes
-    slice-aggregate-copy
-    copy-requires
+    slice-aggregate-write-last
+    write-last-requires
     same-length
-    returns-3)
+    returns-2)

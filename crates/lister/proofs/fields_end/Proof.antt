@@ -88,10 +88,10 @@ returns c =
       long = refl;
       within = search needs;
       bytes =
-        rw (c .before .before .before .before .phase-mark .ensures)
-        (six-six (s .args .t1) (s .args .t2) (32 ∷ phaseShown (a .phase) ∷ 32 ∷ digits 3 (a .frame)) (32 ∷ digits 1 (s .args .c .collapse)) (lineFeed ∷ [])
-        (s .good .0 .1 .0 .1)
-        (s .good .1 .0 .1 .0 .1));
+          rw (c .before .before .before .before .phase-mark .ensures)
+          (six-six (s .args .t1) (s .args .t2) (32 ∷ phaseShown (a .phase) ∷ 32 ∷ digits 3 (a .frame)) (32 ∷ digits 1 (s .args .c .collapse)) (lineFeed ∷ [])
+          (s .good .0 .1 .0 .1)
+          (s .good .1 .0 .1 .0 .1));
     }
 
 pub fields-end-spec : {M : Type 1} → statement M

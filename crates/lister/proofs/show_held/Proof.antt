@@ -9,7 +9,7 @@ use Rattle.lister.proofs.show.Reads as show-reads
 
 -- src/lib.rt:271:15
 show-requires : tie.Need-show-requires
-show-requires c κs = search needs
+show-requires c κs = rw (c .before .if1 .taken) at (c .before .before .before .pre)
 
 -- src/lib.rt:267:1
 same-length : tie.Need-same-length

@@ -26,7 +26,7 @@ returns c =
 
 -- src/lib.rt:227:9
 show-held-requires : tie.Need-show-held-requires
-show-held-requires c κs = search needs
+show-held-requires c κs = omega (arith, held-length (c .before .before .before .before .args .course .held))
 
 -- src/lib.rt:229:9
 same-length-2 : tie.Need-same-length-2
