@@ -4,3 +4,7 @@ pub mod LineEnds
 pub mod Writes
 pub mod Lengths
 pub mod Progress
+pub mod Courses
+pub mod Reading
+pub mod Listed
+pub mod Laws
