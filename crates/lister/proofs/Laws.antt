@@ -4,14 +4,14 @@ use mathlib.Core.Bool.{Bool, true, false}
 use mathlib.Core.Path.{_≡_, refl, sym, ap, _∙_}
 use mathlib.Core.List.{List, [], _∷_, _++_, append-assoc, append-nil}
 use native.Mathlib.Omega.{arith}
-use lib.Dec.{leb, eqb}
+use lib.Dec.{leb, ltb}
 use lib.ListN.{length, take, getD, length-append}
 use lib.Seq.{take-all, length-take-le}
-use borrow.Author.Tests.{leb-true, le-leb}
+use borrow.Author.Tests.{leb-true, le-leb, ltb-false}
 use Rattle.laws.specs.Choice.{pick}
 use Rattle.laws.proofs.Writing.{take-joined}
-use Rattle.refusal.specs.declared.Refusal.the-variants.{Text}
-use Rattle.refusal.specs.Told.{Told, refused, given}
+use Rattle.refusal.specs.declared.Refusal.the-variants.{Text, Room}
+use Rattle.refusal.specs.Told.{refused, given, ask}
 use Rattle.refusal.proofs.Laws.{toldValues, given-not-refused, refused-tells}
 use Rattle.address.specs.Ranges.{rows, classIn, classOf}
 use Rattle.address.specs.Words.{wordsOf}
@@ -90,12 +90,28 @@ written-within s room (byte ∷ input) = by-test (leb mostWritten room) (takenOf
         omega (arith, length-append (writes s byte) (writesAll (next s byte) (take n input)), writes-short s byte, leb-true mostWritten room e)
     by-test false n e less = omega arith
 
+-- what `feed` takes and writes lies within the input and the buffer
+pub fed-within : (s : Stand) (input buffer : List ℕ) (fed : Fed) (after : List ℕ) → FedAll s input buffer (takenOf s (length buffer) input) fed after
+    → (fed .taken ≤ length input) × (fed .written ≤ length buffer)
+fed-within s input buffer fed after f =
+    (rw (f .taken) (taken-within s (length buffer) input), omega (arith, f .wrote .ends, written-within s (length buffer) input))
+
 -- a length or a refusal is told as itself alone
 pub written-tells : (a b : Written) → toldWritten a ≡ toldWritten b → a ≡ b
 written-tells (Written.Length n) (Written.Length m) e = ap Written.Length (ap (λ (values : List ℕ). getD values 0 0) (ap toldValues e))
 written-tells (Written.Length n) (Written.Refused r) e = absurd (given-not-refused (n ∷ []) r e)
 written-tells (Written.Refused r) (Written.Length m) e = absurd (given-not-refused (m ∷ []) r (sym e))
 written-tells (Written.Refused r) (Written.Refused q) e = ap Written.Refused (refused-tells r q e)
+
+-- a length that is told lies within the buffer
+pub told-within : (buffer text : List ℕ) (written : Written) (after : List ℕ) (n : ℕ) → Answered buffer text written after → written ≡ Written.Length n → n ≤ length buffer
+told-within buffer text written after n a e = by-test (ltb (length buffer) (length text)) refl (ap toldWritten (sym e) ∙ a .tells)
+  where
+    by-test : (b : Bool) → ltb (length buffer) (length text) ≡ b → given (n ∷ []) ≡ ask b Room (given (length text ∷ [])) → n ≤ length buffer
+    by-test true h f = absurd (given-not-refused (n ∷ []) Room f)
+    by-test false h f =
+        let same : n ≡ length text = ap (λ (values : List ℕ). getD values 0 0) (ap toldValues f) in
+        omega (arith, ltb-false (length buffer) (length text) h)
 
 -- `close` and `title` have one answer, and leave one buffer
 pub answered-one : (buffer text : List ℕ) (a b : Written) (after other : List ℕ) → Answered buffer text a after → Answered buffer text b other → (a ≡ b) × (after ≡ other)
