@@ -35,11 +35,11 @@ pub struct Fed {
 
 // Where the listing of a portion stands: how many bytes of the present line are kept, whether a carriage
 // return is held back, how many bytes of the portion were taken and how many written.
-pub struct Course {
-    pub count: usize,
-    pub held: bool,
-    pub taken: usize,
-    pub written: usize,
+struct Course {
+    count: usize,
+    held: bool,
+    taken: usize,
+    written: usize,
 }
 
 // How many bytes were written, or the refusal.
@@ -49,9 +49,9 @@ pub enum Written {
 }
 
 // What stands behind a text in the listing, its line feed with it: the first `length` of the bytes.
-pub struct LineEnd {
-    pub bytes: [u8; 23],
-    pub length: usize,
+struct LineEnd {
+    bytes: [u8; 23],
+    length: usize,
 }
 
 // Puts a text into a buffer at a place, and gives the place behind it.
@@ -67,12 +67,12 @@ fn copy(text: &[u8], out: &mut [u8], place: usize) -> usize
     place + i
 }
 
-// A hexadecimal digit, capitals.
+// A hexadecimal digit, capitals: ten is `A`, which is 65.
 fn hex_digit(d: u32) -> u8
     requires { ⌜ d < 16 ⌝ }
     ensures { λ r. ⌜ r ≡ hexDigit d ⌝ }
 {
-    if d < 10 { 48 + d as u8 } else { 55 + d as u8 }
+    if d < 10 { b'0' + d as u8 } else { 55 + d as u8 }
 }
 
 // A word as six hexadecimal digits.
@@ -94,7 +94,7 @@ fn phase_mark(phase: u8) -> u8
     requires { ⌜ phase < 191 ⌝ }
     ensures { λ r. ⌜ r ≡ phaseShown phase ⌝ }
 {
-    if phase == 4 { 42 } else { 65 + phase }
+    if phase == 4 { b'*' } else { b'A' + phase }
 }
 
 // What stands behind an accepted text, by its two words as they are shown.
@@ -104,29 +104,29 @@ fn fields_end(first: [u8; 6], second: [u8; 6], c: Capcode, a: Assignment) -> Lin
 {
     LineEnd {
         bytes: [
-            32,
+            b' ',
             first[0],
             first[1],
             first[2],
             first[3],
             first[4],
             first[5],
-            32,
+            b' ',
             second[0],
             second[1],
             second[2],
             second[3],
             second[4],
             second[5],
-            32,
+            b' ',
             phase_mark(a.phase),
-            32,
-            48 + a.frame / 10 / 10 % 10,
-            48 + a.frame / 10 % 10,
-            48 + a.frame % 10,
-            32,
-            48 + c.collapse % 10,
-            10,
+            b' ',
+            b'0' + a.frame / 10 / 10 % 10,
+            b'0' + a.frame / 10 % 10,
+            b'0' + a.frame % 10,
+            b' ',
+            b'0' + c.collapse % 10,
+            b'\n',
         ],
         length: 23,
     }
@@ -138,9 +138,9 @@ fn accepted_end(c: Capcode, a: Assignment) -> LineEnd
     ensures { λ r. ⌜ Ends (verdictBy (toldRead (ReadAnswer.Whole c a)) ++ lineFeed ∷ []) r ⌝ }
 {
     match address::words_of(c.address) {
-        Worded::One(word) => fields_end(six_digits(word), [45; 6], c, a),
+        Worded::One(word) => fields_end(six_digits(word), [b'-'; 6], c, a),
         Worded::Two(first, second) => fields_end(six_digits(first), six_digits(second), c, a),
-        Worded::Refused(_) => fields_end([48; 6], [45; 6], c, a),
+        Worded::Refused(_) => fields_end([b'0'; 6], [b'-'; 6], c, a),
     }
 }
 
@@ -149,15 +149,15 @@ fn refused_end(refusal: Refusal) -> LineEnd
     ensures { λ r. ⌜ Ends (verdictBy (refused refusal) ++ lineFeed ∷ []) r ⌝ }
 {
     let n = refusal.number();
-    let low = 48 + (n % 10) as u8;
+    let low = b'0' + (n % 10) as u8;
     let mut bytes = *b" REFUSED n\n............";
     if n < 10 {
         bytes[9] = low;
         return LineEnd { bytes, length: 11 };
     }
-    bytes[9] = 48 + (n / 10 % 10) as u8;
+    bytes[9] = b'0' + (n / 10 % 10) as u8;
     bytes[10] = low;
-    bytes[11] = 10;
+    bytes[11] = b'\n';
     LineEnd { bytes, length: 12 }
 }
 
@@ -197,15 +197,15 @@ fn show(byte: u8, out: &mut [u8], place: usize) -> usize
     requires { ⌜ place + 4 ≤ length (now out) ⌝ }
     ensures { λ r. ⌜ Wrote (now (out .entry)) place (shownByte byte) r (now (out .exit)) ⌝ }
 {
-    if byte == 92 {
-        return copy(&[92, 92], out, place);
+    if byte == b'\\' {
+        return copy(&[b'\\', b'\\'], out, place);
     }
-    if (32 <= byte) & (byte <= 126) {
+    if (b' ' <= byte) & (byte <= b'~') {
         return copy(&[byte], out, place);
     }
     let high = hex_digit((byte / 16) as u32);
     let low = hex_digit((byte % 16) as u32);
-    copy(&[92, 120, high, low], out, place)
+    copy(&[b'\\', b'x', high, low], out, place)
 }
 
 // Writes the carriage return that was held back, now that it is a byte of the line.
@@ -213,7 +213,7 @@ fn show_held(held: bool, out: &mut [u8], place: usize) -> usize
     requires { ⌜ place + length (heldShown held) ≤ length (now out) ⌝ }
     ensures { λ r. ⌜ Wrote (now (out .entry)) place (heldShown held) r (now (out .exit)) ⌝ }
 {
-    if held { show(13, out, place) } else { place }
+    if held { show(b'\r', out, place) } else { place }
 }
 
 // Writes what a byte of the input brings.
@@ -221,11 +221,11 @@ fn write_byte(line: &[u8], course: Course, byte: u8, out: &mut [u8]) -> usize
     requires { ⌜ course .written + mostWritten ≤ length (now out) ⌝ }
     ensures { λ r. ⌜ Wrote (now (out .entry)) (course .written) (writes (standAt (now (line .entry)) course) byte) r (now (out .exit)) ⌝ }
 {
-    if byte == 10 {
+    if byte == b'\n' {
         return write_end(line, course.count, out, course.written);
     }
     let shown = show_held(course.held, out, course.written);
-    if byte == 13 {
+    if byte == b'\r' {
         return shown;
     }
     show(byte, out, shown)
@@ -248,22 +248,26 @@ fn keep_held(line: &mut [u8], count: usize, held: bool) -> usize
     requires { ⌜ length (now line) ≡ 16 ⌝ }
     ensures { λ r. ⌜ take r (now (line .exit)) ≡ kept (take count (now (line .entry)) ++ heldBytes held) ⌝ }
 {
-    if held { keep(line, count, 13) } else { count }
+    if held {
+        keep(line, count, b'\r')
+    } else {
+        count
+    }
 }
 
 // Keeps what a byte of the input adds to its line.
-fn keep_byte(line: &mut [u8], count: usize, held: bool, byte: u8) -> usize
+fn keep_byte(line: &mut [u8], count: usize, held: bool, added: u8) -> usize
     requires { ⌜ length (now line) ≡ 16 ⌝ }
-    ensures { λ r. ⌜ stand (take r (now (line .exit))) (eqb byte 13) ≡ next (stand (take count (now (line .entry))) held) byte ⌝ }
+    ensures { λ r. ⌜ stand (take r (now (line .exit))) (eqb added 13) ≡ next (stand (take count (now (line .entry))) held) added ⌝ }
 {
-    if byte == 10 {
+    if added == b'\n' {
         return 0;
     }
     let before = keep_held(line, count, held);
-    if byte == 13 {
+    if added == b'\r' {
         return before;
     }
-    keep(line, before, byte)
+    keep(line, before, added)
 }
 
 // Where a listing stands before the first byte, and behind each line feed.
@@ -287,7 +291,7 @@ fn feed_byte(line: &mut [u8], course: Course, byte: u8, out: &mut [u8]) -> Cours
     let written = write_byte(line, course, byte, out);
     Course {
         count: keep_byte(line, course.count, course.held, byte),
-        held: byte == 13,
+        held: byte == b'\r',
         taken: course.taken + 1,
         written,
     }
