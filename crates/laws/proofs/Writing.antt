@@ -1,10 +1,10 @@
 -- Texts written into a buffer one behind the other, and the first bytes of what is joined.
-use Prim.Native.Nat.{ℕ, zero, suc, _+_, _≤_, _<_}
+use Prim.Native.Nat.{ℕ, zero, suc, _+_, _≤_}
 use mathlib.Core.Path.{_≡_, refl, sym, ap, _∙_}
 use mathlib.Core.List.{List, [], _∷_, _++_, append-assoc}
 use native.Mathlib.Omega.{arith}
-use lib.ListN.{length, take, drop, set, length-append, length-drop}
-use lib.Seq.{sets, sets-eq, length-take-le, take-at, drop-append-add, drop-drop, paste-zero}
+use lib.ListN.{length, take, drop, length-append}
+use lib.Seq.{length-take-le, take-at, drop-append-add, drop-drop, paste-zero}
 use Rattle.laws.specs.Lists.{put}
 
 module _ {ℓ} {A : Type ℓ} (buffer : List A) (place : ℕ) where
@@ -12,19 +12,9 @@ module _ {ℓ} {A : Type ℓ} (buffer : List A) (place : ℕ) where
   pub put-none : put buffer place [] ≡ buffer
   put-none = sym (paste-zero buffer place [])
 
-  -- stores one behind the other are a text
-  pub stores-put : (text : List A) → place + length text ≤ length buffer → sets buffer place text ≡ put buffer place text
-  stores-put text fits = sets-eq text buffer place fits
-
   -- what stands before a text and the text itself
   head-length : (text : List A) → place ≤ length buffer → length (take place buffer ++ text) ≡ place + length text
   head-length text within = length-append (take place buffer) text ∙ ap (λ (n : ℕ). n + length text) (length-take-le place buffer within)
-
-  -- a text that fits leaves the buffer's length
-  pub length-put : (text : List A) → place + length text ≤ length buffer → length (put buffer place text) ≡ length buffer
-  length-put text fits =
-      length-append (take place buffer ++ text) (drop (place + length text) buffer)
-      ∙ omega (arith, head-length text (omega arith), length-drop (place + length text) buffer)
 
   -- a text and one right behind it are the two joined
   pub put-put : (text more : List A) → place ≤ length buffer → put (put buffer place text) (place + length text) more ≡ put buffer place (text ++ more)

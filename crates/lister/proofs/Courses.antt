@@ -7,12 +7,12 @@ use mathlib.Core.Logic.{_⊎_, ⊎-elim}
 use native.Mathlib.Omega.{arith}
 use lib.Dec.{leb, eqb}
 use lib.ListN.{length}
-use borrow.Author.Tests.{leb-true, eqb-true, eqb-false, eq-eqb, ne-eqb, le-leb}
+use borrow.Author.Tests.{leb-true, eqb-true, eqb-false, ne-eqb, le-leb}
 use Rattle.laws.specs.Choice.{pick}
 use Rattle.capcode.specs.declared.Reading.{Reading}
 use Rattle.capcode.specs.declared.Step.{Step}
 use Rattle.capcode.specs.Assigned.{standard, framed}
-use Rattle.capcode.specs.Reads.{isDigit, headGoesOn, letterGoesOn, addressGoesOn, withHead, withLetter, withAddress, stepOf, Course, going, stopped, onward, follow, blank}
+use Rattle.capcode.specs.Reads.{isDigit, headGoesOn, letterGoesOn, addressGoesOn, withHead, withLetter, withAddress, stepOf, going, stopped, onward, follow, blank}
 use Rattle.capcode.proofs.Judging.{first-of, second-of}
 use Rattle.capcode.proofs.Steps.{step-head, step-letter, step-address, step-stop, digit-from, digit-to}
 use Rattle.capcode.proofs.Sound.{Sound, sound-blank, sound-bounded, sound-step, went-on, either-of}

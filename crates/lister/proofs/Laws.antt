@@ -2,14 +2,12 @@
 use Prim.Native.Nat.{ℕ, suc, _+_, _-_, _≤_, _<_}
 use mathlib.Core.Bool.{Bool, true, false}
 use mathlib.Core.Path.{_≡_, refl, sym, ap, _∙_}
-use mathlib.Core.List.{List, [], _∷_, _++_, append-assoc, append-nil}
+use mathlib.Core.List.{List, [], _∷_, _++_, append-assoc}
 use native.Mathlib.Omega.{arith}
 use lib.Dec.{leb, ltb}
 use lib.ListN.{length, take, getD, length-append}
-use lib.Seq.{take-all, length-take-le}
 use borrow.Author.Tests.{leb-true, le-leb, ltb-false}
 use Rattle.laws.specs.Choice.{pick}
-use Rattle.laws.proofs.Writing.{take-joined}
 use Rattle.refusal.specs.declared.Refusal.the-variants.{Text, Room}
 use Rattle.refusal.specs.Told.{refused, given, ask}
 use Rattle.refusal.proofs.Laws.{toldValues, given-not-refused, refused-tells}
@@ -22,8 +20,8 @@ use Rattle.capcode.specs.declared.Form.{Form}
 use Rattle.capcode.specs.Reads.{stepOf, Course, going, stopped, follow, blank, endOf, formOf, readOf}
 use Rattle.lister.specs.declared.Fed.{Fed}
 use Rattle.lister.specs.declared.Written.{Written}
-use Rattle.lister.specs.Lines.{lineFeed, carriageReturn, header, shownByte, shown, verdictBy, verdictOf, lineOf, withoutReturn, listedFrom, listing}
-use Rattle.lister.specs.Portions.{Stand, stand, standOf, fresh, kept, heldBytes, heldShown, writes, next, writesAll, nextAll, mostWritten, takenOf, closedText, closes, toldWritten, Answered, FedAll}
+use Rattle.lister.specs.Lines.{header, shown, verdictOf, withoutReturn, listedFrom, listing}
+use Rattle.lister.specs.Portions.{Stand, standOf, fresh, kept, writes, next, writesAll, nextAll, mostWritten, takenOf, closes, toldWritten, Answered, FedAll}
 use Rattle.lister.proofs.Lengths.{writes-short}
 use Rattle.lister.proofs.Progress.{next-joined, writes-joined}
 use Rattle.lister.proofs.Courses.{follow-shown}

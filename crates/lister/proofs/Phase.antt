@@ -1,13 +1,12 @@
 -- The phase of a text that was read: small enough for its mark to be a byte.
 use Prim.Native.Nat.{ℕ, _-_, _/_, _%_, _<_}
 use mathlib.Core.Bool.{Bool, true, false}
-use mathlib.Core.Path.{_≡_, refl, sym, ap, _∙_}
-use mathlib.Core.List.{List, [], _∷_}
+use mathlib.Core.Path.{_≡_, sym, ap}
+use mathlib.Core.List.{List}
 use native.Mathlib.Omega.{arith}
 use lib.ListN.{getD}
 use Rattle.laws.specs.Choice.{pick}
 use Rattle.refusal.specs.declared.Refusal.the-variants.{Text}
-use Rattle.refusal.specs.Told.{Told, given}
 use Rattle.refusal.proofs.Laws.{toldValues, given-not-refused}
 use Rattle.capcode.specs.declared.Capcode.{Capcode}
 use Rattle.capcode.specs.declared.Assignment.{Assignment}

@@ -1,20 +1,16 @@
 -- The listing of a portion, byte by byte: where it stands, and what is left.
-use Prim.Native.Nat.{ℕ, zero, suc, _+_, _-_, _≤_, _<_}
-use mathlib.Core.Bool.{Bool, true, false}
+use Prim.Native.Nat.{ℕ, suc, _+_, _-_, _≤_, _<_}
+use mathlib.Core.Bool.{Bool}
 use mathlib.Core.Path.{_≡_, refl, sym, ap, _∙_}
 use mathlib.Core.List.{List, [], _∷_, _++_, append-assoc, append-nil}
 use mathlib.Core.Logic.{_⊎_, ⊎-elim}
 use native.Mathlib.Numerals.{add-one}
 use native.Mathlib.Omega.{arith}
-use lib.Dec.{leb}
-use lib.ListN.{length, take, drop, getD, length-take, drop-of-length-le}
-use lib.Seq.{take-suc, drop-cons, length-take-le}
+use lib.ListN.{length, take, drop, getD, drop-of-length-le}
+use lib.Seq.{take-suc, drop-cons}
 use borrow.Author.Tests.{le-leb, lt-leb}
-use Rattle.laws.specs.Choice.{pick}
-use Rattle.lister.specs.declared.Lister.{Lister}
-use Rattle.lister.specs.declared.Fed.{Fed}
 use Rattle.lister.specs.declared.Course.{Course}
-use Rattle.lister.specs.Portions.{Stand, stand, standOf, standAt, fresh, writes, next, writesAll, nextAll, mostWritten, takenOf, Wrote, FedByte, FedAll}
+use Rattle.lister.specs.Portions.{Stand, stand, standAt, writes, next, writesAll, nextAll, mostWritten, takenOf, Wrote, FedByte, FedAll}
 use Rattle.lister.proofs.Writes.{wrote-none, wrote-same, wrote-then}
 use Rattle.lister.proofs.Lengths.{writes-short}
 

@@ -1,17 +1,15 @@
 -- What is written, piece by piece.
 use Prim.Native.Nat.{ℕ, _+_, _≤_, _<_, _/_, _%_}
 use mathlib.Core.Bool.{Bool, true, false, _&&_}
-use mathlib.Core.Path.{_≡_, refl, sym, ap, _∙_}
+use mathlib.Core.Path.{_≡_, refl, sym, _∙_}
 use mathlib.Core.List.{List, [], _∷_, _++_, append-nil}
 use native.Mathlib.Omega.{arith}
-use lib.Dec.{eqb, leb}
+use lib.Dec.{leb}
 use lib.ListN.{length, length-append}
 use borrow.Author.Tests.{eq-eqb, ne-eqb, lt-ltb, le-ltb}
-use Rattle.laws.specs.Choice.{pick}
-use Rattle.laws.specs.Lists.{put}
-use Rattle.laws.proofs.Writing.{put-none, put-put, length-put}
-use Rattle.lister.specs.Lines.{hexDigit, shownByte, verdictOf}
+use Rattle.laws.proofs.Writing.{put-none, put-put}
 use Rattle.refusal.specs.declared.Refusal.the-variants.{Room}
+use Rattle.lister.specs.Lines.{hexDigit, shownByte, verdictOf}
 use Rattle.lister.specs.declared.Written.{Written}
 use Rattle.lister.specs.Portions.{stand, kept, heldBytes, heldShown, writes, closedText, closes, Answered, Wrote}
 

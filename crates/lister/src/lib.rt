@@ -1,7 +1,7 @@
 // The listing of CAPCODE lines (document 01, "The listing program"), by portions of any size: bytes of
 // lines in, bytes of the listing out.
 ghost use mathlib.Core.Path.{_≡_};
-ghost use mathlib.Core.Bool.{true, false};
+ghost use mathlib.Core.Bool.{false};
 ghost use mathlib.Core.List.{[], _∷_, _++_};
 ghost use Prim.Native.Nat.{_+_, _^_, _≤_, _<_};
 ghost use lib.ListN.{length, take};

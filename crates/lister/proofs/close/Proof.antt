@@ -1,26 +1,20 @@
+-- `close` meets its contract: nothing where no byte is kept, else the end of the last line.
 use Prim.Native.Nat.{_<_}
-use Rattle.lister.proofs.Writes.{wrote-none, room-there, answered-same, closes-none, closes-some}
 use mathlib.Core.List.{[]}
-use lib.ListN.{length, take, length-take}
+use mathlib.Core.Path.{_≡_, refl, sym}
 use native.Mathlib.Omega.{arith}
-use mathlib.Core.Path.{_≡_, refl, sym, ap, _∙_}
+use lib.ListN.{length, take, length-take}
 use borrow.Author.Needs.{needs}
+use Rattle.lister.proofs.Writes.{wrote-none, room-there, answered-same, closes-none, closes-some}
 use Rattle.lister.proofs.close.Statement.{statement}
 use Rattle.lister.proofs.close.Tie as tie
-use Rattle.lister.proofs.close.Reads as reads
-use Rattle.lister.proofs.close.Lts as lts
-use Rattle.lister.proofs.keep_held.Reads as keep-held-reads
-use Rattle.lister.proofs.write_last.Reads as write-last-reads
 
--- src/lib.rt:352:27
 slice-aggregate-keep-held : tie.Need-slice-aggregate-keep-held
 slice-aggregate-keep-held c = let long : length (c .before .before .before .args .lister .line) ≡ 16 = search needs in sym long
 
--- src/lib.rt:352:9
 keep-held-requires : tie.Need-keep-held-requires
 keep-held-requires c κs = search needs
 
--- src/lib.rt:354:9
 returns : tie.Need-returns
 returns c =
     let k = c .before .before in
@@ -29,19 +23,15 @@ returns c =
     let whole = rw (c .if1 .taken) at (k .keep-held .ensures) in
     answered-same out [] _ _ out (closes-none (take (s .args .lister .count) (s .args .lister .line)) (s .args .lister .held) [] whole refl) (room-there out [] 0 out (omega arith) (wrote-none out 0))
 
--- src/lib.rt:356:16
 slice-aggregate-write-last : tie.Need-slice-aggregate-write-last
 slice-aggregate-write-last c = search needs
 
--- src/lib.rt:356:5
 write-last-requires : tie.Need-write-last-requires
 write-last-requires c κs = search needs
 
--- src/lib.rt:348:1
 same-length : tie.Need-same-length
 same-length c = search needs
 
--- src/lib.rt:348:1
 returns-2 : tie.Need-returns-2
 returns-2 c =
     let w = c .before .before in

@@ -1,30 +1,23 @@
-use mathlib.Core.Path.{_≡_, refl, sym, ap, _∙_}
+-- `end_of_line` meets its contract: a count over the length takes the whole line.
+use mathlib.Core.Path.{sym}
 use native.Mathlib.Omega.{arith}
 use lib.Seq.{length-take-le, take-all}
 use borrow.Author.Needs.{needs}
 use Rattle.lister.proofs.end_of_line.Statement.{statement}
 use Rattle.lister.proofs.end_of_line.Tie as tie
-use Rattle.lister.proofs.end_of_line.Reads as reads
-use Rattle.lister.proofs.end_of_line.Lts as lts
-use Rattle.lister.proofs.end_of_text.Reads as end-of-text-reads
 
--- src/lib.rt:229:28
 slice-aggregate-end-of-text : tie.Need-slice-aggregate-end-of-text
 slice-aggregate-end-of-text c = sym (length-take-le (c .before .before .before .args .count) (c .before .before .before .args .line .now) (omega arith))
 
--- src/lib.rt:229:9
 end-of-text-requires : tie.Need-end-of-text-requires
 end-of-text-requires c κs = search needs
 
--- src/lib.rt:229:9
 returns : tie.Need-returns
 returns c = search needs
 
--- src/lib.rt:231:5
 end-of-text-requires-2 : tie.Need-end-of-text-requires-2
 end-of-text-requires-2 c κs = search needs
 
--- src/lib.rt:225:1
 returns-2 : tie.Need-returns-2
 returns-2 c = rw (take-all _ _ (c .before .if1 .left)) (c .end-of-text2 .ensures)
 

@@ -1,16 +1,14 @@
-use Rattle.lister.proofs.Progress.{Progress, progress-start, progress-turn, progress-end}
-use Rattle.lister.specs.Portions.{standAt}
-use lib.ListN.{length}
-use mathlib.Core.Logic.{inl, inr}
+-- `feed` meets its contract: `Progress` holds between two bytes, and at the end is what is asked.
 use Prim.Native.Nat.{_-_}
+use mathlib.Core.Logic.{inl, inr}
+use mathlib.Core.Path.{_≡_, sym}
 use native.Mathlib.Omega.{arith}
-use mathlib.Core.Path.{_≡_, refl, sym, ap, _∙_}
+use lib.ListN.{length}
 use borrow.Author.Needs.{needs}
+use Rattle.lister.specs.Portions.{standAt}
+use Rattle.lister.proofs.Progress.{Progress, progress-start, progress-turn, progress-end}
 use Rattle.lister.proofs.feed.Statement.{statement}
 use Rattle.lister.proofs.feed.Tie as tie
-use Rattle.lister.proofs.feed.Reads as reads
-use Rattle.lister.proofs.feed.Lts as lts
-use Rattle.lister.proofs.feed_byte.Reads as feed-byte-reads
 
 abbrev Inv-loop : tie.InvT-loop
 Inv-loop input out₀ line₀ course₀ out line course = Progress (standAt line₀ course₀) input out₀ line course out
@@ -18,41 +16,34 @@ Inv-loop input out₀ line₀ course₀ out line course = Progress (standAt line
 abbrev μ-loop : tie.MeasureT-loop
 μ-loop input out₀ line₀ course₀ out line course = length input - course .taken
 
--- src/lib.rt:308:5
 loop-holds : tie.Need-loop-holds Inv-loop μ-loop
 loop-holds c =
     let s = c .before .before .before in
     let long : length (s .args .lister .line) ≡ 16 = search needs in
     progress-start (s .args .lister .line) _ _ (s .args .lister .count) (s .args .lister .held) long
 
--- src/lib.rt:309:12
 sub-if2 : tie.Need-sub-if2 Inv-loop μ-loop
 sub-if2 c =
     let p = c .before .before .before .loop .inv in
     omega (arith, p .fits, p .same)
 
--- src/lib.rt:313:28
 slice-aggregate-feed-byte : tie.Need-slice-aggregate-feed-byte Inv-loop μ-loop
 slice-aggregate-feed-byte c = sym (c .before .before .before .before .before .loop .inv .sixteen)
 
--- src/lib.rt:313:47
 shared-slice-read-feed-byte : tie.Need-shared-slice-read-feed-byte Inv-loop μ-loop
 shared-slice-read-feed-byte c = search needs
 
--- src/lib.rt:313:9
 feed-byte-requires : tie.Need-feed-byte-requires Inv-loop μ-loop
 feed-byte-requires c κs =
     let d = c .before .before .before in
     let p = d .before .before .before .before .loop .inv in
     (p .sixteen, (omega (arith, d .if2 .left, p .fits, p .same), omega arith))
 
--- src/lib.rt:308:5
 loop-less : tie.Need-loop-less Inv-loop μ-loop
 loop-less c =
     let f = c .before .before .before in
     omega (arith, f .feed-byte .ensures .taken)
 
--- src/lib.rt:308:5
 loop-again : tie.Need-loop-again Inv-loop μ-loop
 loop-again c =
     let f = c .before .before .before in
@@ -61,19 +52,15 @@ loop-again c =
     let p = a .loop .inv in
     progress-turn _ _ _ _ _ _ p _ _ _ (d .before .before .if1 .taken) (omega (arith, d .if2 .left, p .same)) (omega (arith, f .feed-byte .kept)) (omega (arith, f .feed-byte .kept, p .same)) (f .feed-byte .ensures)
 
--- src/lib.rt:298:1
 same-length : tie.Need-same-length Inv-loop μ-loop
 same-length c = c .before .before .loop .inv .same
 
--- src/lib.rt:298:1
 returns : tie.Need-returns Inv-loop μ-loop
 returns c = progress-end _ _ _ _ _ _ (c .before .before .loop .inv) (inl (c .if1 .left))
 
--- src/lib.rt:298:1
 same-length-2 : tie.Need-same-length-2 Inv-loop μ-loop
 same-length-2 c = c .before .before .before .before .loop .inv .same
 
--- src/lib.rt:298:1
 returns-2 : tie.Need-returns-2 Inv-loop μ-loop
 returns-2 c =
     let p = c .before .before .before .before .loop .inv in

@@ -1,84 +1,64 @@
-use Rattle.lister.specs.Lines.{lineFeed, phaseShown}
+-- `fields_end` meets its contract: the bytes are the two lists of six with what stands round them.
 use mathlib.Core.List.{[], _∷_}
-use Rattle.capcode.specs.Text.{digits}
-use Rattle.lister.proofs.LineEnds.{six-six}
-use mathlib.Core.Path.{_≡_, refl, sym, ap, _∙_}
+use mathlib.Core.Path.{refl}
 use borrow.Author.Needs.{needs}
+use Rattle.capcode.specs.Text.{digits}
+use Rattle.lister.specs.Lines.{lineFeed, phaseShown}
+use Rattle.lister.proofs.LineEnds.{six-six}
 use Rattle.lister.proofs.fields_end.Statement.{statement}
 use Rattle.lister.proofs.fields_end.Tie as tie
-use Rattle.lister.proofs.fields_end.Reads as reads
-use Rattle.lister.proofs.fields_end.Lts as lts
-use Rattle.lister.proofs.phase_mark.Reads as phase-mark-reads
 
--- src/lib.rt:108:13
 array-read-t9 : tie.Need-array-read-t9
 array-read-t9 c = search needs
 
--- src/lib.rt:109:13
 array-read-t12 : tie.Need-array-read-t12
 array-read-t12 c = search needs
 
--- src/lib.rt:110:13
 array-read-t15 : tie.Need-array-read-t15
 array-read-t15 c = search needs
 
--- src/lib.rt:111:13
 array-read-t18 : tie.Need-array-read-t18
 array-read-t18 c = search needs
 
--- src/lib.rt:112:13
 array-read-t21 : tie.Need-array-read-t21
 array-read-t21 c = search needs
 
--- src/lib.rt:113:13
 array-read-t24 : tie.Need-array-read-t24
 array-read-t24 c = search needs
 
--- src/lib.rt:115:13
 array-read-t27 : tie.Need-array-read-t27
 array-read-t27 c = search needs
 
--- src/lib.rt:116:13
 array-read-t30 : tie.Need-array-read-t30
 array-read-t30 c = search needs
 
--- src/lib.rt:117:13
 array-read-t33 : tie.Need-array-read-t33
 array-read-t33 c = search needs
 
--- src/lib.rt:118:13
 array-read-t36 : tie.Need-array-read-t36
 array-read-t36 c = search needs
 
--- src/lib.rt:119:13
 array-read-t39 : tie.Need-array-read-t39
 array-read-t39 c = search needs
 
--- src/lib.rt:120:13
 array-read-t42 : tie.Need-array-read-t42
 array-read-t42 c = search needs
 
--- src/lib.rt:122:13
 phase-mark-requires : tie.Need-phase-mark-requires
 phase-mark-requires c κs = search needs
 
--- src/lib.rt:124:13
 add-t47 : tie.Need-add-t47
 add-t47 c = search needs
 
--- src/lib.rt:125:13
 add-t50 : tie.Need-add-t50
 add-t50 c = search needs
 
--- src/lib.rt:126:13
 add-t52 : tie.Need-add-t52
 add-t52 c = search needs
 
--- src/lib.rt:128:13
 add-t54 : tie.Need-add-t54
 add-t54 c = search needs
 
--- src/lib.rt:101:1
 returns : tie.Need-returns
 unfolding digits
 returns c =

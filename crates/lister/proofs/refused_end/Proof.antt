@@ -1,55 +1,42 @@
-use Rattle.lister.proofs.LineEnds.{refused-one, refused-two}
-use mathlib.Core.Path.{_≡_, refl, sym, ap, _∙_}
+-- `refused_end` meets its contract: the number has one digit, or two.
+use mathlib.Core.Path.{refl}
 use borrow.Author.Needs.{needs}
+use Rattle.lister.proofs.LineEnds.{refused-one, refused-two}
 use Rattle.lister.proofs.refused_end.Statement.{statement}
 use Rattle.lister.proofs.refused_end.Tie as tie
-use Rattle.lister.proofs.refused_end.Reads as reads
-use Rattle.lister.proofs.refused_end.Lts as lts
-use Rattle.refusal.proofs.Refusal.number.Reads as number-reads
 
--- src/lib.rt:151:9
 number-requires : tie.Need-number-requires
 number-requires c κs = search needs
 
--- src/lib.rt:152:20
 cast-low : tie.Need-cast-low
 cast-low c = search needs
 
--- src/lib.rt:152:15
 add-low : tie.Need-add-low
 add-low c = search needs
 
--- src/lib.rt:155:9
 array-write-bytes : tie.Need-array-write-bytes
 array-write-bytes c = search needs
 
--- src/lib.rt:156:9
 returns : tie.Need-returns
 returns c =
     let n = c .before .before .before in
     record { long = refl; within = search needs; bytes = refused-one (n .before .args .refusal) (n .number .result) (n .number .ensures) (c .if1 .taken) }
 
--- src/lib.rt:158:21
 cast-bytes : tie.Need-cast-bytes
 cast-bytes c = search needs
 
--- src/lib.rt:158:16
 add-bytes : tie.Need-add-bytes
 add-bytes c = search needs
 
--- src/lib.rt:158:5
 array-write-bytes-2 : tie.Need-array-write-bytes-2
 array-write-bytes-2 c = search needs
 
--- src/lib.rt:159:5
 array-write-bytes-3 : tie.Need-array-write-bytes-3
 array-write-bytes-3 c = search needs
 
--- src/lib.rt:160:5
 array-write-bytes-4 : tie.Need-array-write-bytes-4
 array-write-bytes-4 c = search needs
 
--- src/lib.rt:148:1
 returns-2 : tie.Need-returns-2
 returns-2 c =
     let n = c .before .before .before in

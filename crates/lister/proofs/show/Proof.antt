@@ -1,80 +1,60 @@
-use mathlib.Core.Path.{_≡_, refl, sym, ap, _∙_}
-use Rattle.lister.proofs.Writes.{wrote-same, shown-slash, shown-plain, shown-escaped}
+-- `show` meets its contract: a backslash, a printable byte, or an escaped one.
 use borrow.Author.Needs.{needs}
+use Rattle.lister.proofs.Writes.{wrote-same, shown-slash, shown-plain, shown-escaped}
 use Rattle.lister.proofs.show.Statement.{statement}
 use Rattle.lister.proofs.show.Tie as tie
-use Rattle.lister.proofs.show.Reads as reads
-use Rattle.lister.proofs.show.Lts as lts
-use Rattle.lister.proofs.copy.Reads as copy-reads
-use Rattle.lister.proofs.hex_digit.Reads as hex-digit-reads
 
--- src/lib.rt:201:21
 slice-aggregate-copy : tie.Need-slice-aggregate-copy
 slice-aggregate-copy c = search needs
 
--- src/lib.rt:201:9
 copy-requires : tie.Need-copy-requires
 copy-requires c κs = search needs
 
--- src/lib.rt:201:9
 same-length : tie.Need-same-length
 same-length c = search needs
 
--- src/lib.rt:201:9
 returns : tie.Need-returns
 returns c =
     let k = c .before .before in
     let d = k .before .before .before in
     wrote-same _ _ _ _ _ _ (shown-slash _ (d .if1 .taken)) (k .copy .ensures)
 
--- src/lib.rt:204:21
 slice-aggregate-copy-2 : tie.Need-slice-aggregate-copy-2
 slice-aggregate-copy-2 c = search needs
 
--- src/lib.rt:204:9
 copy-requires-2 : tie.Need-copy-requires-2
 copy-requires-2 c κs = search needs
 
--- src/lib.rt:204:9
 same-length-2 : tie.Need-same-length-2
 same-length-2 c = search needs
 
--- src/lib.rt:204:9
 returns-2 : tie.Need-returns-2
 returns-2 c =
     let k = c .before .before in
     let d = k .before .before .before in
     wrote-same _ _ _ _ _ _ (shown-plain _ (d .before .if1 .left) (d .if2 .taken)) (k .copy2 .ensures)
 
--- src/lib.rt:206:26
 cast-hex-digit : tie.Need-cast-hex-digit
 cast-hex-digit c = search needs
 
--- src/lib.rt:206:9
 hex-digit-requires : tie.Need-hex-digit-requires
 hex-digit-requires c κs = search needs
 
--- src/lib.rt:207:25
 cast-hex-digit-2 : tie.Need-cast-hex-digit-2
 cast-hex-digit-2 c = search needs
 
--- src/lib.rt:207:9
 hex-digit-requires-2 : tie.Need-hex-digit-requires-2
 hex-digit-requires-2 c κs = search needs
 
--- src/lib.rt:208:10
 slice-aggregate-copy-3 : tie.Need-slice-aggregate-copy-3
 slice-aggregate-copy-3 c = search needs
 
--- src/lib.rt:208:5
 copy-requires-3 : tie.Need-copy-requires-3
 copy-requires-3 c κs = search needs
 
--- src/lib.rt:196:1
 same-length-3 : tie.Need-same-length-3
 same-length-3 c = search needs
 
--- src/lib.rt:196:1
 returns-3 : tie.Need-returns-3
 returns-3 c =
     let k = c .before .before in

@@ -1,36 +1,26 @@
-use mathlib.Core.Path.{_≡_, refl, sym, ap, _∙_}
+-- `six_digits` meets its contract: each digit is one of the six.
 use borrow.Author.Needs.{needs}
 use Rattle.lister.proofs.six_digits.Statement.{statement}
 use Rattle.lister.proofs.six_digits.Tie as tie
-use Rattle.lister.proofs.six_digits.Reads as reads
-use Rattle.lister.proofs.six_digits.Lts as lts
-use Rattle.lister.proofs.hex_digit.Reads as hex-digit-reads
 
--- src/lib.rt:83:9
 hex-digit-requires : tie.Need-hex-digit-requires
 hex-digit-requires c κs = search needs
 
--- src/lib.rt:84:9
 hex-digit-requires-2 : tie.Need-hex-digit-requires-2
 hex-digit-requires-2 c κs = search needs
 
--- src/lib.rt:85:9
 hex-digit-requires-3 : tie.Need-hex-digit-requires-3
 hex-digit-requires-3 c κs = search needs
 
--- src/lib.rt:86:9
 hex-digit-requires-4 : tie.Need-hex-digit-requires-4
 hex-digit-requires-4 c κs = search needs
 
--- src/lib.rt:87:9
 hex-digit-requires-5 : tie.Need-hex-digit-requires-5
 hex-digit-requires-5 c κs = search needs
 
--- src/lib.rt:88:9
 hex-digit-requires-6 : tie.Need-hex-digit-requires-6
 hex-digit-requires-6 c κs = search needs
 
--- src/lib.rt:79:1
 returns : tie.Need-returns
 returns c = cc
 

@@ -1,54 +1,40 @@
-use Rattle.lister.proofs.Writes.{wrote-same, wrote-then, held-length, writes-line, writes-held, writes-byte}
+-- `write_byte` meets its contract: a line feed, a carriage return, or any other byte.
 use native.Mathlib.Omega.{arith}
-use mathlib.Core.Path.{_≡_, refl, sym, ap, _∙_}
 use borrow.Author.Needs.{needs}
+use Rattle.lister.proofs.Writes.{wrote-same, wrote-then, held-length, writes-line, writes-held, writes-byte}
 use Rattle.lister.proofs.write_byte.Statement.{statement}
 use Rattle.lister.proofs.write_byte.Tie as tie
-use Rattle.lister.proofs.write_byte.Reads as reads
-use Rattle.lister.proofs.write_byte.Lts as lts
-use Rattle.lister.proofs.show.Reads as show-reads
-use Rattle.lister.proofs.show_held.Reads as show-held-reads
-use Rattle.lister.proofs.write_end.Reads as write-end-reads
 
--- src/lib.rt:225:9
 write-end-requires : tie.Need-write-end-requires
 write-end-requires c κs = search needs
 
--- src/lib.rt:225:9
 same-length : tie.Need-same-length
 same-length c = search needs
 
--- src/lib.rt:225:9
 returns : tie.Need-returns
 returns c =
     let k = c .before .before in
     wrote-same _ _ _ _ _ _ (writes-line _ _ _ (k .before .before .if1 .taken)) (k .write-end .ensures)
 
--- src/lib.rt:227:9
 show-held-requires : tie.Need-show-held-requires
 show-held-requires c κs = omega (arith, held-length (c .before .before .before .before .args .course .held))
 
--- src/lib.rt:229:9
 same-length-2 : tie.Need-same-length-2
 same-length-2 c = search needs
 
--- src/lib.rt:229:9
 returns-2 : tie.Need-returns-2
 returns-2 c =
     let k = c .before .before .before in
     wrote-same _ _ _ _ _ _ (writes-held _ _ _ (c .if2 .taken)) (k .show-held .ensures)
 
--- src/lib.rt:231:5
 show-requires : tie.Need-show-requires
 show-requires c κs =
     let k = c .before .before .before .before in
     omega (arith, k .show-held .ensures .ends, held-length (k .before .before .before .before .before .args .course .held), k .show-held .kept)
 
--- src/lib.rt:220:1
 same-length-3 : tie.Need-same-length-3
 same-length-3 c = search needs
 
--- src/lib.rt:220:1
 returns-3 : tie.Need-returns-3
 returns-3 c =
     let k = c .before .before in

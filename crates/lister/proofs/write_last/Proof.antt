@@ -1,37 +1,26 @@
-use lib.ListN.{take}
-use Rattle.lister.proofs.Writes.{held-length}
+-- `write_last` meets its contract: what was held back and the end right behind it, where both fit.
+use mathlib.Core.List.{_++_}
+use mathlib.Core.Path.{sym}
+use native.Mathlib.Omega.{arith}
+use lib.ListN.{take, length, length-append}
+use lib.Seq.{length-take-le}
+use borrow.Author.Needs.{needs}
 use Rattle.lister.specs.Portions.{heldShown}
 use Rattle.lister.specs.Lines.{verdictOf}
+use Rattle.lister.proofs.Writes.{held-length, wrote-same, wrote-then, room-lacks, room-there}
 use Rattle.lister.proofs.LineEnds.{ends-length}
-use Rattle.lister.proofs.Writes.{wrote-same, wrote-then, room-lacks, room-there}
-use mathlib.Core.List.{_++_}
-use lib.Seq.{length-take-le}
-use lib.ListN.{length, length-append}
-use native.Mathlib.Omega.{arith}
-use mathlib.Core.Path.{_≡_, refl, sym, ap, _∙_}
-use borrow.Author.Needs.{needs}
 use Rattle.lister.proofs.write_last.Statement.{statement}
 use Rattle.lister.proofs.write_last.Tie as tie
-use Rattle.lister.proofs.write_last.Reads as reads
-use Rattle.lister.proofs.write_last.Lts as lts
-use Rattle.lister.proofs.copy.Reads as copy-reads
-use Rattle.lister.proofs.end_of_line.Reads as end-of-line-reads
-use Rattle.lister.proofs.held_length.Reads as held-length-reads
-use Rattle.lister.proofs.show_held.Reads as show-held-reads
 
--- src/lib.rt:337:9
 end-of-line-requires : tie.Need-end-of-line-requires
 end-of-line-requires c κs = search needs
 
--- src/lib.rt:339:20
 held-length-requires : tie.Need-held-length-requires
 held-length-requires c κs = search needs
 
--- src/lib.rt:339:20
 add-if1 : tie.Need-add-if1
 add-if1 c = omega (arith, c .held-length .ensures, held-length (c .before .before .before .before .args .held), c .before .end-of-line .ensures .within)
 
--- src/lib.rt:340:9
 returns : tie.Need-returns
 returns c =
     let e = c .before .before .end-of-line in
@@ -40,23 +29,19 @@ returns c =
     let end = verdictOf (take (s .args .count) (s .args .line .now)) in
     room-lacks (s .args .out .now) (held ++ end) (omega (arith, c .if1 .taken, c .before .held-length .ensures, ends-length _ _ (e .ensures), length-append held end))
 
--- src/lib.rt:343:9
 show-held-requires : tie.Need-show-held-requires
 show-held-requires c κs = omega (arith, c .before .before .if1 .left, c .before .before .before .held-length .ensures)
 
--- src/lib.rt:344:26
 array-share-prefix-bytes : tie.Need-array-share-prefix-bytes
 array-share-prefix-bytes c =
     let e = c .before .before .before .before .before .before .before .end-of-line in
     omega (arith, e .ensures .long, e .ensures .within)
 
--- src/lib.rt:344:26
 slice-aggregate-copy : tie.Need-slice-aggregate-copy
 slice-aggregate-copy c =
     let e = c .before .before .before .before .before .before .before .before .end-of-line in
     sym (length-take-le (e .result .length) (e .result .bytes) (omega (arith, e .ensures .long, e .ensures .within)))
 
--- src/lib.rt:344:21
 copy-requires : tie.Need-copy-requires
 copy-requires c κs =
     let d = c .before .before .before .before .before .before .before in
@@ -64,11 +49,9 @@ copy-requires c κs =
     let e = d .before .before .end-of-line in
     omega (arith, d .if1 .left, d .before .held-length .ensures, h .show-held .ensures .ends, h .show-held .kept, length-take-le (e .result .length) (e .result .bytes) (omega (arith, e .ensures .long, e .ensures .within)))
 
--- src/lib.rt:334:1
 same-length : tie.Need-same-length
 same-length c = search needs
 
--- src/lib.rt:334:1
 returns-2 : tie.Need-returns-2
 returns-2 c =
     let k = c .before .before in

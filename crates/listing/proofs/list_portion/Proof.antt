@@ -1,13 +1,10 @@
-use lib.ListN.{drop, length-drop}
-use lib.ListN.{length}
+-- `list_portion` ends: each turn takes a byte at least.
 use Prim.Native.Nat.{_≤_, _-_}
 use native.Mathlib.Omega.{arith}
+use lib.ListN.{length-drop, length}
 use borrow.Author.Needs.{needs}
 use Rattle.listing.proofs.list_portion.Statement.{statement}
 use Rattle.listing.proofs.list_portion.Tie as tie
-use Rattle.listing.proofs.list_portion.Reads as reads
-use Rattle.listing.proofs.list_portion.Lts as lts
-use Rattle.listing.proofs.list_some.Reads as list-some-reads
 
 abbrev Inv-loop : tie.InvT-loop
 Inv-loop input state₀ at₀ state at = at ≤ length input
@@ -15,38 +12,30 @@ Inv-loop input state₀ at₀ state at = at ≤ length input
 abbrev μ-loop : tie.MeasureT-loop
 μ-loop input state₀ at₀ state at = length input - at
 
--- src/main.rt:58:5
 loop-holds : tie.Need-loop-holds Inv-loop μ-loop
 loop-holds c = search needs
 
--- src/main.rt:59:39
 sub-list-some : tie.Need-sub-list-some Inv-loop μ-loop
 sub-list-some c = search needs
 
--- src/main.rt:59:39
 part-list-some-start : tie.Need-part-list-some-start Inv-loop μ-loop
 part-list-some-start c = search needs
 
--- src/main.rt:59:39
 part-list-some-end : tie.Need-part-list-some-end Inv-loop μ-loop
 part-list-some-end c = search needs
 
--- src/main.rt:59:13
 list-some-requires : tie.Need-list-some-requires Inv-loop μ-loop
 list-some-requires c κs = search needs
 
--- src/main.rt:62:13
 returns : tie.Need-returns Inv-loop μ-loop
 returns c = search needs
 
--- src/main.rt:68:9
 add-at : tie.Need-add-at Inv-loop μ-loop
 add-at c =
     let k = c .before .before .before .before in
     let a = k .before .before .before in
     omega (arith, length-drop (a .loop .at) (a .before .before .args .input .now), k .list-some .ensures .0, k .before .before .loop-test .taken)
 
--- src/main.rt:58:5
 loop-less : tie.Need-loop-less Inv-loop μ-loop
 loop-less c =
     let k = c .before .before .before .before in
@@ -54,14 +43,12 @@ loop-less c =
     let left = length-drop (a .loop .at) (a .before .before .args .input .now) in
     omega (arith, left, k .list-some .ensures .0, k .list-some .ensures .1 (omega (arith, left, k .before .before .loop-test .taken)))
 
--- src/main.rt:58:5
 loop-again : tie.Need-loop-again Inv-loop μ-loop
 loop-again c =
     let k = c .before .before .before .before in
     let a = k .before .before .before in
     omega (arith, length-drop (a .loop .at) (a .before .before .args .input .now), k .list-some .ensures .0, k .before .before .loop-test .taken)
 
--- src/main.rt:55:1
 returns-2 : tie.Need-returns-2 Inv-loop μ-loop
 returns-2 c = search needs
 

@@ -1,46 +1,34 @@
-use Rattle.lister.proofs.Laws.{fed-within, some-taken}
-use lib.ListN.{length}
-use lib.Seq.{length-take-le}
+-- `list_some` meets its contract: what `feed` takes and writes lies within input and buffer.
+use mathlib.Core.Path.{sym}
 use native.Mathlib.Omega.{arith}
-use mathlib.Core.Path.{_≡_, refl, sym, ap, _∙_}
+use lib.Seq.{length-take-le}
 use borrow.Author.Needs.{needs}
+use Rattle.lister.proofs.Laws.{fed-within, some-taken}
 use Rattle.listing.proofs.list_some.Statement.{statement}
 use Rattle.listing.proofs.list_some.Tie as tie
-use Rattle.listing.proofs.list_some.Reads as reads
-use Rattle.listing.proofs.list_some.Lts as lts
-use Rattle.io.proofs.large_buffer.Reads as large-buffer-reads
-use Rattle.lister.proofs.feed.Reads as feed-reads
-use Rattle.listing.proofs.write.Reads as write-reads
 
--- src/main.rt:42:19
 large-buffer-requires : tie.Need-large-buffer-requires
 large-buffer-requires c κs = search needs
 
--- src/main.rt:43:43
 slice-aggregate-feed : tie.Need-slice-aggregate-feed
 slice-aggregate-feed c = search needs
 
--- src/main.rt:43:9
 feed-requires : tie.Need-feed-requires
 feed-requires c κs = search needs
 
--- src/main.rt:45:28
 array-share-prefix-out : tie.Need-array-share-prefix-out
 array-share-prefix-out c =
     let f = c .before .feed in
     omega (arith, fed-within _ _ _ _ _ (f .ensures) .1, f .kept)
 
--- src/main.rt:45:28
 slice-aggregate-write : tie.Need-slice-aggregate-write
 slice-aggregate-write c =
     let f = c .before .before .feed in
     sym (length-take-le (f .result .written) _ (omega (arith, fed-within _ _ _ _ _ (f .ensures) .1, f .kept)))
 
--- src/main.rt:45:9
 write-requires : tie.Need-write-requires
 write-requires c κs = search needs
 
--- src/main.rt:38:1
 returns : tie.Need-returns
 returns c =
     let f = c .before .before .before .before .feed in
