@@ -1,0 +1,135 @@
+-- What the listing promises.
+use Prim.Native.Nat.{ℕ, suc, _+_, _-_, _≤_, _<_}
+use mathlib.Core.Bool.{Bool, true, false}
+use mathlib.Core.Path.{_≡_, refl, sym, ap, _∙_}
+use mathlib.Core.List.{List, [], _∷_, _++_, append-assoc}
+use native.Mathlib.Omega.{arith}
+use lib.Dec.{leb, ltb}
+use lib.ListN.{length, take, getD, length-append}
+use borrow.Author.Tests.{leb-true, le-leb, ltb-false}
+use Rattle.laws.specs.Choice.{pick}
+use Rattle.refusal.specs.declared.Refusal.the-variants.{Text, Room}
+use Rattle.refusal.specs.Told.{refused, given, ask}
+use Rattle.refusal.proofs.Laws.{toldValues, given-not-refused, refused-tells}
+use Rattle.address.specs.Ranges.{rows, classIn, classOf}
+use Rattle.address.specs.Words.{wordsOf}
+use Rattle.capcode.specs.Assigned.{asked}
+use Rattle.capcode.specs.Text.{digits}
+use Rattle.capcode.specs.declared.Capcode.{Capcode}
+use Rattle.capcode.specs.declared.Form.{Form}
+use Rattle.capcode.specs.Reads.{stepOf, Course, going, stopped, follow, blank, endOf, formOf, readOf}
+use Rattle.lister.specs.declared.Fed.{Fed}
+use Rattle.lister.specs.declared.Written.{Written}
+use Rattle.lister.specs.Lines.{header, shown, verdictOf, withoutReturn, listedFrom, listing}
+use Rattle.lister.specs.Portions.{Stand, standOf, fresh, kept, writes, next, writesAll, nextAll, mostWritten, takenOf, closes, toldWritten, Answered, FedAll}
+use Rattle.lister.proofs.Lengths.{writes-short}
+use Rattle.lister.proofs.Progress.{next-joined, writes-joined}
+use Rattle.lister.proofs.Courses.{follow-shown}
+use Rattle.lister.proofs.Listed.{listed}
+use Rattle.lister.proofs.Reading.{too-long, kept-read, kept-verdict}
+
+-- a text of sixteen bytes or more is refused 3
+pub long-refused : (text : List ℕ) → 16 ≤ length text → readOf text ≡ refused Text
+long-refused = too-long
+
+-- the sixteen bytes that are kept of a text are read as the whole text is, and the listing shows the same behind them
+pub kept-tell : (text : List ℕ) → (readOf (kept text) ≡ readOf text) × (verdictOf (kept text) ≡ verdictOf text)
+kept-tell text = (kept-read text, kept-verdict text)
+
+-- a text that is not refused is shown as it is
+pub accepted-shown : (text : List ℕ) (c : Capcode) → formOf text ≡ Form.Says c → shown text ≡ text
+unfolding formOf
+accepted-shown text c e = by-course (follow (going 0 blank) text) refl e
+  where
+    by-course : (course : Course) → follow (going 0 blank) text ≡ course → endOf course ≡ Form.Says c → shown text ≡ text
+    by-course (going m t) e f = follow-shown text 0 blank m t e
+    by-course (stopped place) e f = absurd (let no : _≡_ {A = ℕ} 0 1 = cc in omega arith)
+
+-- no byte of the input writes more than `mostWritten` bytes
+pub most-written : (s : Stand) (byte : ℕ) → length (writes s byte) ≤ mostWritten
+most-written = writes-short
+
+-- portions of any size give the same listing: two, one behind the other, write what they write joined, and lead where they lead joined
+pub portions-join : (s : Stand) (input more : List ℕ)
+    → (writesAll s (input ++ more) ≡ writesAll s input ++ writesAll (nextAll s input) more) × (nextAll s (input ++ more) ≡ nextAll (nextAll s input) more)
+portions-join s input more = (writes-joined s input more, next-joined s input more)
+
+-- an input listed by portions from the start to the end is the listing of 01
+pub portions-list : (input : List ℕ) → header ++ writesAll fresh input ++ closes (nextAll fresh input) ≡ listing input
+unfolding shown kept withoutReturn
+portions-list input =
+    append-assoc header (writesAll fresh input) (closes (nextAll fresh input))
+    ∙ ap (λ (lines : List ℕ). header ++ lines) (listed input [] [] false refl refl)
+
+-- no portion is taken that is longer than the input
+pub taken-within : (s : Stand) (room : ℕ) (input : List ℕ) → takenOf s room input ≤ length input
+unfolding takenOf
+taken-within s room [] = omega arith
+taken-within s room (byte ∷ input) = by-test (leb mostWritten room) (taken-within (next s byte) (room - length (writes s byte)) input)
+  where
+    by-test : (b : Bool) {n m : ℕ} → n ≤ m → pick b (suc n) 0 ≤ suc m
+    by-test true less = omega arith
+    by-test false less = omega arith
+
+-- with room for whatever one byte may write, a byte is taken if there is one
+pub some-taken : (s : Stand) (room : ℕ) (input : List ℕ) → mostWritten ≤ room → 0 < length input → 0 < takenOf s room input
+unfolding takenOf
+some-taken s room [] enough some = absurd (omega arith)
+some-taken s room (byte ∷ input) enough some = rw (le-leb mostWritten room enough) (omega arith)
+
+-- what is taken writes no more than there is room for
+pub written-within : (s : Stand) (room : ℕ) (input : List ℕ) → length (writesAll s (take (takenOf s room input) input)) ≤ room
+unfolding takenOf writesAll
+written-within s room [] = omega arith
+written-within s room (byte ∷ input) = by-test (leb mostWritten room) (takenOf (next s byte) (room - length (writes s byte)) input) refl (written-within (next s byte) (room - length (writes s byte)) input)
+  where
+    by-test : (b : Bool) (n : ℕ) → leb mostWritten room ≡ b → length (writesAll (next s byte) (take n input)) ≤ room - length (writes s byte) → length (writesAll s (take (pick b (suc n) 0) (byte ∷ input))) ≤ room
+    by-test true n e less =
+        omega (arith, length-append (writes s byte) (writesAll (next s byte) (take n input)), writes-short s byte, leb-true mostWritten room e)
+    by-test false n e less = omega arith
+
+-- what `feed` takes and writes lies within the input and the buffer
+pub fed-within : (s : Stand) (input buffer : List ℕ) (fed : Fed) (after : List ℕ) → FedAll s input buffer (takenOf s (length buffer) input) fed after
+    → (fed .taken ≤ length input) × (fed .written ≤ length buffer)
+fed-within s input buffer fed after f =
+    (rw (f .taken) (taken-within s (length buffer) input), omega (arith, f .wrote .ends, written-within s (length buffer) input))
+
+-- a length or a refusal is told as itself alone
+pub written-tells : (a b : Written) → toldWritten a ≡ toldWritten b → a ≡ b
+written-tells (Written.Length n) (Written.Length m) e = ap Written.Length (ap (λ (values : List ℕ). getD values 0 0) (ap toldValues e))
+written-tells (Written.Length n) (Written.Refused r) e = absurd (given-not-refused (n ∷ []) r e)
+written-tells (Written.Refused r) (Written.Length m) e = absurd (given-not-refused (m ∷ []) r (sym e))
+written-tells (Written.Refused r) (Written.Refused q) e = ap Written.Refused (refused-tells r q e)
+
+-- a length that is told lies within the buffer
+pub told-within : (buffer text : List ℕ) (written : Written) (after : List ℕ) (n : ℕ) → Answered buffer text written after → written ≡ Written.Length n → n ≤ length buffer
+told-within buffer text written after n a e = by-test (ltb (length buffer) (length text)) refl (ap toldWritten (sym e) ∙ a .tells)
+  where
+    by-test : (b : Bool) → ltb (length buffer) (length text) ≡ b → given (n ∷ []) ≡ ask b Room (given (length text ∷ [])) → n ≤ length buffer
+    by-test true h f = absurd (given-not-refused (n ∷ []) Room f)
+    by-test false h f =
+        let same : n ≡ length text = ap (λ (values : List ℕ). getD values 0 0) (ap toldValues f) in
+        omega (arith, ltb-false (length buffer) (length text) h)
+
+-- `close` and `title` have one answer, and leave one buffer
+pub answered-one : (buffer text : List ℕ) (a b : Written) (after other : List ℕ) → Answered buffer text a after → Answered buffer text b other → (a ≡ b) × (after ≡ other)
+answered-one buffer text a b after other p q = (written-tells a b (p .tells ∙ sym (q .tells)), p .holds ∙ sym (q .holds))
+
+-- `feed` takes and writes so much and no other, leaves one buffer, and stands at one place
+pub fed-one : (s : Stand) (input buffer : List ℕ) (n : ℕ) (a b : Fed) (after other : List ℕ) → FedAll s input buffer n a after → FedAll s input buffer n b other
+    → (a .taken ≡ b .taken) × (a .written ≡ b .written) × (standOf (a .lister) ≡ standOf (b .lister)) × (after ≡ other)
+fed-one s input buffer n a b after other p q =
+    (p .taken ∙ sym (q .taken), p .wrote .ends ∙ sym (q .wrote .ends), p .stands ∙ sym (q .stands), p .wrote .holds ∙ sym (q .wrote .holds))
+
+-- 01's sample: "E0001234", "A0002101249" and "E1234", a line each, and the four lines of their listing
+pub sample :
+    listing (
+    69 ∷ 48 ∷ 48 ∷ 48 ∷ 49 ∷ 50 ∷ 51 ∷ 52 ∷ 10
+    ∷ 65 ∷ 48 ∷ 48 ∷ 48 ∷ 50 ∷ 49 ∷ 48 ∷ 49 ∷ 50 ∷ 52 ∷ 57 ∷ 10
+    ∷ 69 ∷ 49 ∷ 50 ∷ 51 ∷ 52 ∷ 10 ∷ [])
+    ≡ 65 ∷ 68 ∷ 68 ∷ 82 ∷ 69 ∷ 83 ∷ 83 ∷ 32 ∷ 70 ∷ 73 ∷ 82 ∷ 83 ∷ 84 ∷ 32 ∷ 83 ∷ 69 ∷ 67 ∷ 79 ∷ 78 ∷ 68 ∷ 32 ∷ 80 ∷ 72 ∷ 65 ∷ 83 ∷ 69 ∷ 32 ∷ 70 ∷ 82 ∷ 65 ∷ 77 ∷ 69 ∷ 32 ∷ 67 ∷ 79 ∷ 76 ∷ 76 ∷ 65 ∷ 80 ∷ 83 ∷ 69 ∷ 10
+    ∷ 69 ∷ 48 ∷ 48 ∷ 48 ∷ 49 ∷ 50 ∷ 51 ∷ 52 ∷ 32 ∷ 48 ∷ 48 ∷ 56 ∷ 52 ∷ 68 ∷ 50 ∷ 32 ∷ 45 ∷ 45 ∷ 45 ∷ 45 ∷ 45 ∷ 45 ∷ 32 ∷ 42 ∷ 32 ∷ 48 ∷ 55 ∷ 55 ∷ 32 ∷ 52 ∷ 10
+    ∷ 65 ∷ 48 ∷ 48 ∷ 48 ∷ 50 ∷ 49 ∷ 48 ∷ 49 ∷ 50 ∷ 52 ∷ 57 ∷ 32 ∷ 48 ∷ 48 ∷ 48 ∷ 48 ∷ 48 ∷ 49 ∷ 32 ∷ 49 ∷ 70 ∷ 70 ∷ 70 ∷ 70 ∷ 69 ∷ 32 ∷ 65 ∷ 32 ∷ 48 ∷ 48 ∷ 48 ∷ 32 ∷ 52 ∷ 10
+    ∷ 69 ∷ 49 ∷ 50 ∷ 51 ∷ 52 ∷ 32 ∷ 82 ∷ 69 ∷ 70 ∷ 85 ∷ 83 ∷ 69 ∷ 68 ∷ 32 ∷ 51 ∷ 10 ∷ []
+unfolding header shown verdictOf withoutReturn listedFrom formOf follow stepOf asked wordsOf classOf classIn rows digits
+sample = refl

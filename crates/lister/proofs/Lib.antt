@@ -1,0 +1,10 @@
+pub mod Keeping
+pub mod Phase
+pub mod LineEnds
+pub mod Writes
+pub mod Lengths
+pub mod Progress
+pub mod Courses
+pub mod Reading
+pub mod Listed
+pub mod Laws

@@ -1,0 +1,123 @@
+-- The listing of a portion, byte by byte: where it stands, and what is left.
+use Prim.Native.Nat.{ℕ, suc, _+_, _-_, _≤_, _<_}
+use mathlib.Core.Bool.{Bool}
+use mathlib.Core.Path.{_≡_, refl, sym, ap, _∙_}
+use mathlib.Core.List.{List, [], _∷_, _++_, append-assoc, append-nil}
+use mathlib.Core.Logic.{_⊎_, ⊎-elim}
+use native.Mathlib.Numerals.{add-one}
+use native.Mathlib.Omega.{arith}
+use lib.ListN.{length, take, drop, getD, drop-of-length-le}
+use lib.Seq.{take-suc, drop-cons}
+use borrow.Author.Tests.{le-leb, lt-leb}
+use Rattle.lister.specs.declared.Course.{Course}
+use Rattle.lister.specs.Portions.{Stand, stand, standAt, writes, next, writesAll, nextAll, mostWritten, takenOf, Wrote, FedByte, FedAll}
+use Rattle.lister.proofs.Writes.{wrote-none, wrote-same, wrote-then}
+use Rattle.lister.proofs.Lengths.{writes-short}
+
+-- where two portions one behind the other lead
+pub next-joined : (s : Stand) (input more : List ℕ) → nextAll s (input ++ more) ≡ nextAll (nextAll s input) more
+unfolding nextAll
+next-joined s [] more = refl
+next-joined s (byte ∷ input) more = next-joined (next s byte) input more
+
+-- what they write
+pub writes-joined : (s : Stand) (input more : List ℕ) → writesAll s (input ++ more) ≡ writesAll s input ++ writesAll (nextAll s input) more
+unfolding nextAll writesAll
+writes-joined s [] more = refl
+writes-joined s (byte ∷ input) more = rw (writes-joined (next s byte) input more) (sym (append-assoc (writes s byte) (writesAll (next s byte) input) (writesAll (nextAll (next s byte) input) more)))
+
+-- where one byte more leads
+next-more : (s : Stand) (input : List ℕ) (byte : ℕ) → nextAll s (input ++ byte ∷ []) ≡ next (nextAll s input) byte
+unfolding nextAll
+next-more s input byte = next-joined s input (byte ∷ [])
+
+-- what it writes
+writes-more : (s : Stand) (input : List ℕ) (byte : ℕ) → writesAll s (input ++ byte ∷ []) ≡ writesAll s input ++ writes (nextAll s input) byte
+unfolding writesAll
+writes-more s input byte = writes-joined s input (byte ∷ []) ∙ rw append-nil
+
+-- a byte is taken where there is room for whatever it may write
+taken-byte : (s : Stand) (room byte : ℕ) (input : List ℕ) → mostWritten ≤ room → takenOf s room (byte ∷ input) ≡ suc (takenOf (next s byte) (room - length (writes s byte)) input)
+unfolding takenOf
+taken-byte s room byte input enough = rw (le-leb mostWritten room enough)
+
+-- .. and none where there is not
+taken-none : (s : Stand) (room : ℕ) (input : List ℕ) → room < mostWritten → takenOf s room input ≡ 0
+unfolding takenOf
+taken-none s room [] short = refl
+taken-none s room (byte ∷ input) short = rw (lt-leb mostWritten room short)
+
+-- no byte is taken behind the last
+taken-end : (s : Stand) (room : ℕ) (input : List ℕ) (i : ℕ) → length input ≤ i → takenOf s room (drop i input) ≡ 0
+unfolding takenOf
+taken-end s room input i past = rw (drop-of-length-le input past)
+
+-- what holds between two bytes of a portion that is listed from `s` into `buffer`
+pub record Progress (s : Stand) (input buffer line : List ℕ) (course : Course) (out : List ℕ) : Type 0 where
+  pub sixteen : length line ≡ 16
+  pub within : course .taken ≤ length input
+  pub fits : course .written ≤ length buffer
+  pub same : length out ≡ length buffer
+  pub stands : standAt line course ≡ nextAll s (take (course .taken) input)
+  pub wrote : Wrote buffer 0 (writesAll s (take (course .taken) input)) (course .written) out
+  pub rest : takenOf s (length buffer) input ≡ course .taken + takenOf (standAt line course) (length buffer - course .written) (drop (course .taken) input)
+
+-- before the first byte
+pub progress-start : (line input buffer : List ℕ) (count : ℕ) (held : Bool) → length line ≡ 16
+    → Progress (stand (take count line) held) input buffer line (record { count = count; held = held; taken = 0; written = 0 }) buffer
+unfolding nextAll writesAll
+progress-start line input buffer count held sixteen =
+    let all : length buffer - 0 ≡ length buffer = omega arith in
+    record {
+      sixteen = sixteen;
+      within = omega arith;
+      fits = omega arith;
+      same = refl;
+      stands = refl;
+      wrote = wrote-none buffer 0;
+      rest = rw all (omega arith);
+    }
+
+module _ (s : Stand) (input buffer line : List ℕ) (course : Course) (out : List ℕ) (p : Progress s input buffer line course out) where
+  -- the next byte is taken where there is a byte and room for whatever it may write
+  pub progress-turn : (line₁ : List ℕ) (course₁ : Course) (out₁ : List ℕ) → course .taken < length input → 32 ≤ length buffer - course .written → length line₁ ≡ 16 → length out₁ ≡ length buffer
+      → FedByte line course out (getD input (course .taken) 0) line₁ course₁ out₁ → Progress s input buffer line₁ course₁ out₁
+  progress-turn line₁ course₁ out₁ some room sixteen same f =
+      let i : ℕ = course .taken in
+      let byte : ℕ = getD input i 0 in
+      let one : course₁ .taken ≡ suc i = f .taken ∙ add-one i in
+      let more : take i input ++ byte ∷ [] ≡ take (course₁ .taken) input = rw one (sym (take-suc input i 0 some)) in
+      let text : writesAll s (take i input) ++ writes (standAt line course) byte ≡ writesAll s (take (course₁ .taken) input) =
+      ap (λ (t : Stand). writesAll s (take i input) ++ writes t byte) (p .stands)
+      ∙ sym (writes-more s (take i input) byte)
+      ∙ ap (writesAll s) more in
+      let short = writes-short (standAt line course) byte in
+      let less : length buffer - course .written - length (writes (standAt line course) byte) ≡ length buffer - course₁ .written = omega (arith, f .wrote .ends) in
+      let step : takenOf (standAt line course) (length buffer - course .written) (drop i input) ≡ suc (takenOf (standAt line₁ course₁) (length buffer - course₁ .written) (drop (course₁ .taken) input)) =
+      rw (drop-cons input i 0 some)
+      (taken-byte (standAt line course) (length buffer - course .written) byte (drop (suc i) input) room
+      ∙ rw (less, f .stands, one)) in
+      record {
+        sixteen = sixteen;
+        within = omega arith;
+        fits = omega (arith, f .wrote .ends);
+        same = same;
+        stands = f .stands ∙ ap (λ (t : Stand). next t byte) (p .stands) ∙ sym (next-more s (take i input) byte) ∙ ap (nextAll s) more;
+        wrote = wrote-same _ _ _ _ _ _ text (wrote-then _ _ _ _ _ _ _ _ (omega arith) (p .wrote) (f .wrote));
+        rest = omega (arith, p .rest);
+      }
+
+  -- where no byte is left, or no room, what was taken is all that is taken
+  pub progress-end : (length input ≤ course .taken) ⊎ (length buffer - course .written < 32)
+      → FedAll s input buffer (takenOf s (length buffer) input) (record { lister = record { line = line; count = course .count; held = course .held }; taken = course .taken; written = course .written }) out
+  progress-end ends =
+      let all : takenOf s (length buffer) input ≡ course .taken =
+      ⊎-elim
+      (λ (past : length input ≤ course .taken). omega (arith, p .rest, taken-end (standAt line course) (length buffer - course .written) input (course .taken) past))
+      (λ (short : length buffer - course .written < 32). omega (arith, p .rest, taken-none (standAt line course) (length buffer - course .written) (drop (course .taken) input) short))
+      ends in
+      record {
+        taken = sym all;
+        stands = rw all (p .stands);
+        wrote = rw all (p .wrote);
+      }

@@ -1,0 +1,134 @@
+-- The listing by portions: what each byte writes, and where the listing then stands.
+use Prim.Native.Nat.{ℕ, suc, _+_, _-_, _≤_}
+use mathlib.Core.Bool.{Bool, true, false}
+use mathlib.Core.Path.{_≡_}
+use mathlib.Core.List.{List, [], _∷_, _++_}
+use lib.Dec.{leb, ltb, eqb}
+use lib.ListN.{length, take}
+use Rattle.laws.specs.Choice.{pick}
+use Rattle.laws.specs.Lists.{put}
+use Rattle.refusal.specs.declared.Refusal.the-variants.{Room}
+use Rattle.refusal.specs.Told.{Told, refused, given, ask}
+use Rattle.lister.specs.declared.Lister.{Lister}
+use Rattle.lister.specs.declared.Fed.{Fed}
+use Rattle.lister.specs.declared.Course.{Course}
+use Rattle.lister.specs.declared.Written.{Written}
+use Rattle.lister.specs.declared.LineEnd.{LineEnd}
+use Rattle.lister.specs.Lines.{lineFeed, carriageReturn, shownByte, verdictOf}
+
+-- where a listing stands: the bytes of the present line that are kept, and whether a carriage return is held back
+pub data Stand : Type 0 where
+  stand : List ℕ → Bool → Stand
+
+-- the bytes that a lister keeps of the present line; a count over sixteen stands for sixteen
+abbrev pub keptOf : Lister → List ℕ
+keptOf l = take (l .count) (l .line)
+
+-- where a lister stands
+abbrev pub standOf : Lister → Stand
+standOf l = stand (keptOf l) (l .held)
+
+-- before the first byte, and behind a line feed
+abbrev pub fresh : Stand
+fresh = stand [] false
+
+-- the bytes kept of a line: no correct text has more than fifteen, so sixteen tell all
+unfoldable pub kept : List ℕ → List ℕ
+kept text = take 16 text
+
+-- the carriage return that was held back
+abbrev pub heldBytes : Bool → List ℕ
+heldBytes true = carriageReturn ∷ []
+heldBytes false = []
+
+-- .. as the listing shows it
+abbrev pub heldShown : Bool → List ℕ
+heldShown true = shownByte carriageReturn
+heldShown false = []
+
+-- what a byte writes
+unfoldable pub writes : Stand → ℕ → List ℕ
+writes (stand text held) byte =
+    pick (eqb byte lineFeed) (verdictOf text)
+    (heldShown held ++ pick (eqb byte carriageReturn) [] (shownByte byte))
+
+-- where the listing stands behind it
+unfoldable pub next : Stand → ℕ → Stand
+next (stand text held) byte =
+    pick (eqb byte lineFeed) fresh
+    (pick (eqb byte carriageReturn) (stand (kept (text ++ heldBytes held)) true)
+    (stand (kept (text ++ heldBytes held ++ byte ∷ [])) false))
+
+-- what a portion writes, and where the listing stands behind it
+unfoldable pub writesAll : Stand → List ℕ → List ℕ
+writesAll s [] = []
+writesAll s (byte ∷ input) = writes s byte ++ writesAll (next s byte) input
+
+-- .. where it then stands
+unfoldable pub nextAll : Stand → List ℕ → Stand
+nextAll s [] = s
+nextAll s (byte ∷ input) = nextAll (next s byte) input
+
+-- no byte writes more than this
+abbrev pub mostWritten : ℕ
+mostWritten = 32
+
+-- how many bytes of a portion are taken into so much room: a byte is taken while the room holds whatever it may write
+unfoldable pub takenOf : Stand → ℕ → List ℕ → ℕ
+takenOf s room [] = 0
+takenOf s room (byte ∷ input) =
+    pick (leb mostWritten room) (suc (takenOf (next s byte) (room - length (writes s byte)) input)) 0
+
+-- what is written at the end of the input: the end of a line that has a byte and no line feed
+abbrev pub closedText : List ℕ → Bool → List ℕ
+closedText [] held = []
+closedText (b ∷ text) held = heldShown held ++ verdictOf (b ∷ text)
+
+-- .. from where the listing stands
+unfoldable pub closes : Stand → List ℕ
+closes (stand text held) = closedText (kept (text ++ heldBytes held)) held
+
+-- what is answered when a text is written at the start of a buffer: its length, or 1 where the buffer is shorter
+abbrev pub answerOf : List ℕ → List ℕ → Told
+answerOf buffer text = ask (ltb (length buffer) (length text)) Room (given (length text ∷ []))
+
+-- what the buffer holds then: the text at its start, or after a refusal what it held
+abbrev pub bufferAfter : List ℕ → List ℕ → List ℕ
+bufferAfter buffer text = pick (ltb (length buffer) (length text)) buffer (put buffer 0 text)
+
+-- how it is told
+abbrev pub toldWritten : Written → Told
+toldWritten (Written.Length n) = given (n ∷ [])
+toldWritten (Written.Refused r) = refused r
+
+-- a text was written at a buffer's start, or refused: what is told, and what the buffer holds
+pub record Answered (buffer text : List ℕ) (written : Written) (after : List ℕ) : Type 0 where
+  pub tells : toldWritten written ≡ answerOf buffer text
+  pub holds : after ≡ bufferAfter buffer text
+
+-- a text was written at a place: `behind` is the place behind it, and `after` what the buffer holds
+pub record Wrote (buffer : List ℕ) (place : ℕ) (text : List ℕ) (behind : ℕ) (after : List ℕ) : Type 0 where
+  pub ends : behind ≡ place + length text
+  pub holds : after ≡ put buffer place text
+
+-- the end of a line holds a text, in the first of its bytes
+pub record Ends (text : List ℕ) (end : LineEnd) : Type 0 where
+  pub long : length (end .bytes) ≡ 23
+  pub within : end .length ≤ 23
+  pub bytes : take (end .length) (end .bytes) ≡ text
+
+-- where the listing of a portion stands, with the bytes of the line beside it
+abbrev pub standAt : List ℕ → Course → Stand
+standAt line course = stand (take (course .count) line) (course .held)
+
+-- what one byte more does: to the line, to where the listing of the portion stands, and to the buffer
+pub record FedByte (line : List ℕ) (before : Course) (buffer : List ℕ) (byte : ℕ) (kept : List ℕ) (course : Course) (after : List ℕ) : Type 0 where
+  pub taken : course .taken ≡ before .taken + 1
+  pub stands : standAt kept course ≡ next (standAt line before) byte
+  pub wrote : Wrote buffer (before .written) (writes (standAt line before) byte) (course .written) after
+
+-- what is done with a portion: how much of it is taken, where the listing then stands, and what was written
+pub record FedAll (s : Stand) (input buffer : List ℕ) (n : ℕ) (fed : Fed) (after : List ℕ) : Type 0 where
+  pub taken : fed .taken ≡ n
+  pub stands : standOf (fed .lister) ≡ nextAll s (take n input)
+  pub wrote : Wrote buffer 0 (writesAll s (take n input)) (fed .written) after

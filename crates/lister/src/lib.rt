@@ -1,0 +1,371 @@
+// The listing of CAPCODE lines (document 01, "The listing program"), by portions of any size: bytes of
+// lines in, bytes of the listing out.
+ghost use mathlib.Core.Path.{_≡_};
+ghost use mathlib.Core.Bool.{false};
+ghost use mathlib.Core.List.{[], _∷_, _++_};
+ghost use Prim.Native.Nat.{_+_, _^_, _≤_, _<_};
+ghost use lib.ListN.{length, take};
+ghost use lib.Dec.{eqb};
+ghost use Rattle.refusal.specs.Told.{refused};
+ghost use Rattle.capcode.specs.Text.{digits};
+ghost use Rattle.capcode.specs.Reads.{toldRead};
+ghost use Rattle.lister.specs.Lines.{lineFeed, header, hexDigit, shownByte, sixDigits, phaseShown, verdictBy, verdictOf};
+ghost use Rattle.lister.specs.Portions.{stand, standOf, standAt, fresh, kept, heldBytes, heldShown, writes, next, closes, mostWritten, takenOf, Answered, Wrote, Ends, FedByte, FedAll};
+use address::Worded;
+use capcode::Assignment;
+use capcode::Capcode;
+use capcode::ReadAnswer;
+use refusal::Refusal;
+
+// Where a listing stands inside a line: the line's first sixteen bytes (no correct text is longer than
+// fifteen), how many of them came, and whether a carriage return is held back: it is dropped if the line
+// ends right behind it, and is a byte of the line if not.
+pub struct Lister {
+    pub line: [u8; 16],
+    pub count: usize,
+    pub held: bool,
+}
+
+// What was done with a portion: where the listing stands, how many bytes were taken and how many written.
+pub struct Fed {
+    pub lister: Lister,
+    pub taken: usize,
+    pub written: usize,
+}
+
+// Where the listing of a portion stands: how many bytes of the present line are kept, whether a carriage
+// return is held back, how many bytes of the portion were taken and how many written.
+struct Course {
+    count: usize,
+    held: bool,
+    taken: usize,
+    written: usize,
+}
+
+// How many bytes were written, or the refusal.
+pub enum Written {
+    Length(usize),
+    Refused(Refusal),
+}
+
+// What stands behind a text in the listing, its line feed with it: the first `length` of the bytes.
+struct LineEnd {
+    bytes: [u8; 23],
+    length: usize,
+}
+
+// Puts a text into a buffer at a place, and gives the place behind it.
+fn copy(text: &[u8], out: &mut [u8], place: usize) -> usize
+    requires { ⌜ place + length (now text) ≤ length (now out) ⌝ }
+    ensures { λ r. ⌜ Wrote (now (out .entry)) place (now (text .entry)) r (now (out .exit)) ⌝ }
+{
+    let mut i = 0;
+    while i < text.len() {
+        out[place + i] = text[i];
+        i += 1;
+    }
+    place + i
+}
+
+// A hexadecimal digit, capitals: ten is `A`, which is 65.
+fn hex_digit(d: u32) -> u8
+    requires { ⌜ d < 16 ⌝ }
+    ensures { λ r. ⌜ r ≡ hexDigit d ⌝ }
+{
+    if d < 10 { b'0' + d as u8 } else { 55 + d as u8 }
+}
+
+// A word as six hexadecimal digits.
+fn six_digits(word: u32) -> [u8; 6]
+    ensures { λ r. ⌜ r ≡ sixDigits word ⌝ }
+{
+    [
+        hex_digit(word / 0x100000 % 16),
+        hex_digit(word / 0x10000 % 16),
+        hex_digit(word / 0x1000 % 16),
+        hex_digit(word / 0x100 % 16),
+        hex_digit(word / 0x10 % 16),
+        hex_digit(word % 16),
+    ]
+}
+
+// The mark of a phase: its letter, or `*` for any-phase.
+fn phase_mark(phase: u8) -> u8
+    requires { ⌜ phase < 191 ⌝ }
+    ensures { λ r. ⌜ r ≡ phaseShown phase ⌝ }
+{
+    if phase == 4 { b'*' } else { b'A' + phase }
+}
+
+// What stands behind an accepted text, by its two words as they are shown.
+fn fields_end(first: [u8; 6], second: [u8; 6], c: Capcode, a: Assignment) -> LineEnd
+    requires { ⌜ a .phase < 191 ⌝ }
+    ensures { λ r. ⌜ Ends (32 ∷ first ++ 32 ∷ second ++ 32 ∷ phaseShown (a .phase) ∷ 32 ∷ digits 3 (a .frame) ++ 32 ∷ digits 1 (c .collapse) ++ lineFeed ∷ []) r ⌝ }
+{
+    LineEnd {
+        bytes: [
+            b' ',
+            first[0],
+            first[1],
+            first[2],
+            first[3],
+            first[4],
+            first[5],
+            b' ',
+            second[0],
+            second[1],
+            second[2],
+            second[3],
+            second[4],
+            second[5],
+            b' ',
+            phase_mark(a.phase),
+            b' ',
+            b'0' + a.frame / 10 / 10 % 10,
+            b'0' + a.frame / 10 % 10,
+            b'0' + a.frame % 10,
+            b' ',
+            b'0' + c.collapse % 10,
+            b'\n',
+        ],
+        length: 23,
+    }
+}
+
+// What stands behind the text of an accepted CAPCODE.
+fn accepted_end(c: Capcode, a: Assignment) -> LineEnd
+    requires { ⌜ a .phase < 191 ⌝ }
+    ensures { λ r. ⌜ Ends (verdictBy (toldRead (ReadAnswer.Whole c a)) ++ lineFeed ∷ []) r ⌝ }
+{
+    match address::words_of(c.address) {
+        Worded::One(word) => fields_end(six_digits(word), [b'-'; 6], c, a),
+        Worded::Two(first, second) => fields_end(six_digits(first), six_digits(second), c, a),
+        Worded::Refused(_) => fields_end([b'0'; 6], [b'-'; 6], c, a),
+    }
+}
+
+// " REFUSED n".
+fn refused_end(refusal: Refusal) -> LineEnd
+    ensures { λ r. ⌜ Ends (verdictBy (refused refusal) ++ lineFeed ∷ []) r ⌝ }
+{
+    let n = refusal.number();
+    let low = b'0' + (n % 10) as u8;
+    let mut bytes = *b" REFUSED n\n............";
+    if n < 10 {
+        bytes[9] = low;
+        return LineEnd { bytes, length: 11 };
+    }
+    bytes[9] = b'0' + (n / 10 % 10) as u8;
+    bytes[10] = low;
+    bytes[11] = b'\n';
+    LineEnd { bytes, length: 12 }
+}
+
+// What stands behind a text.
+fn end_of_text(text: &[u8]) -> LineEnd
+    ensures { λ r. ⌜ Ends (verdictOf (now (text .entry))) r ⌝ }
+{
+    match capcode::read(text) {
+        ReadAnswer::Whole(c, a) => accepted_end(c, a),
+        ReadAnswer::Refused(r) => refused_end(r),
+    }
+}
+
+// What stands behind a line of which so many bytes are kept; a larger count stands for all of them.
+fn end_of_line(line: &[u8], count: usize) -> LineEnd
+    ensures { λ r. ⌜ Ends (verdictOf (take count (now (line .entry)))) r ⌝ }
+{
+    if count < line.len() {
+        return end_of_text(&line[..count]);
+    }
+    end_of_text(line)
+}
+
+// Writes the end of a line.
+fn write_end(line: &[u8], count: usize, out: &mut [u8], place: usize) -> usize
+    requires { ⌜ place + 23 ≤ length (now out) ⌝ }
+    ensures { λ r. ⌜ Wrote (now (out .entry)) place (verdictOf (take count (now (line .entry)))) r (now (out .exit)) ⌝ }
+{
+    let end = end_of_line(line, count);
+    let bytes = end.bytes;
+    let length = end.length;
+    copy(&bytes[..length], out, place)
+}
+
+// Writes a byte of a line as the listing shows it: what a terminal could act on is escaped (house).
+fn show(byte: u8, out: &mut [u8], place: usize) -> usize
+    requires { ⌜ place + 4 ≤ length (now out) ⌝ }
+    ensures { λ r. ⌜ Wrote (now (out .entry)) place (shownByte byte) r (now (out .exit)) ⌝ }
+{
+    if byte == b'\\' {
+        return copy(&[b'\\', b'\\'], out, place);
+    }
+    if (b' ' <= byte) & (byte <= b'~') {
+        return copy(&[byte], out, place);
+    }
+    let high = hex_digit((byte / 16) as u32);
+    let low = hex_digit((byte % 16) as u32);
+    copy(&[b'\\', b'x', high, low], out, place)
+}
+
+// Writes the carriage return that was held back, now that it is a byte of the line.
+fn show_held(held: bool, out: &mut [u8], place: usize) -> usize
+    requires { ⌜ place + length (heldShown held) ≤ length (now out) ⌝ }
+    ensures { λ r. ⌜ Wrote (now (out .entry)) place (heldShown held) r (now (out .exit)) ⌝ }
+{
+    if held { show(b'\r', out, place) } else { place }
+}
+
+// Writes what a byte of the input brings.
+fn write_byte(line: &[u8], course: Course, byte: u8, out: &mut [u8]) -> usize
+    requires { ⌜ course .written + mostWritten ≤ length (now out) ⌝ }
+    ensures { λ r. ⌜ Wrote (now (out .entry)) (course .written) (writes (standAt (now (line .entry)) course) byte) r (now (out .exit)) ⌝ }
+{
+    if byte == b'\n' {
+        return write_end(line, course.count, out, course.written);
+    }
+    let shown = show_held(course.held, out, course.written);
+    if byte == b'\r' {
+        return shown;
+    }
+    show(byte, out, shown)
+}
+
+// Keeps one byte more of a line, if it is one of the first sixteen, and gives how many are kept.
+fn keep(line: &mut [u8], count: usize, byte: u8) -> usize
+    requires { ⌜ length (now line) ≡ 16 ⌝ }
+    ensures { λ r. ⌜ take r (now (line .exit)) ≡ kept (take count (now (line .entry)) ++ byte ∷ []) ⌝ }
+{
+    if 16 <= count {
+        return count;
+    }
+    line[count] = byte;
+    count + 1
+}
+
+// Keeps the carriage return that was held back, now that it is a byte of the line.
+fn keep_held(line: &mut [u8], count: usize, held: bool) -> usize
+    requires { ⌜ length (now line) ≡ 16 ⌝ }
+    ensures { λ r. ⌜ take r (now (line .exit)) ≡ kept (take count (now (line .entry)) ++ heldBytes held) ⌝ }
+{
+    if held {
+        keep(line, count, b'\r')
+    } else {
+        count
+    }
+}
+
+// Keeps what a byte of the input adds to its line.
+fn keep_byte(line: &mut [u8], count: usize, held: bool, added: u8) -> usize
+    requires { ⌜ length (now line) ≡ 16 ⌝ }
+    ensures { λ r. ⌜ stand (take r (now (line .exit))) (eqb added 13) ≡ next (stand (take count (now (line .entry))) held) added ⌝ }
+{
+    if added == b'\n' {
+        return 0;
+    }
+    let before = keep_held(line, count, held);
+    if added == b'\r' {
+        return before;
+    }
+    keep(line, before, added)
+}
+
+// Where a listing stands before the first byte, and behind each line feed.
+pub fn start() -> Lister
+    ensures { λ r. ⌜ standOf r ≡ fresh ⌝ }
+{
+    Lister {
+        line: [0; 16],
+        count: 0,
+        held: false,
+    }
+}
+
+// Takes one byte more of a portion.
+fn feed_byte(line: &mut [u8], course: Course, byte: u8, out: &mut [u8]) -> Course
+    requires { ⌜ length (now line) ≡ 16 ⌝ }
+    requires { ⌜ course .written + mostWritten ≤ length (now out) ⌝ }
+    requires { ⌜ course .taken + 1 < 2 ^ 64 ⌝ }
+    ensures { λ r. ⌜ FedByte (now (line .entry)) course (now (out .entry)) byte (now (line .exit)) r (now (out .exit)) ⌝ }
+{
+    let written = write_byte(line, course, byte, out);
+    Course {
+        count: keep_byte(line, course.count, course.held, byte),
+        held: byte == b'\r',
+        taken: course.taken + 1,
+        written,
+    }
+}
+
+// Takes the bytes of a portion while the buffer has room for whatever one byte may write, and writes the
+// listing of what was taken at the buffer's start. With room for 32 bytes at least one byte is taken.
+pub fn feed(lister: Lister, input: &[u8], out: &mut [u8]) -> Fed
+    ensures { λ r. ⌜ FedAll (standOf lister) (now (input .entry)) (now (out .entry)) (takenOf (standOf lister) (length (now (out .entry))) (now (input .entry))) r (now (out .exit)) ⌝ }
+{
+    let mut line = lister.line;
+    let mut course = Course {
+        count: lister.count,
+        held: lister.held,
+        taken: 0,
+        written: 0,
+    };
+    while course.taken < input.len() {
+        if out.len() - course.written < 32 {
+            break;
+        }
+        let at = course.taken;
+        course = feed_byte(&mut line, course, input[at], out);
+    }
+    Fed {
+        lister: Lister {
+            line,
+            count: course.count,
+            held: course.held,
+        },
+        taken: course.taken,
+        written: course.written,
+    }
+}
+
+// How many bytes the carriage return that was held back takes.
+fn held_length(held: bool) -> usize
+    ensures { λ r. ⌜ r ≡ length (heldShown held) ⌝ }
+{
+    if held { 4 } else { 0 }
+}
+
+// Writes the end of a last line that no line feed ends.
+fn write_last(line: &[u8], count: usize, held: bool, out: &mut [u8]) -> Written
+    ensures { λ r. ⌜ Answered (now (out .entry)) (heldShown held ++ verdictOf (take count (now (line .entry)))) r (now (out .exit)) ⌝ }
+{
+    let end = end_of_line(line, count);
+    let length = end.length;
+    if out.len() < held_length(held) + length {
+        return Written::Refused(Refusal::Room);
+    }
+    let bytes = end.bytes;
+    let place = show_held(held, out, 0);
+    Written::Length(copy(&bytes[..length], out, place))
+}
+
+// Writes what stands behind the last byte: the end of the last line, if that has a byte and no line feed.
+pub fn close(lister: Lister, out: &mut [u8]) -> Written
+    ensures { λ r. ⌜ Answered (now (out .entry)) (closes (standOf lister)) r (now (out .exit)) ⌝ }
+{
+    let mut line = lister.line;
+    let count = keep_held(&mut line, lister.count, lister.held);
+    if count == 0 {
+        return Written::Length(0);
+    }
+    write_last(&line, count, lister.held, out)
+}
+
+// Writes the listing's first line.
+pub fn title(out: &mut [u8]) -> Written
+    ensures { λ r. ⌜ Answered (now (out .entry)) header r (now (out .exit)) ⌝ }
+{
+    if out.len() < 42 {
+        return Written::Refused(Refusal::Room);
+    }
+    Written::Length(copy(b"ADDRESS FIRST SECOND PHASE FRAME COLLAPSE\n", out, 0))
+}
