@@ -1,13 +1,13 @@
 -- What the definitions promise: reading and printing are each other's way back, a text is in the form exactly if it is printed, an answer's telling is its own.
 use Prim.Native.Nat.{ℕ, _^_, _≤_, _<_}
-use mathlib.Core.Bool.{Bool, true, false}
+use mathlib.Core.Bool.{Bool, true, false, _&&_}
 use mathlib.Core.Path.{_≡_, refl, sym, ap, _∙_}
 use mathlib.Core.List.{List, [], _∷_}
 use native.Mathlib.Omega.{arith}
 use lib.ListN.{getD}
-use borrow.Author.Tests.{leb-true, not-false}
+use borrow.Author.Tests.{leb-true, eqb-false, not-false}
 use lib.Dec.{leb}
-use Rattle.laws.proofs.Tests.{first-of, second-of}
+use Rattle.laws.proofs.Tests.{first-of, second-of, other-of, neither}
 use Rattle.refusal.specs.Told.{Told, given}
 use Rattle.refusal.proofs.Laws.{toldValues, given-not-refused, refused-tells}
 use Rattle.address.proofs.Bounds.{accepted-below}
@@ -16,13 +16,13 @@ use Rattle.capcode.specs.declared.AssignAnswer.{AssignAnswer}
 use Rattle.capcode.specs.declared.ReadAnswer.{ReadAnswer}
 use Rattle.capcode.specs.declared.PrintAnswer.{PrintAnswer}
 use Rattle.capcode.specs.declared.Form.{Form}
-use Rattle.capcode.specs.Assigned.{Fine, standard, fieldsFit, phaseOf, baseOf, toldAssign}
+use Rattle.capcode.specs.Assigned.{Fine, standard, framed, anyPhase, fieldsFit, phaseOf, baseOf, toldAssign}
 use Rattle.capcode.specs.Text.{textOf, Sayable, printOf, toldPrint}
 use Rattle.capcode.specs.Reads.{formOf, readBy, readOf, toldRead}
 use Rattle.capcode.proofs.Judging.{given-fine, fine-asked}
 use Rattle.capcode.proofs.Spoken.{read-of-printed}
 use Rattle.capcode.proofs.Heard.{printed-of-read}
-use Rattle.laws.proofs.Tests.{first-of, second-of}
+use Rattle.laws.proofs.Tests.{first-of, second-of, other-of, neither}
 
 -- a CAPCODE of which nothing is refused is one that a text could have
 pub fine-sayable : (c : Capcode) → Fine c → Sayable c
@@ -81,3 +81,18 @@ pub fine-listens : (c : Capcode) → Fine c → (baseOf c ≤ 127) × (c .collap
 fine-listens c fine =
     let fits = not-false _ (fine .packet) in
     (base-by c (standard (c .letter)) refl fits, leb-true (c .collapse) 5 (first-of _ _ fits))
+
+-- a letter that is neither all-phase nor any-phase nor A to L is one of U to X
+phase-by : (c : Capcode) → Fine c → (any by-rule : Bool) → anyPhase (c .letter) ≡ any → standard (c .letter) ≡ by-rule → phaseOf c ≤ 4
+phase-by c fine true by-rule a s = rw a (omega arith)
+phase-by c fine false true a s = rw (a, s) (omega arith)
+phase-by c fine false false a s =
+    let u-to-z : framed (c .letter) ≡ true = other-of (standard (c .letter)) (framed (c .letter)) (not-false _ (fine .text)) s in
+    let last : c .letter ≤ 90 = leb-true (c .letter) 90 (second-of (leb 85 (c .letter)) _ u-to-z) in
+    let not-z : c .letter ≡ 90 → ⊥ = eqb-false (c .letter) 90 (neither (leb 73 (c .letter) && leb (c .letter) 76) _ (fine .type)) in
+    let not-y : c .letter ≡ 89 → ⊥ = eqb-false (c .letter) 89 (neither (leb 69 (c .letter) && leb (c .letter) 72) _ a) in
+    rw (a, s) (omega (arith, not-y, not-z))
+
+-- the phase that a fine CAPCODE assigns is one of A to D, or any-phase
+pub fine-phase : (c : Capcode) → Fine c → phaseOf c ≤ 4
+fine-phase c fine = phase-by c fine (anyPhase (c .letter)) (standard (c .letter)) refl refl

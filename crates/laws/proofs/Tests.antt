@@ -36,3 +36,9 @@ one-of false false false d e = inr (inr (inr e))
 pub only : (test : Bool) → (test || false || false || false) ≡ true → test ≡ true
 only true e = refl
 only false e = e
+
+-- of two tests of which none holds, the second does not
+pub neither : (a b : Bool) → (a || b) ≡ false → b ≡ false
+neither true true e = e
+neither true false e = refl
+neither false b e = e

@@ -91,7 +91,7 @@ fn six_digits(word: u32) -> [u8; 6]
 
 // The mark of a phase: its letter, or `*` for any-phase.
 fn phase_mark(phase: u8) -> u8
-    requires { ⌜ phase < 191 ⌝ }
+    requires { ⌜ phase ≤ 4 ⌝ }
     ensures { λ r. ⌜ r ≡ phaseShown phase ⌝ }
 {
     if phase == 4 { b'*' } else { b'A' + phase }
@@ -99,7 +99,7 @@ fn phase_mark(phase: u8) -> u8
 
 // What stands behind an accepted text, by its two words as they are shown.
 fn fields_end(first: [u8; 6], second: [u8; 6], c: Capcode, a: Assignment) -> LineEnd
-    requires { ⌜ a .phase < 191 ⌝ }
+    requires { ⌜ a .phase ≤ 4 ⌝ }
     ensures { λ r. ⌜ Ends (32 ∷ first ++ 32 ∷ second ++ 32 ∷ phaseShown (a .phase) ∷ 32 ∷ digits 3 (a .frame) ++ 32 ∷ digits 1 (c .collapse) ++ lineFeed ∷ []) r ⌝ }
 {
     LineEnd {
@@ -134,7 +134,7 @@ fn fields_end(first: [u8; 6], second: [u8; 6], c: Capcode, a: Assignment) -> Lin
 
 // What stands behind the text of an accepted CAPCODE.
 fn accepted_end(c: Capcode, a: Assignment) -> LineEnd
-    requires { ⌜ a .phase < 191 ⌝ }
+    requires { ⌜ a .phase ≤ 4 ⌝ }
     ensures { λ r. ⌜ Ends (verdictBy (toldRead (ReadAnswer.Whole c a)) ++ lineFeed ∷ []) r ⌝ }
 {
     match address::words_of(c.address) {

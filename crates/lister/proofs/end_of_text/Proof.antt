@@ -1,6 +1,5 @@
 -- `end_of_text` meets its contract: what the text was read as decides its end.
 use mathlib.Core.Path.{sym, ap, _∙_}
-use native.Mathlib.Omega.{arith}
 use borrow.Author.Needs.{needs}
 use Rattle.capcode.specs.Reads.{toldRead}
 use Rattle.lister.proofs.LineEnds.{told-ends}
@@ -15,7 +14,7 @@ enum-known-c : tie.Need-enum-known-c
 enum-known-c c = search needs
 
 accepted-end-requires : tie.Need-accepted-end-requires
-accepted-end-requires c κs = read-phase _ _ _ (sym (ap toldRead (c .before .c .given .1)) ∙ c .before .before .before .read .ensures) (omega arith)
+accepted-end-requires c κs = read-phase _ _ _ (sym (ap toldRead (c .before .c .given .1)) ∙ c .before .before .before .read .ensures)
 
 enum-known-r : tie.Need-enum-known-r
 enum-known-r c = search needs
