@@ -1,25 +1,24 @@
 -- Words and addresses lead to each other: what document 01 promises of the way back.
 use Prim.Native.Nat.{ℕ, _+_, _-_, _*_, _/_, _%_, _≤_, _<_}
-use mathlib.Core.Bool.{Bool, true, false, _&&_, and-eq-true-iff}
+use mathlib.Core.Bool.{Bool, true, false, and-eq-true-iff}
 use mathlib.Core.Path.{_≡_, refl, ap, sym, _∙_, subst}
 use mathlib.Core.List.{List, [], _∷_, map}
 use mathlib.Core.Logic.{_⊎_, inl, inr, ⊎-elim}
-use lib.Dec.{leb, eqb}
+use lib.Dec.{eqb}
 use lib.ListN.{getD}
 use native.Mathlib.Omega.{arith}
 use borrow.Author.Tests.{eq-eqb, eqb-true, le-leb, lt-leb}
 use Rattle.laws.specs.Choice.{pick}
-use Rattle.refusal.specs.declared.Refusal.{Refusal}
 use Rattle.refusal.specs.declared.Refusal.the-variants.{Range}
-use Rattle.refusal.specs.Told.{Told, told, refused, given, numberOf}
-use Rattle.refusal.proofs.Laws.{given-not-refused, refused-tells, toldNumber, toldValues}
+use Rattle.refusal.specs.Told.{Told, told, refused, given}
+use Rattle.refusal.proofs.Laws.{given-not-refused, refused-tells, toldValues}
 use Rattle.address.specs.declared.Class.{Class}
 use Rattle.address.specs.declared.Class.the-variants.{Short, InformationService, Network, Operator, Set12, Set13, Set14, Set23Country, Set23InformationService}
 use Rattle.address.specs.declared.Classed.{Classed}
 use Rattle.address.specs.declared.Worded.{Worded}
 use Rattle.address.specs.declared.Addressed.{Addressed}
 use Rattle.address.specs.Ranges.{rows, classIn, classOf, classNumber, toldClassed}
-use Rattle.address.specs.Words.{oneWord, pair12, pair13, pair23, layoutOf, wordsAs, wordsBy, wordsOf, same, gives, fromWord, fromPair, confirmed, addressOf, toldWorded, toldAddressed}
+use Rattle.address.specs.Words.{pair12, pair13, pair23, layoutOf, wordsAs, wordsBy, wordsOf, same, gives, fromWord, fromPair, confirmed, addressOf, toldWorded, toldAddressed}
 use Rattle.address.proofs.Bounds.{rowOf, class-bounds, known-class}
 
 -- a list is the same as itself

@@ -1,6 +1,5 @@
 -- How an answer crosses to C: its number and its values, as the definition tells them, in the fields of a struct. A value that is not told is 0.
 use Prim.Native.Nat.{ℕ}
-use mathlib.Core.List.{List}
 use lib.ListN.{length, getD, drop}
 use Rattle.refusal.specs.Told.{Told, told}
 use Rattle.capcode.specs.declared.Capcode.{Capcode}

@@ -1,5 +1,5 @@
 -- What the listing promises.
-use Prim.Native.Nat.{ℕ, suc, _+_, _-_, _≤_, _<_}
+use Prim.Native.Nat.{ℕ, suc, _-_, _≤_, _<_}
 use mathlib.Core.Bool.{Bool, true, false}
 use mathlib.Core.Path.{_≡_, refl, sym, ap, _∙_}
 use mathlib.Core.List.{List, [], _∷_, _++_, append-assoc}
@@ -17,14 +17,14 @@ use Rattle.capcode.specs.Assigned.{asked}
 use Rattle.capcode.specs.Text.{digits}
 use Rattle.capcode.specs.declared.Capcode.{Capcode}
 use Rattle.capcode.specs.declared.Form.{Form}
-use Rattle.capcode.specs.Reads.{stepOf, Course, going, stopped, follow, blank, endOf, formOf, readOf}
+use Rattle.capcode.specs.Reads.{stepOf, follow, formOf, readOf}
 use Rattle.lister.specs.declared.Fed.{Fed}
 use Rattle.lister.specs.declared.Written.{Written}
 use Rattle.lister.specs.Lines.{header, shown, verdictOf, withoutReturn, listedFrom, listing}
 use Rattle.lister.specs.Portions.{Stand, standOf, fresh, kept, writes, next, writesAll, nextAll, mostWritten, takenOf, closes, toldWritten, Answered, FedAll}
 use Rattle.lister.proofs.Lengths.{writes-short}
 use Rattle.lister.proofs.Progress.{next-joined, writes-joined}
-use Rattle.lister.proofs.Courses.{follow-shown}
+use Rattle.lister.proofs.Said.{said-shown}
 use Rattle.lister.proofs.Listed.{listed}
 use Rattle.lister.proofs.Reading.{too-long, kept-read, kept-verdict}
 
@@ -38,12 +38,7 @@ kept-tell text = (kept-read text, kept-verdict text)
 
 -- a text that is not refused is shown as it is
 pub accepted-shown : (text : List ℕ) (c : Capcode) → formOf text ≡ Form.Says c → shown text ≡ text
-unfolding formOf
-accepted-shown text c e = by-course (follow (going 0 blank) text) refl e
-  where
-    by-course : (course : Course) → follow (going 0 blank) text ≡ course → endOf course ≡ Form.Says c → shown text ≡ text
-    by-course (going m t) e f = follow-shown text 0 blank m t e
-    by-course (stopped place) e f = absurd (let no : _≡_ {A = ℕ} 0 1 = cc in omega arith)
+accepted-shown = said-shown
 
 -- no byte of the input writes more than `mostWritten` bytes
 pub most-written : (s : Stand) (byte : ℕ) → length (writes s byte) ≤ mostWritten

@@ -4,7 +4,7 @@ pub mod LineEnds
 pub mod Writes
 pub mod Lengths
 pub mod Progress
-pub mod Courses
+pub mod Said
 pub mod Reading
 pub mod Listed
 pub mod Laws

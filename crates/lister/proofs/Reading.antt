@@ -10,19 +10,19 @@ use lib.Seq.{take-all, length-take-le}
 use borrow.Author.Tests.{leb-true, leb-false}
 use Rattle.refusal.specs.declared.Refusal.the-variants.{Text}
 use Rattle.refusal.specs.Told.{Told, refused}
-use Rattle.capcode.specs.Reads.{Course, going, stopped, follow, blank, endOf, formOf, readBy, readOf}
+use Rattle.capcode.specs.declared.Form.{Form}
+use Rattle.capcode.specs.Reads.{formOf, readBy, readOf}
 use Rattle.lister.specs.Lines.{lineFeed, verdictBy, verdictOf}
 use Rattle.lister.specs.Portions.{kept}
-use Rattle.lister.proofs.Courses.{long-stops}
+use Rattle.lister.proofs.Said.{said-length}
 
 -- a text of sixteen bytes or more is refused 3
 pub too-long : (text : List ℕ) → 16 ≤ length text → readOf text ≡ refused Text
-unfolding formOf
-too-long text long = by-course (follow (going 0 blank) text) refl
+too-long text long = by-form (formOf text) refl
   where
-    by-course : (course : Course) → follow (going 0 blank) text ≡ course → readBy (endOf course) ≡ refused Text
-    by-course (going m t) e = absurd (long-stops text m t long e)
-    by-course (stopped place) e = refl
+    by-form : (form : Form) → formOf text ≡ form → readBy form ≡ refused Text
+    by-form (Form.Says c) e = absurd (omega (arith, said-length text c e))
+    by-form (Form.Wrong place) e = refl
 
 -- the sixteen bytes that are kept of a text are read as the whole text is
 pub kept-read : (text : List ℕ) → readOf (kept text) ≡ readOf text

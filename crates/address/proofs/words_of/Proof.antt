@@ -1,5 +1,5 @@
 -- `words_of` meets its contract: the class is looked up, and Table 24 has its line.
-use mathlib.Core.Path.{_≡_, sym, _∙_}
+use mathlib.Core.Path.{sym, _∙_}
 use borrow.Author.Needs.{needs}
 use Rattle.address.proofs.Bounds.{class-fits, known-fits, known-words, known-class}
 use Rattle.address.proofs.words_of.Statement.{statement}

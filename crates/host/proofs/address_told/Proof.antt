@@ -1,6 +1,6 @@
 -- `address_told` meets its contract: the answer is told, and its numbers stand in their fields.
 use Prim.Native.Nat.{ℕ}
-use mathlib.Core.Path.{_≡_, ap, sym, _∙_}
+use mathlib.Core.Path.{ap, sym, _∙_}
 use Rattle.address.specs.declared.Addressed.{Addressed}
 use Rattle.address.specs.Words.{toldAddressed}
 use Rattle.host.specs.declared.MortisevaneAddress.{MortisevaneAddress}

@@ -1,6 +1,6 @@
 -- `assignment_told` meets its contract: the answer is told, and its numbers stand in their fields.
 use Prim.Native.Nat.{ℕ}
-use mathlib.Core.Path.{_≡_, ap, sym, _∙_}
+use mathlib.Core.Path.{ap, sym, _∙_}
 use Rattle.capcode.specs.declared.AssignAnswer.{AssignAnswer}
 use Rattle.capcode.specs.Assigned.{toldAssign}
 use Rattle.host.specs.declared.MortisevaneAssignment.{MortisevaneAssignment}

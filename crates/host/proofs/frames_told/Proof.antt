@@ -1,6 +1,6 @@
 -- `frames_told` meets its contract: the answer is told, and its numbers stand in their fields.
 use Prim.Native.Nat.{ℕ}
-use mathlib.Core.Path.{_≡_, ap, sym, _∙_}
+use mathlib.Core.Path.{ap, sym, _∙_}
 use Rattle.frames.specs.declared.Listened.{Listened}
 use Rattle.frames.specs.Listening.{tellListened}
 use Rattle.host.specs.declared.MortisevaneFrames.{MortisevaneFrames}
