@@ -115,22 +115,29 @@ fn list_all(lister: Lister) -> Turn {
     turn
 }
 
-// Writes the listing's first line.
-fn write_title() -> bool {
-    let mut out = io::buffer();
-    let Written::Length(n) = lister::title(&mut out) else {
+// Writes what was put at a buffer's start, if it was put there.
+fn write_put(answer: Written, out: &[u8]) -> bool {
+    let Written::Length(n) = answer else {
         return false;
     };
+    if out.len() < n {
+        return false;
+    }
     write(&out[..n])
 }
 
-// Writes the end of the last line.
-fn write_close(lister: Lister) {
+// Writes the listing's first line.
+fn write_title() -> bool {
     let mut out = io::buffer();
-    let Written::Length(n) = lister::close(lister, &mut out) else {
-        return;
-    };
-    write(&out[..n]);
+    let answer = lister::title(&mut out);
+    write_put(answer, &out)
+}
+
+// Writes the end of the last line.
+fn write_close(lister: Lister) -> bool {
+    let mut out = io::buffer();
+    let answer = lister::close(lister, &mut out);
+    write_put(answer, &out)
 }
 
 fn main() {
