@@ -1,5 +1,6 @@
 -- What a CAPCODE's letter means, and the phase and base frame it assigns (document 01, "CAPCODE text"; S8.6.5, Table 25).
 use Prim.Native.Nat.{ℕ, _-_, _/_, _%_}
+use Prim.Native.Char.{code}
 use mathlib.Core.Bool.{Bool, false, not, _&&_, _||_}
 use mathlib.Core.Path.{_≡_}
 use mathlib.Core.List.{[], _∷_}
@@ -14,23 +15,23 @@ use Rattle.capcode.specs.declared.Judged.{Judged}
 
 -- A to L: phase and frame by the standard rules
 abbrev pub standard : ℕ → Bool
-standard letter = leb 65 letter && leb letter 76
+standard letter = leb (code "A") letter && leb letter (code "L")
 
 -- U to Z: the frame stands in the text
 abbrev pub framed : ℕ → Bool
-framed letter = leb 85 letter && leb letter 90
+framed letter = leb (code "U") letter && leb letter (code "Z")
 
 -- Table 25: E to H and Y are any-phase
 abbrev pub anyPhase : ℕ → Bool
-anyPhase letter = (leb 69 letter && leb letter 72) || eqb letter 89
+anyPhase letter = (leb (code "E") letter && leb letter (code "H")) || eqb letter (code "Y")
 
 -- Table 25: I to L and Z are all-phase, which the decoder does not support
 abbrev pub allPhase : ℕ → Bool
-allPhase letter = (leb 73 letter && leb letter 76) || eqb letter 90
+allPhase letter = (leb (code "I") letter && leb letter (code "L")) || eqb letter (code "Z")
 
 -- Table 25: the offset of A, E and I is 0, and so on to 3; U to Z have none
 abbrev pub offsetOf : ℕ → ℕ
-offsetOf letter = pick (standard letter) ((letter - 65) % 4) 0
+offsetOf letter = pick (standard letter) ((letter - code "A") % 4) 0
 
 -- the number that phase and frame come from: 01, "a = address - offset"
 abbrev pub counted : Capcode → ℕ
@@ -41,7 +42,7 @@ abbrev pub phaseOf : Capcode → ℕ
 phaseOf c =
     pick (anyPhase (c .letter)) 4
     (pick (standard (c .letter)) (counted c / 4 % 4)
-    (c .letter - 85))
+    (c .letter - code "U"))
 
 -- 01: "frame (a div 16) mod 128"; of U to Y the frame digits
 abbrev pub baseOf : Capcode → ℕ

@@ -1,5 +1,6 @@
 -- Reading a text as a CAPCODE, byte by byte (document 01, "CAPCODE text"). The reading stops at the first byte at which no correct text could go on.
 use Prim.Native.Nat.{ℕ, suc, _+_, _-_, _*_, _/_, _%_, _^_, _≤_, _<_}
+use Prim.Native.Char.{code}
 use mathlib.Core.Bool.{Bool, true, false, not, _&&_, _||_}
 use mathlib.Core.List.{List, [], _∷_}
 use lib.Dec.{leb, eqb}
@@ -16,7 +17,7 @@ use Rattle.capcode.specs.Text.{lastOfSeven}
 
 -- a byte that is a decimal digit
 abbrev pub isDigit : ℕ → Bool
-isDigit byte = leb 48 byte && leb byte 57
+isDigit byte = leb (code "0") byte && leb byte (code "9")
 
 -- digits before the letter, so many and of this number, with which some correct text begins: a collapse digit (never 4) or the frame digits 000 to 127 and a collapse digit
 abbrev pub headGoesOn : ℕ → ℕ → Bool
@@ -79,8 +80,8 @@ addressDigit s digit = goOn (addressGoesOn (s .after + 1) (s .address * 10 + dig
 unfoldable pub stepOf : Reading → ℕ → Step
 stepOf s byte =
     pick (eqb (s .letter) 0)
-    (pick (isDigit byte) (headDigit s (byte - 48)) (theLetter s byte))
-    (pick (isDigit byte) (addressDigit s (byte - 48)) Step.Stop)
+    (pick (isDigit byte) (headDigit s (byte - code "0")) (theLetter s byte))
+    (pick (isDigit byte) (addressDigit s (byte - code "0")) Step.Stop)
 
 -- a reading under way and how many bytes it took, or the place at which it stopped
 pub data Course : Type 0 where

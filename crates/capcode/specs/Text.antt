@@ -1,5 +1,6 @@
 -- A CAPCODE as text (document 01, "CAPCODE text"; the house form of S8.6.2).
 use Prim.Native.Nat.{ℕ, zero, suc, _+_, _/_, _%_, _^_, _<_}
+use Prim.Native.Char.{code}
 use mathlib.Core.Bool.{true, _||_}
 use mathlib.Core.Path.{_≡_}
 use mathlib.Core.List.{List, [], _∷_, _++_}
@@ -16,7 +17,7 @@ use Rattle.capcode.specs.Assigned.{standard, framed, fieldsFit, asked}
 -- the last n decimal digits of a number as bytes, highest first; zeros are written
 unfoldable pub digits : ℕ → ℕ → List ℕ
 digits zero number = []
-digits (suc n) number = digits n (number / 10) ++ (48 + number % 10) ∷ []
+digits (suc n) number = digits n (number / 10) ++ (code "0" + number % 10) ∷ []
 
 -- 01: "An address up to 2031614 is seven digits; a larger one is ten"
 abbrev pub lastOfSeven : ℕ

@@ -8,6 +8,7 @@ use lib.Dec.{leb, ltb}
 use lib.ListN.{length, take, getD, length-append}
 use borrow.Author.Tests.{leb-true, le-leb, ltb-false}
 use Rattle.laws.specs.Choice.{pick}
+use Rattle.laws.specs.Texts.{bytesOf}
 use Rattle.refusal.specs.declared.Refusal.the-variants.{Text, Room}
 use Rattle.refusal.specs.Told.{refused, given, ask}
 use Rattle.refusal.proofs.Laws.{toldValues, given-not-refused, refused-tells}
@@ -118,13 +119,10 @@ fed-one s input buffer n a b after other p q =
 
 -- 01's sample: "E0001234", "A0002101249" and "E1234", a line each, and the four lines of their listing
 pub sample :
-    listing (
-    69 ∷ 48 ∷ 48 ∷ 48 ∷ 49 ∷ 50 ∷ 51 ∷ 52 ∷ 10
-    ∷ 65 ∷ 48 ∷ 48 ∷ 48 ∷ 50 ∷ 49 ∷ 48 ∷ 49 ∷ 50 ∷ 52 ∷ 57 ∷ 10
-    ∷ 69 ∷ 49 ∷ 50 ∷ 51 ∷ 52 ∷ 10 ∷ [])
-    ≡ 65 ∷ 68 ∷ 68 ∷ 82 ∷ 69 ∷ 83 ∷ 83 ∷ 32 ∷ 70 ∷ 73 ∷ 82 ∷ 83 ∷ 84 ∷ 32 ∷ 83 ∷ 69 ∷ 67 ∷ 79 ∷ 78 ∷ 68 ∷ 32 ∷ 80 ∷ 72 ∷ 65 ∷ 83 ∷ 69 ∷ 32 ∷ 70 ∷ 82 ∷ 65 ∷ 77 ∷ 69 ∷ 32 ∷ 67 ∷ 79 ∷ 76 ∷ 76 ∷ 65 ∷ 80 ∷ 83 ∷ 69 ∷ 10
-    ∷ 69 ∷ 48 ∷ 48 ∷ 48 ∷ 49 ∷ 50 ∷ 51 ∷ 52 ∷ 32 ∷ 48 ∷ 48 ∷ 56 ∷ 52 ∷ 68 ∷ 50 ∷ 32 ∷ 45 ∷ 45 ∷ 45 ∷ 45 ∷ 45 ∷ 45 ∷ 32 ∷ 42 ∷ 32 ∷ 48 ∷ 55 ∷ 55 ∷ 32 ∷ 52 ∷ 10
-    ∷ 65 ∷ 48 ∷ 48 ∷ 48 ∷ 50 ∷ 49 ∷ 48 ∷ 49 ∷ 50 ∷ 52 ∷ 57 ∷ 32 ∷ 48 ∷ 48 ∷ 48 ∷ 48 ∷ 48 ∷ 49 ∷ 32 ∷ 49 ∷ 70 ∷ 70 ∷ 70 ∷ 70 ∷ 69 ∷ 32 ∷ 65 ∷ 32 ∷ 48 ∷ 48 ∷ 48 ∷ 32 ∷ 52 ∷ 10
-    ∷ 69 ∷ 49 ∷ 50 ∷ 51 ∷ 52 ∷ 32 ∷ 82 ∷ 69 ∷ 70 ∷ 85 ∷ 83 ∷ 69 ∷ 68 ∷ 32 ∷ 51 ∷ 10 ∷ []
+    listing (bytesOf "E0001234\nA0002101249\nE1234\n")
+    ≡ bytesOf "ADDRESS FIRST SECOND PHASE FRAME COLLAPSE\n"
+    ++ bytesOf "E0001234 0084D2 ------ * 077 4\n"
+    ++ bytesOf "A0002101249 000001 1FFFFE A 000 4\n"
+    ++ bytesOf "E1234 REFUSED 3\n"
 unfolding header shown verdictOf withoutReturn listedFrom formOf follow stepOf asked wordsOf classOf classIn rows digits
 sample = refl

@@ -1,10 +1,12 @@
 -- The listing of CAPCODE lines, to the letter (document 01, "The listing program").
-use Prim.Native.Nat.{ℕ, _+_, _/_, _%_}
+use Prim.Native.Nat.{ℕ, _+_, _-_, _/_, _%_}
+use Prim.Native.Char.{code}
 use mathlib.Core.Bool.{_&&_}
 use mathlib.Core.List.{List, [], _∷_, _++_}
 use lib.Dec.{leb, ltb, eqb}
 use lib.ListN.{getD}
 use Rattle.laws.specs.Choice.{pick}
+use Rattle.laws.specs.Texts.{bytesOf}
 use Rattle.refusal.specs.Told.{Told, told}
 use Rattle.address.specs.Words.{wordsOf}
 use Rattle.capcode.specs.Text.{digits}
@@ -12,28 +14,26 @@ use Rattle.capcode.specs.Reads.{readOf}
 
 -- the byte that ends a line
 abbrev pub lineFeed : ℕ
-lineFeed = 10
+lineFeed = code "\n"
 
 -- the byte that is dropped before it
 abbrev pub carriageReturn : ℕ
-carriageReturn = 13
+carriageReturn = code "\r"
 
--- "ADDRESS FIRST SECOND PHASE FRAME COLLAPSE", the first line
+-- the first line
 unfoldable pub header : List ℕ
-header =
-    65 ∷ 68 ∷ 68 ∷ 82 ∷ 69 ∷ 83 ∷ 83 ∷ 32 ∷ 70 ∷ 73 ∷ 82 ∷ 83 ∷ 84 ∷ 32 ∷ 83 ∷ 69 ∷ 67 ∷ 79 ∷ 78 ∷ 68 ∷ 32
-    ∷ 80 ∷ 72 ∷ 65 ∷ 83 ∷ 69 ∷ 32 ∷ 70 ∷ 82 ∷ 65 ∷ 77 ∷ 69 ∷ 32 ∷ 67 ∷ 79 ∷ 76 ∷ 76 ∷ 65 ∷ 80 ∷ 83 ∷ 69 ∷ 10 ∷ []
+header = bytesOf "ADDRESS FIRST SECOND PHASE FRAME COLLAPSE\n"
 
 -- a hexadecimal digit as a byte, capitals
 abbrev pub hexDigit : ℕ → ℕ
-hexDigit d = pick (ltb d 10) (48 + d) (55 + d)
+hexDigit d = pick (ltb d 10) (code "0" + d) (code "A" - 10 + d)
 
 -- a byte as the listing shows it: printable ASCII as it is, a backslash as two, any other byte as \x and two hexadecimal digits (house)
 abbrev pub shownByte : ℕ → List ℕ
 shownByte byte =
-    pick (eqb byte 92) (92 ∷ 92 ∷ [])
-    (pick (leb 32 byte && leb byte 126) (byte ∷ [])
-    (92 ∷ 120 ∷ hexDigit (byte / 16) ∷ hexDigit (byte % 16) ∷ []))
+    pick (eqb byte (code "\\")) (bytesOf "\\\\")
+    (pick (leb (code " ") byte && leb byte (code "~")) (byte ∷ [])
+    (code "\\" ∷ code "x" ∷ hexDigit (byte / 16) ∷ hexDigit (byte % 16) ∷ []))
 
 -- a text as the listing shows it
 unfoldable pub shown : List ℕ → List ℕ
@@ -46,9 +46,9 @@ sixDigits word =
     hexDigit (word / 0x100000 % 16) ∷ hexDigit (word / 0x10000 % 16) ∷ hexDigit (word / 0x1000 % 16)
     ∷ hexDigit (word / 0x100 % 16) ∷ hexDigit (word / 0x10 % 16) ∷ hexDigit (word % 16) ∷ []
 
--- "------", where there is no second word
+-- where there is no second word
 abbrev pub noWord : List ℕ
-noWord = 45 ∷ 45 ∷ 45 ∷ 45 ∷ 45 ∷ 45 ∷ []
+noWord = bytesOf "------"
 
 -- the second of the words, if there is one
 abbrev pub secondShown : List ℕ → List ℕ
@@ -58,27 +58,27 @@ secondShown (first ∷ second ∷ more) = sixDigits second
 
 -- FIRST and SECOND
 abbrev pub wordsShown : Told → List ℕ
-wordsShown (told n words) = sixDigits (getD words 0 0) ++ 32 ∷ secondShown words
+wordsShown (told n words) = sixDigits (getD words 0 0) ++ code " " ∷ secondShown words
 
 -- PHASE: its letter, or `*` for any-phase, which is told as 4
 abbrev pub phaseShown : ℕ → ℕ
-phaseShown phase = pick (eqb phase 4) 42 (65 + phase)
+phaseShown phase = pick (eqb phase 4) (code "*") (code "A" + phase)
 
 -- what stands behind the text of an accepted CAPCODE, of which letter, frame, collapse, address, phase and base frame are told
 abbrev pub acceptedEnd : List ℕ → List ℕ
 acceptedEnd values =
-    32 ∷ wordsShown (wordsOf (getD values 3 0))
-    ++ 32 ∷ phaseShown (getD values 4 0)
-    ∷ 32 ∷ digits 3 (getD values 5 0)
-    ++ 32 ∷ digits 1 (getD values 2 0)
+    code " " ∷ wordsShown (wordsOf (getD values 3 0))
+    ++ code " " ∷ phaseShown (getD values 4 0)
+    ∷ code " " ∷ digits 3 (getD values 5 0)
+    ++ code " " ∷ digits 1 (getD values 2 0)
 
 -- a number of at most two digits, with no zero before it
 abbrev pub plain : ℕ → List ℕ
-plain n = pick (ltb n 10) ((48 + n) ∷ []) ((48 + n / 10 % 10) ∷ (48 + n % 10) ∷ [])
+plain n = pick (ltb n 10) ((code "0" + n) ∷ []) ((code "0" + n / 10 % 10) ∷ (code "0" + n % 10) ∷ [])
 
--- " REFUSED n"
+-- what stands behind a refused text: the word, and 01's number
 abbrev pub refusedEnd : ℕ → List ℕ
-refusedEnd n = 32 ∷ 82 ∷ 69 ∷ 70 ∷ 85 ∷ 83 ∷ 69 ∷ 68 ∷ 32 ∷ plain n
+refusedEnd n = bytesOf " REFUSED " ++ plain n
 
 -- what stands behind a text, by what it was read as
 abbrev pub verdictBy : Told → List ℕ
