@@ -58,7 +58,7 @@ heard-by text byte i j s t (Step.On u) step sound e rest =
     (r .0, r .1 ∙ ap (λ (b : List ℕ). b ++ text) (bytes-by s u byte (stepped s u byte step)) ∙ append-snoc (bytes s) byte text)
 heard-by text byte i j s t Step.Stop step sound e rest = absurd (let no : _≡_ {A = ℕ} 0 1 = cc (sym (follow-stopped i text) ∙ e) in omega arith)
 
-heard : (text : List ℕ) (i j : ℕ) (s t : Reading) → Sound s → follow (going i s) text ≡ going j t → Sound t × (bytes t ≡ bytes s ++ text)
+pub heard : (text : List ℕ) (i j : ℕ) (s t : Reading) → Sound s → follow (going i s) text ≡ going j t → Sound t × (bytes t ≡ bytes s ++ text)
 unfolding follow
 heard [] i j s t sound e =
     let same : s ≡ t = cc in

@@ -7,5 +7,6 @@ pub mod Prints
 pub mod Parts
 pub mod Spoken
 pub mod Heard
+pub mod Places
 pub mod Laws
 pub mod Examples

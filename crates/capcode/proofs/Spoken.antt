@@ -25,7 +25,7 @@ follow-append course [] more = refl
 follow-append course (byte ∷ text) more = follow-append (takes course byte) text more
 
 -- the byte of a digit is one
-digit-byte : (digit : ℕ) → digit ≤ 9 → isDigit (48 + digit) ≡ true
+pub digit-byte : (digit : ℕ) → digit ≤ 9 → isDigit (48 + digit) ≡ true
 digit-byte digit small = rw (le-leb 48 (48 + digit) (omega arith), le-leb (48 + digit) 57 (omega arith))
 
 -- digits that go on are taken one by one; `at` is where the reading stands after so many of a number
