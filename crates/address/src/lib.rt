@@ -106,9 +106,10 @@ pub enum Classed {
 pub fn class_of(address: u64) -> Classed
     ensures { λ r. ⌜ r ≡ classOf address ⌝ }
 {
+    let rows = ROWS;
     let mut i = 0;
     while i < 9 {
-        let row = ROWS[i];
+        let row = rows[i];
         if (row.from <= address) & (address <= row.to) {
             let class = row.class;
             return Classed::In(class);

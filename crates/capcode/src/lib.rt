@@ -243,8 +243,10 @@ fn letter_goes_on(count: u32, letter: u8) -> bool
 fn address_goes_on(count: u32, number: u64) -> bool
     ensures { λ r. ⌜ r ≡ addressGoesOn count number ⌝ }
 {
-    (count <= 7)
-        | ((count == 8) & (20316 <= number))
+    if count <= 7 {
+        return true;
+    }
+    ((count == 8) & (20316 <= number))
         | ((count == 9) & (203161 <= number))
         | ((count == 10) & (2031615 <= number))
 }

@@ -2,6 +2,7 @@ pub mod Keeping
 pub mod Phase
 pub mod LineEnds
 pub mod Writes
+pub mod AsItIs
 pub mod Lengths
 pub mod Progress
 pub mod Said

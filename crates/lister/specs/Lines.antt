@@ -1,7 +1,7 @@
 -- The listing of CAPCODE lines, to the letter (document 01, "The listing program").
 use Prim.Native.Nat.{ℕ, _+_, _-_, _/_, _%_}
 use Prim.Native.Char.{code}
-use mathlib.Core.Bool.{_&&_}
+use mathlib.Core.Bool.{Bool, _&&_}
 use mathlib.Core.List.{List, [], _∷_, _++_}
 use lib.Dec.{leb, ltb, eqb}
 use lib.ListN.{getD}
@@ -28,11 +28,15 @@ header = bytesOf "ADDRESS FIRST SECOND PHASE FRAME COLLAPSE\n"
 abbrev pub hexDigit : ℕ → ℕ
 hexDigit d = pick (ltb d 10) (code "0" + d) (code "A" - 10 + d)
 
+-- printable ASCII
+abbrev pub printable : ℕ → Bool
+printable byte = leb (code " ") byte && leb byte (code "~")
+
 -- a byte as the listing shows it: printable ASCII as it is, a backslash as two, any other byte as \x and two hexadecimal digits (house)
 abbrev pub shownByte : ℕ → List ℕ
 shownByte byte =
     pick (eqb byte (code "\\")) (bytesOf "\\\\")
-    (pick (leb (code " ") byte && leb byte (code "~")) (byte ∷ [])
+    (pick (printable byte) (byte ∷ [])
     (code "\\" ∷ code "x" ∷ hexDigit (byte / 16) ∷ hexDigit (byte % 16) ∷ []))
 
 -- a text as the listing shows it

@@ -1,6 +1,7 @@
 -- The listing by portions: what each byte writes, and where the listing then stands.
 use Prim.Native.Nat.{ℕ, suc, _+_, _-_, _≤_}
-use mathlib.Core.Bool.{Bool, true, false}
+use Prim.Native.Char.{code}
+use mathlib.Core.Bool.{Bool, true, false, not, _&&_}
 use mathlib.Core.Path.{_≡_}
 use mathlib.Core.List.{List, [], _∷_, _++_}
 use lib.Dec.{leb, ltb, eqb}
@@ -14,7 +15,11 @@ use Rattle.lister.specs.declared.Fed.{Fed}
 use Rattle.lister.specs.declared.Course.{Course}
 use Rattle.lister.specs.declared.Written.{Written}
 use Rattle.lister.specs.declared.LineEnd.{LineEnd}
-use Rattle.lister.specs.Lines.{lineFeed, carriageReturn, shownByte, verdictOf}
+use Rattle.lister.specs.Lines.{lineFeed, carriageReturn, printable, shownByte, verdictOf}
+
+-- a byte that the listing shows as it is
+abbrev pub asItIs : ℕ → Bool
+asItIs byte = printable byte && not (eqb byte (code "\\"))
 
 -- where a listing stands: the bytes of the present line that are kept, and whether a carriage return is held back
 pub data Stand : Type 0 where

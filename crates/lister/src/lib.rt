@@ -1,7 +1,7 @@
 // The listing of CAPCODE lines (document 01, "The listing program"), by portions of any size: bytes of
 // lines in, bytes of the listing out.
 ghost use mathlib.Core.Path.{_≡_};
-ghost use mathlib.Core.Bool.{false};
+ghost use mathlib.Core.Bool.{true, false, not, _&&_};
 ghost use mathlib.Core.List.{[], _∷_, _++_};
 ghost use Prim.Native.Nat.{_+_, _^_, _≤_, _<_};
 ghost use lib.ListN.{length, take};
@@ -10,7 +10,7 @@ ghost use Rattle.refusal.specs.Told.{refused};
 ghost use Rattle.capcode.specs.Text.{digits};
 ghost use Rattle.capcode.specs.Reads.{toldRead};
 ghost use Rattle.lister.specs.Lines.{lineFeed, header, hexDigit, shownByte, sixDigits, phaseShown, verdictBy, verdictOf};
-ghost use Rattle.lister.specs.Portions.{stand, standOf, standAt, fresh, kept, heldBytes, heldShown, writes, next, closes, mostWritten, takenOf, Answered, Wrote, Ends, FedByte, FedAll};
+ghost use Rattle.lister.specs.Portions.{stand, standOf, standAt, fresh, kept, heldBytes, heldShown, writes, next, closes, mostWritten, takenOf, asItIs, Answered, Wrote, Ends, FedByte, FedAll};
 use address::Worded;
 use capcode::Assignment;
 use capcode::Capcode;
@@ -281,6 +281,32 @@ pub fn start() -> Lister
     }
 }
 
+// Whether the listing shows a byte as it is.
+fn is_shown_as_it_is(byte: u8) -> bool
+    ensures { λ r. ⌜ r ≡ asItIs byte ⌝ }
+{
+    ((b' ' <= byte) & (byte <= b'~')) & !(byte == b'\\')
+}
+
+// Takes a byte that is shown as it is, where no carriage return is held back: nearly every byte, so it
+// has the short way.
+fn feed_as_it_is(line: &mut [u8], course: Course, byte: u8, out: &mut [u8]) -> Course
+    requires { ⌜ length (now line) ≡ 16 ⌝ }
+    requires { ⌜ course .written + mostWritten ≤ length (now out) ⌝ }
+    requires { ⌜ course .taken + 1 < 2 ^ 64 ⌝ }
+    requires { ⌜ (asItIs byte && not (course .held)) ≡ true ⌝ }
+    ensures { λ r. ⌜ FedByte (now (line .entry)) course (now (out .entry)) byte (now (line .exit)) r (now (out .exit)) ⌝ }
+{
+    let at = course.written;
+    out[at] = byte;
+    Course {
+        count: keep(line, course.count, byte),
+        held: course.held,
+        taken: course.taken + 1,
+        written: at + 1,
+    }
+}
+
 // Takes one byte more of a portion.
 fn feed_byte(line: &mut [u8], course: Course, byte: u8, out: &mut [u8]) -> Course
     requires { ⌜ length (now line) ≡ 16 ⌝ }
@@ -288,6 +314,9 @@ fn feed_byte(line: &mut [u8], course: Course, byte: u8, out: &mut [u8]) -> Cours
     requires { ⌜ course .taken + 1 < 2 ^ 64 ⌝ }
     ensures { λ r. ⌜ FedByte (now (line .entry)) course (now (out .entry)) byte (now (line .exit)) r (now (out .exit)) ⌝ }
 {
+    if is_shown_as_it_is(byte) & !course.held {
+        return feed_as_it_is(line, course, byte, out);
+    }
     let written = write_byte(line, course, byte, out);
     Course {
         count: keep_byte(line, course.count, course.held, byte),

@@ -33,12 +33,12 @@ fn write(text: &[u8]) -> bool {
 }
 
 // Lists as many bytes as the buffer has room for, and writes their listing.
-fn list_some(lister: Lister, input: &[u8]) -> Listed
+fn list_some(lister: Lister, input: &[u8], out: &mut [u8]) -> Listed
+    requires { ⌜ 32 ≤ length (now out) ⌝ }
     ensures { λ r. ⌜ r .taken ≤ length (now (input .entry)) ⌝ }
     ensures { λ r. ⌜ (0 < length (now (input .entry)) → 0 < r .taken) ⌝ }
 {
-    let mut out = io::large_buffer();
-    let fed = lister::feed(lister, input, &mut out);
+    let fed = lister::feed(lister, input, out);
     let written = fed.written;
     let is_written = write(&out[..written]);
     let lister = fed.lister;
@@ -50,11 +50,13 @@ fn list_some(lister: Lister, input: &[u8]) -> Listed
 }
 
 // Lists a portion.
-fn list_portion(lister: Lister, input: &[u8]) -> Turn {
+fn list_portion(lister: Lister, input: &[u8], out: &mut [u8]) -> Turn
+    requires { ⌜ 32 ≤ length (now out) ⌝ }
+{
     let mut state = lister;
     let mut at = 0;
     while at < input.len() {
-        let listed = list_some(state, &input[at..]);
+        let listed = list_some(state, &input[at..], out);
         state = listed.lister;
         if !listed.is_written {
             return Turn {
@@ -73,9 +75,10 @@ fn list_portion(lister: Lister, input: &[u8]) -> Turn {
 }
 
 // Reads a portion and lists it. The end of the input is a read of no bytes.
-fn list_read(lister: Lister) -> Turn {
-    let mut input = io::large_buffer();
-    let got = libc::read(STDIN_FILENO, &mut input);
+fn list_read(lister: Lister, input: &mut [u8], out: &mut [u8]) -> Turn
+    requires { ⌜ 32 ≤ length (now out) ⌝ }
+{
+    let got = libc::read(STDIN_FILENO, input);
     if got < 0 {
         os::fail(b"standard input");
         return Turn {
@@ -91,8 +94,8 @@ fn list_read(lister: Lister) -> Turn {
             is_well: true,
         };
     }
-    let n = io::count(got, &input);
-    list_portion(lister, &input[..n])
+    let n = io::count(got, input);
+    list_portion(lister, &input[..n], out)
 }
 
 // Lists all that can be read. A loop has to end, and nothing says that an input does: the turns are
@@ -103,13 +106,15 @@ fn list_all(lister: Lister) -> Turn {
         goes_on: true,
         is_well: true,
     };
+    let mut input = io::large_buffer();
+    let mut out = io::large_buffer();
     let mut turns = u64::MAX;
     while turns > 0 {
         if !turn.goes_on {
             break;
         }
         let state = turn.lister;
-        turn = list_read(state);
+        turn = list_read(state, &mut input, &mut out);
         turns -= 1;
     }
     turn

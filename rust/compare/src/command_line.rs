@@ -7,6 +7,8 @@ pub const USAGE: &str = "usage: compare exports EXCHANGE_COMMAND.. [--seed NUMBE
        compare lines LISTING_COMMAND.. [--count NUMBER] [--seed NUMBER]
        compare edges LISTING_COMMAND..
        compare write-lines COUNT [SEED]
+       compare write-capcodes COUNT [SEED]
+       compare copy-lines
 A command is a program and its arguments, such as
 `tools/run-x86-64 target/exchange/exchange`.";
 
@@ -29,6 +31,11 @@ pub enum Task {
         count: u64,
         seed: u64,
     },
+    WriteCapcodes {
+        count: u64,
+        seed: u64,
+    },
+    CopyLines,
 }
 
 /// Nothing where the words ask for nothing known.
@@ -52,18 +59,25 @@ pub fn read(words: &[String]) -> Option<Task> {
             let (listing, []) = command_and_numbers(rest, [])?;
             Some(Task::Edges { listing })
         }
-        "write-lines" => write_lines(rest),
+        "write-lines" => {
+            let (count, seed) = count_and_seed(rest)?;
+            Some(Task::WriteLines { count, seed })
+        }
+        "write-capcodes" => {
+            let (count, seed) = count_and_seed(rest)?;
+            Some(Task::WriteCapcodes { count, seed })
+        }
+        "copy-lines" if rest.is_empty() => Some(Task::CopyLines),
         _ => None,
     }
 }
 
-fn write_lines(words: &[String]) -> Option<Task> {
-    let (count, seed) = match words {
-        [count] => (count.parse().ok()?, DEFAULT_SEED),
-        [count, seed] => (count.parse().ok()?, seed.parse().ok()?),
-        _ => return None,
-    };
-    Some(Task::WriteLines { count, seed })
+fn count_and_seed(words: &[String]) -> Option<(u64, u64)> {
+    match words {
+        [count] => Some((count.parse().ok()?, DEFAULT_SEED)),
+        [count, seed] => Some((count.parse().ok()?, seed.parse().ok()?)),
+        _ => None,
+    }
 }
 
 /// Only at the end of the words are options ours; those before belong to the
@@ -133,6 +147,8 @@ mod tests {
             "write-lines",
             "write-lines many",
             "write-lines 1 2 3",
+            "write-capcodes",
+            "copy-lines all",
         ] {
             assert_eq!(read(&words(line)), None, "{line}");
         }

@@ -1,6 +1,6 @@
 //! Seeded lines through a listing program.
 
-use std::io::{self, BufWriter, Write};
+use std::io::{self, BufRead, BufWriter, Write};
 
 use crate::listing_program::{agree, Feeding};
 use crate::texts::Texts;
@@ -28,6 +28,30 @@ pub fn compare(listing: &[String], count: u64, seed: u64) -> Result<String, Stri
 pub fn write(output: impl Write, count: u64, seed: u64) -> io::Result<()> {
     let mut output = BufWriter::new(output);
     write_lines(&mut Texts::new(seed), count, &mut output)?;
+    output.flush()
+}
+
+/// Writes lines that are all accepted, as a label desk's are.
+pub fn write_capcodes(output: impl Write, count: u64, seed: u64) -> io::Result<()> {
+    let mut output = BufWriter::new(output);
+    let mut texts = Texts::new(seed);
+    for _ in 0..count {
+        output.write_all(&texts.accepted())?;
+        output.write_all(b"\n")?;
+    }
+    output.flush()
+}
+
+/// Writes each line that is read with as many bytes behind it as an accepted
+/// one has in the listing: what reading and writing alone take.
+pub fn copy(mut input: impl BufRead, output: impl Write) -> io::Result<()> {
+    let mut output = BufWriter::new(output);
+    let mut line = Vec::new();
+    while input.read_until(b'\n', &mut line)? != 0 {
+        output.write_all(line.strip_suffix(b"\n").unwrap_or(&line))?;
+        output.write_all(b" 000000 ------ A 000 4\n")?;
+        line.clear();
+    }
     output.flush()
 }
 
@@ -59,6 +83,25 @@ fn change_end(input: &mut Vec<u8>, index: u64) {
 #[cfg(test)]
 mod tests {
     use super::*;
+
+    #[test]
+    fn capcodes_are_accepted() {
+        let mut written = Vec::new();
+        write_capcodes(&mut written, 1_000, 1).expect("memory takes all");
+        let lines = written.strip_suffix(b"\n").expect("the last line ends");
+        let texts = lines.split(|byte| *byte == b'\n');
+        let accepted = texts.filter(|text| second::capcode::read(text).is_ok());
+        assert_eq!(accepted.count(), 1_000);
+    }
+
+    #[test]
+    fn a_copied_line_is_as_long_as_a_listed_one() {
+        let mut copied = Vec::new();
+        copy(&b"A0000001\n"[..], &mut copied).expect("memory takes all");
+        let listed = b"A0000001 008001 ------ A 000 4\n";
+        assert_eq!(copied.len(), listed.len());
+        assert!(copied.starts_with(b"A0000001 "));
+    }
 
     #[test]
     fn as_many_lines_as_asked_for() {

@@ -48,6 +48,14 @@ fn carry_out(task: &Task) -> Result<(), String> {
             return lines::write(io::stdout().lock(), *count, *seed)
                 .map_err(|error| format!("the lines cannot be written: {error}"));
         }
+        Task::WriteCapcodes { count, seed } => {
+            return lines::write_capcodes(io::stdout().lock(), *count, *seed)
+                .map_err(|error| format!("the lines cannot be written: {error}"));
+        }
+        Task::CopyLines => {
+            return lines::copy(io::stdin().lock(), io::stdout().lock())
+                .map_err(|error| format!("the lines cannot be copied: {error}"));
+        }
     };
     println!("{compared}");
     Ok(())

@@ -50,6 +50,16 @@ impl Texts {
         text
     }
 
+    /// A text that is accepted.
+    pub fn accepted(&mut self) -> Vec<u8> {
+        loop {
+            let text = self.well_formed();
+            if second::capcode::read(&text).is_ok() {
+                return text;
+            }
+        }
+    }
+
     /// A text far longer than any CAPCODE.
     pub fn long_text(&mut self) -> Vec<u8> {
         let length = self.random.between(1_000, LONGEST_TEXT) as usize;

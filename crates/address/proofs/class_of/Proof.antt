@@ -17,10 +17,10 @@ abbrev blank : Row
 blank = record { from = 0; to = 0; class = Short }
 
 abbrev Inv-loop : tie.InvT-loop
-Inv-loop address i₀ i = (i ≤ 9) × (classOf address ≡ classIn (drop i rows) address)
+Inv-loop address table i₀ i = (i ≤ 9) × (classOf address ≡ classIn (drop i rows) address)
 
 abbrev μ-loop : tie.MeasureT-loop
-μ-loop address i₀ i = 9 - i
+μ-loop address table i₀ i = 9 - i
 
 loop-holds : tie.Need-loop-holds Inv-loop μ-loop
 unfolding classOf
