@@ -226,10 +226,16 @@ fn is_digit(byte: u8) -> bool
 fn head_goes_on(count: u32, number: u32) -> bool
     ensures { λ r. ⌜ r ≡ headGoesOn count number ⌝ }
 {
-    ((count == 1) & ((number <= 3) | (number == 5)))
-        | ((count == 2) & (number <= 12))
-        | ((count == 3) & (number <= 127))
-        | ((count == 4) & (number % 10 <= 5))
+    if count == 1 {
+        return (number <= 3) | (number == 5);
+    }
+    if count == 2 {
+        return number <= 12;
+    }
+    if count == 3 {
+        return number <= 127;
+    }
+    (count == 4) & (number % 10 <= 5)
 }
 
 fn letter_goes_on(count: u32, letter: u8) -> bool

@@ -42,3 +42,8 @@ pub neither : (a b : Bool) → (a || b) ≡ false → b ≡ false
 neither true true e = e
 neither true false e = refl
 neither false b e = e
+
+-- a test or none
+pub or-none : (a : Bool) → (a || false) ≡ a
+or-none true = refl
+or-none false = refl

@@ -1,12 +1,15 @@
 //! Seeded lines through a listing program.
 
-use std::io::{self, BufRead, BufWriter, Write};
+use std::io::{self, BufRead, BufReader, BufWriter, Read, Write};
 
 use crate::listing_program::{agree, Feeding};
 use crate::texts::Texts;
 
 /// The lines go in as so many inputs, so that several ends of input are met.
 const INPUTS: u64 = 8;
+
+/// As many as the listing program reads and writes at a time.
+const BUFFER_BYTES: usize = 1 << 16;
 
 pub fn compare(listing: &[String], count: u64, seed: u64) -> Result<String, String> {
     let mut texts = Texts::new(seed);
@@ -44,8 +47,9 @@ pub fn write_capcodes(output: impl Write, count: u64, seed: u64) -> io::Result<(
 
 /// Writes each line that is read with as many bytes behind it as an accepted
 /// one has in the listing: what reading and writing alone take.
-pub fn copy(mut input: impl BufRead, output: impl Write) -> io::Result<()> {
-    let mut output = BufWriter::new(output);
+pub fn copy(input: impl Read, output: impl Write) -> io::Result<()> {
+    let mut input = BufReader::with_capacity(BUFFER_BYTES, input);
+    let mut output = BufWriter::with_capacity(BUFFER_BYTES, output);
     let mut line = Vec::new();
     while input.read_until(b'\n', &mut line)? != 0 {
         output.write_all(line.strip_suffix(b"\n").unwrap_or(&line))?;
