@@ -16,8 +16,9 @@ use Rattle.capcode.specs.declared.Step.{Step}
 use Rattle.capcode.specs.declared.Form.{Form}
 use Rattle.capcode.specs.Text.{digits, textOf, Sayable}
 use Rattle.capcode.specs.Reads.{letterGoesOn, stepOf, Course, going, stopped, onward, follow, blank, isWhole, saidBy, endOf, formOf}
+use Rattle.capcode.specs.Underway.{Sound}
 use Rattle.capcode.proofs.Steps.{Stepped, by-head, by-letter, by-address, stepped, digit-from, digit-to}
-use Rattle.capcode.proofs.Sound.{Sound, sound-blank, sound-step, address-below}
+use Rattle.capcode.proofs.Sound.{sound-blank, sound-step, address-below}
 use Rattle.capcode.proofs.Course.{follow-stopped}
 use Rattle.capcode.proofs.Parts.{lettered, headed, Ended, width-of}
 use Rattle.capcode.proofs.Spoken.{letter-high}

@@ -12,7 +12,8 @@ use Rattle.capcode.specs.declared.Capcode.{Capcode}
 use Rattle.capcode.specs.Assigned.{standard, framed, fieldsFit}
 use Rattle.capcode.specs.Text.{digits, lastOfSeven, widthOf, headOf, headWidth, Sayable}
 use Rattle.capcode.specs.Reads.{headGoesOn, letterGoesOn, addressGoesOn}
-use Rattle.capcode.proofs.Sound.{Digits, one-digit, head-frame}
+use Rattle.capcode.specs.Underway.{Digits}
+use Rattle.capcode.proofs.Sound.{one-digit, head-frame}
 use Rattle.capcode.proofs.Writes.{head-digits}
 use Rattle.laws.proofs.Tests.{first-of, second-of, other-of, either-of, only}
 

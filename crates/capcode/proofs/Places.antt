@@ -16,8 +16,9 @@ use Rattle.capcode.specs.declared.Reading.{Reading}
 use Rattle.capcode.specs.declared.Step.{Step}
 use Rattle.capcode.specs.declared.Form.{Form}
 use Rattle.capcode.specs.Reads.{isDigit, headGoesOn, letterGoesOn, addressGoesOn, withHead, withLetter, withAddress, addressDigit, stepOf, Course, going, stopped, onward, follow, blank, isWhole, saidBy, endOf, formOf}
+use Rattle.capcode.specs.Underway.{Digits, Sound}
 use Rattle.capcode.proofs.Steps.{step-head, step-letter, step-address}
-use Rattle.capcode.proofs.Sound.{Digits, Sound, sound-blank}
+use Rattle.capcode.proofs.Sound.{sound-blank}
 use Rattle.capcode.proofs.Course.{follow-stopped}
 use Rattle.capcode.proofs.Spoken.{follow-append, digit-byte}
 use Rattle.capcode.proofs.Heard.{heard}

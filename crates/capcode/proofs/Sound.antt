@@ -1,4 +1,4 @@
--- What holds of every reading under way: each byte so far was one with which some correct text goes on. The bounds follow.
+-- What holds of a reading under way holds at the start and stays so at each byte. The bounds follow.
 use Prim.Native.Nat.{ℕ, zero, suc, _+_, _*_, _/_, _%_, _^_, _≤_, _<_}
 use mathlib.Core.Bool.{Bool, true, _&&_, _||_}
 use mathlib.Core.Path.{_≡_, refl, subst}
@@ -10,14 +10,10 @@ use lib.Dec.{leb, eqb}
 use borrow.Author.Tests.{leb-true, eqb-true}
 use Rattle.capcode.specs.declared.Reading.{Reading}
 use Rattle.capcode.specs.declared.Step.{Step}
-use Rattle.capcode.specs.Reads.{headGoesOn, letterGoesOn, addressGoesOn, Bounded, stepOf, blank}
+use Rattle.capcode.specs.Reads.{headGoesOn, addressGoesOn, Bounded, stepOf, blank}
+use Rattle.capcode.specs.Underway.{Digits, Sound}
 use Rattle.capcode.proofs.Steps.{Stepped, by-head, by-letter, by-address, stepped, digit-small}
 use Rattle.laws.proofs.Tests.{first-of, second-of, either-of, one-of}
-
--- a number of so many digits of which a test held at each digit
-abbrev pub Digits : (ℕ → ℕ → Bool) → ℕ → ℕ → Type 0
-Digits goesOn zero number = number ≡ 0
-Digits goesOn (suc n) number = (goesOn (suc n) number ≡ true) × Digits goesOn n (number / 10)
 
 -- one digit more
 digits-more : (goesOn : ℕ → ℕ → Bool) (n number digit : ℕ) → digit ≤ 9 → goesOn (n + 1) (number * 10 + digit) ≡ true → Digits goesOn n number → Digits goesOn (n + 1) (number * 10 + digit)
@@ -95,12 +91,6 @@ address-below address width goes-on =
     let below : address < 10 ^ width = digits-below addressGoesOn width address goes-on in
     let most : 10 ^ width ≤ 10 ^ 10 = pow-le-pow-right (omega arith) (address-upto width address goes-on) in
     omega arith
-
--- what holds of every reading under way
-pub record Sound (s : Reading) : Type 0 where
-  pub head : Digits headGoesOn (s .before) (s .number)
-  pub letter : (s .letter ≡ 0) ⊎ (letterGoesOn (s .before) (s .letter) ≡ true)
-  pub address : Digits addressGoesOn (s .after) (s .address)
 
 -- it holds where nothing was read yet
 pub sound-blank : Sound blank

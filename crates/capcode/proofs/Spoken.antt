@@ -13,8 +13,8 @@ use Rattle.capcode.specs.declared.Step.{Step}
 use Rattle.capcode.specs.declared.Form.{Form}
 use Rattle.capcode.specs.Text.{digits, widthOf, headOf, textOf, Sayable}
 use Rattle.capcode.specs.Reads.{isDigit, headGoesOn, letterGoesOn, addressGoesOn, withLetter, stepOf, Course, going, takes, onward, follow, blank, endOf, formOf}
+use Rattle.capcode.specs.Underway.{Digits}
 use Rattle.capcode.proofs.Steps.{step-head, step-letter, step-address}
-use Rattle.capcode.proofs.Sound.{Digits}
 use Rattle.capcode.proofs.Parts.{Lettered, none, one, four, lettered, Head, head-of, Ended, ended}
 use Rattle.laws.proofs.Tests.{first-of}
 

@@ -1,7 +1,7 @@
 -- One byte of a reading, by what the byte is and whether the letter has come.
 use Prim.Native.Nat.{ℕ, _+_, _-_, _*_, _≤_}
 use mathlib.Core.Bool.{Bool, true, false}
-use mathlib.Core.Path.{_≡_, refl, _∙_}
+use mathlib.Core.Path.{_≡_, refl, ap, _∙_}
 use native.Mathlib.Omega.{arith}
 use lib.Dec.{leb, eqb}
 use borrow.Author.Tests.{eq-eqb, ne-eqb, eqb-true, eqb-false, leb-true}
@@ -68,6 +68,16 @@ stepped-by s t byte false false digit none e = absurd (let no : _≡_ {A = ℕ} 
 -- a reading goes on in one of these ways
 pub stepped : (s t : Reading) (byte : ℕ) → stepOf s byte ≡ Step.On t → Stepped s byte t
 stepped s t byte = stepped-by s t byte _ _ refl refl
+
+-- each way to go on keeps the letter of a reading that has one
+behind-by : (s t : Reading) (byte : ℕ) → (s .letter ≡ 0 → ⊥) → Stepped s byte t → t .letter ≡ 0 → ⊥
+behind-by s t byte some (by-head digit none goes-on same) zero = some none
+behind-by s t byte some (by-letter none goes-on same) zero = some none
+behind-by s t byte some (by-address digit behind goes-on same) zero = some (ap (λ (u : Reading). u .letter) same ∙ zero)
+
+-- a reading behind its letter stays there
+pub step-behind : (s t : Reading) (byte : ℕ) → (s .letter ≡ 0 → ⊥) → stepOf s byte ≡ Step.On t → t .letter ≡ 0 → ⊥
+step-behind s t byte some e = behind-by s t byte some (stepped s t byte e)
 
 -- the number of a digit's byte
 pub digit-small : (byte : ℕ) → isDigit byte ≡ true → byte - 48 ≤ 9

@@ -1,3 +1,4 @@
 pub mod Assigned
 pub mod Text
 pub mod Reads
+pub mod Underway

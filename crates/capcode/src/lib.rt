@@ -3,13 +3,14 @@
 ghost use mathlib.Core.Path.{_≡_};
 ghost use Prim.Native.Nat.{_+_, _≤_};
 ghost use lib.Dec.{ltb};
-ghost use lib.ListN.{length};
+ghost use lib.ListN.{length, drop};
 ghost use Rattle.laws.specs.Lists.{put};
 ghost use Rattle.refusal.specs.Told.{Told};
 ghost use Rattle.address.specs.Ranges.{accepted};
 ghost use Rattle.capcode.specs.Assigned.{Fine, standard, framed, anyPhase, allPhase, offsetOf, phaseOf, baseOf, fieldsFit, asked, assigned, toldJudged, toldAssign};
 ghost use Rattle.capcode.specs.Text.{digits, widthOf, headWidth, textOf, printOf, bufferAfter, toldPrint};
-ghost use Rattle.capcode.specs.Reads.{isDigit, headGoesOn, letterGoesOn, addressGoesOn, Bounded, headDigit, theLetter, addressDigit, stepOf, going, isWhole, saidBy, endOf, formOf, readBy, readOf, toldRead};
+ghost use Rattle.capcode.specs.Reads.{isDigit, headGoesOn, letterGoesOn, addressGoesOn, Bounded, headDigit, theLetter, addressDigit, stepOf, going, follow, isWhole, saidBy, endOf, formOf, readBy, readOf, toldRead};
+ghost use Rattle.capcode.specs.Underway.{Sound};
 use address::Classed;
 use refusal::Refusal;
 
@@ -375,7 +376,36 @@ fn form_at_end(s: Reading, place: usize) -> Form
     Form::Wrong(place)
 }
 
-// What a text says, or the first place at which no correct text goes on as it does.
+// One byte more behind the letter: a digit, or no correct text goes on so.
+fn step_behind_letter(s: Reading, byte: u8) -> Step
+    requires { ⌜ Bounded s × (s .letter ≡ 0 → ⊥) ⌝ }
+    ensures { λ r. ⌜ r ≡ stepOf s byte ⌝ }
+{
+    if is_digit(byte) {
+        return address_digit(s, byte - b'0');
+    }
+    Step::Stop
+}
+
+// What a text says of which the letter came before `from`, where the reading stands at `start`.
+fn form_behind_letter(start: Reading, text: &[u8], from: usize) -> Form
+    requires { ⌜ Sound start × (start .letter ≡ 0 → ⊥) ⌝ }
+    ensures { λ r. ⌜ r ≡ endOf (follow (going from start) (drop from (now (text .entry)))) ⌝ }
+{
+    let mut s = start;
+    let mut i = from;
+    while i < text.len() {
+        let Step::On(next) = step_behind_letter(s, text[i]) else {
+            return Form::Wrong(i);
+        };
+        s = next;
+        i += 1;
+    }
+    form_at_end(s, i)
+}
+
+// What a text says, or the first place at which no correct text goes on as it does. The digits behind the
+// letter have a loop of their own, since they are most of a text.
 fn form_of(text: &[u8]) -> Form
     ensures { λ r. ⌜ r ≡ formOf (now (text .entry)) ⌝ }
 {
@@ -388,13 +418,19 @@ fn form_of(text: &[u8]) -> Form
     };
     let mut i = 0;
     while i < text.len() {
+        if !(s.letter == 0) {
+            break;
+        }
         let Step::On(next) = step_of(s, text[i]) else {
             return Form::Wrong(i);
         };
         s = next;
         i += 1;
     }
-    form_at_end(s, i)
+    if s.letter == 0 {
+        return Form::Wrong(i);
+    }
+    form_behind_letter(s, text, i)
 }
 
 // What is answered for a text that says `c`.
