@@ -12,7 +12,7 @@ use Rattle.address.specs.Words.{wordsOf}
 use Rattle.capcode.specs.Text.{digits}
 use Rattle.capcode.specs.Reads.{readOf}
 use Rattle.lister.specs.Lines.{lineFeed, shownByte, secondShown, wordsShown, acceptedEnd, plain, refusedEnd, verdictBy, verdictOf}
-use Rattle.lister.specs.Portions.{Stand, stand, heldShown, writes, mostWritten}
+use Rattle.lister.specs.Portions.{Stand, stand, heldShown, writes, mostWritten, Wrote}
 use Rattle.lister.proofs.Writes.{held-length}
 
 -- of two short texts the one that is picked is short
@@ -51,6 +51,10 @@ verdict-by-short (told n values) =
 pub verdict-short : (text : List ℕ) → length (verdictOf text) ≤ 23
 unfolding verdictOf
 verdict-short text = verdict-by-short (readOf text)
+
+-- so many bytes at most stand at the start of a buffer in which it was written
+pub end-short : (buffer text : List ℕ) (behind : ℕ) (after : List ℕ) → Wrote buffer 0 (verdictOf text) behind after → behind ≤ 23
+end-short buffer text behind after w = omega (arith, w .ends, verdict-short text)
 
 -- no byte of the input writes more than there is room for
 pub writes-short : (s : Stand) (byte : ℕ) → length (writes s byte) ≤ mostWritten

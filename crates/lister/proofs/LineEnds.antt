@@ -6,7 +6,6 @@ use mathlib.Core.List.{List, [], _∷_, _++_}
 use native.Mathlib.Omega.{arith}
 use lib.Dec.{eqb}
 use lib.ListN.{length, getD}
-use lib.Seq.{length-take-le}
 use borrow.Author.Tests.{lt-ltb, le-ltb, ne-eqb}
 use Rattle.refusal.specs.declared.Refusal.{Refusal}
 use Rattle.refusal.specs.Told.{Told, numberOf, refused}
@@ -17,9 +16,7 @@ use Rattle.capcode.specs.declared.Assignment.{Assignment}
 use Rattle.capcode.specs.declared.ReadAnswer.{ReadAnswer}
 use Rattle.capcode.specs.Text.{digits}
 use Rattle.capcode.specs.Reads.{readOf, toldRead}
-use Rattle.lister.specs.declared.LineEnd.{LineEnd}
 use Rattle.lister.specs.Lines.{lineFeed, wordsShown, phaseShown, verdictBy, verdictOf}
-use Rattle.lister.specs.Portions.{Ends}
 
 -- the six elements of a list of six
 abbrev pub six : List ℕ → List ℕ
@@ -43,12 +40,12 @@ six-six first second places digit feed e f =
     ∙ ap (λ (l : List ℕ). 32 ∷ first ++ 32 ∷ l ++ places ++ digit ++ feed) (six-of second f)
 
 -- an accepted text's end, by its words as they are shown
-pub accepted-ends : (words : Told) (first second : List ℕ) (c : Capcode) (a : Assignment) (end : LineEnd)
+pub accepted-end : (words : Told) (first second : List ℕ) (c : Capcode) (a : Assignment)
     → words ≡ wordsOf (c .address)
     → wordsShown words ≡ first ++ 32 ∷ second
-    → Ends (32 ∷ first ++ 32 ∷ second ++ 32 ∷ phaseShown (a .phase) ∷ 32 ∷ digits 3 (a .frame) ++ 32 ∷ digits 1 (c .collapse) ++ lineFeed ∷ []) end
-    → Ends (verdictBy (toldRead (ReadAnswer.Whole c a)) ++ lineFeed ∷ []) end
-accepted-ends words first second c a end same shown e = record { long = e .long; within = e .within; bytes = e .bytes ∙ rw (← same, shown) }
+    → 32 ∷ first ++ 32 ∷ second ++ 32 ∷ phaseShown (a .phase) ∷ 32 ∷ digits 3 (a .frame) ++ 32 ∷ digits 1 (c .collapse) ++ lineFeed ∷ []
+    ≡ verdictBy (toldRead (ReadAnswer.Whole c a)) ++ lineFeed ∷ []
+accepted-end words first second c a same shown = rw (← same, shown)
 
 module _ (r : Refusal) (n : ℕ) (number : n ≡ numberOf r) where
   -- no refusal has the number 0
@@ -66,10 +63,6 @@ module _ (r : Refusal) (n : ℕ) (number : n ≡ numberOf r) where
   refused-two many = rw (not-none, le-ltb (numberOf r) 10 (omega arith), number)
 
 -- the end of a text, by what it was read as
-pub told-ends : (text : List ℕ) (answer : Told) (end : LineEnd) → answer ≡ readOf text → Ends (verdictBy answer ++ lineFeed ∷ []) end → Ends (verdictOf text) end
+pub told-end : (text : List ℕ) (answer : Told) → answer ≡ readOf text → verdictBy answer ++ lineFeed ∷ [] ≡ verdictOf text
 unfolding verdictOf
-told-ends text answer end e ends = rw e at ends
-
--- an end is as long as its text
-pub ends-length : (text : List ℕ) (end : LineEnd) → Ends text end → length text ≡ end .length
-ends-length text end e = sym (ap length (e .bytes)) ∙ length-take-le (end .length) (end .bytes) (omega (arith, e .long, e .within))
+told-end text answer e = rw e

@@ -14,7 +14,6 @@ use Rattle.lister.specs.declared.Lister.{Lister}
 use Rattle.lister.specs.declared.Fed.{Fed}
 use Rattle.lister.specs.declared.Course.{Course}
 use Rattle.lister.specs.declared.Written.{Written}
-use Rattle.lister.specs.declared.LineEnd.{LineEnd}
 use Rattle.lister.specs.Lines.{lineFeed, carriageReturn, printable, shownByte, verdictOf}
 
 -- a byte that the listing shows as it is
@@ -115,12 +114,6 @@ pub record Answered (buffer text : List ℕ) (written : Written) (after : List �
 pub record Wrote (buffer : List ℕ) (place : ℕ) (text : List ℕ) (behind : ℕ) (after : List ℕ) : Type 0 where
   pub ends : behind ≡ place + length text
   pub holds : after ≡ put buffer place text
-
--- the end of a line holds a text, in the first of its bytes
-pub record Ends (text : List ℕ) (end : LineEnd) : Type 0 where
-  pub long : length (end .bytes) ≡ 23
-  pub within : end .length ≤ 23
-  pub bytes : take (end .length) (end .bytes) ≡ text
 
 -- where the listing of a portion stands, with the bytes of the line beside it
 abbrev pub standAt : List ℕ → Course → Stand

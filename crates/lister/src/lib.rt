@@ -10,7 +10,7 @@ ghost use Rattle.refusal.specs.Told.{refused};
 ghost use Rattle.capcode.specs.Text.{digits};
 ghost use Rattle.capcode.specs.Reads.{toldRead};
 ghost use Rattle.lister.specs.Lines.{lineFeed, header, hexDigit, shownByte, sixDigits, phaseShown, verdictBy, verdictOf};
-ghost use Rattle.lister.specs.Portions.{stand, standOf, standAt, fresh, kept, heldBytes, heldShown, writes, next, closes, mostWritten, takenOf, asItIs, Answered, Wrote, Ends, FedByte, FedAll};
+ghost use Rattle.lister.specs.Portions.{stand, standOf, standAt, fresh, kept, heldBytes, heldShown, writes, next, closes, mostWritten, takenOf, asItIs, Answered, Wrote, FedByte, FedAll};
 use address::Worded;
 use capcode::Assignment;
 use capcode::Capcode;
@@ -48,10 +48,10 @@ pub enum Written {
     Refused(Refusal),
 }
 
-// What stands behind a text in the listing, its line feed with it: the first `length` of the bytes.
-struct LineEnd {
-    bytes: [u8; 23],
-    length: usize,
+// Whether a line was written: the place behind it, or nothing because its text is not an accepted one.
+enum Line {
+    Written(usize),
+    Other,
 }
 
 // Puts a text into a buffer at a place, and gives the place behind it.
@@ -97,99 +97,99 @@ fn phase_mark(phase: u8) -> u8
     if phase == 4 { b'*' } else { b'A' + phase }
 }
 
-// What stands behind an accepted text, by its two words as they are shown.
-fn fields_end(first: [u8; 6], second: [u8; 6], c: Capcode, a: Assignment) -> LineEnd
-    requires { ⌜ a .phase ≤ 4 ⌝ }
-    ensures { λ r. ⌜ Ends (32 ∷ first ++ 32 ∷ second ++ 32 ∷ phaseShown (a .phase) ∷ 32 ∷ digits 3 (a .frame) ++ 32 ∷ digits 1 (c .collapse) ++ lineFeed ∷ []) r ⌝ }
+// Writes what stands behind an accepted text, by its two words as they are shown.
+fn write_fields(
+    first: [u8; 6],
+    second: [u8; 6],
+    c: Capcode,
+    a: Assignment,
+    out: &mut [u8],
+    place: usize,
+) -> usize
+    requires { ⌜ (a .phase ≤ 4) × (place + 23 ≤ length (now out)) ⌝ }
+    ensures { λ r. ⌜ Wrote (now (out .entry)) place (32 ∷ first ++ 32 ∷ second ++ 32 ∷ phaseShown (a .phase) ∷ 32 ∷ digits 3 (a .frame) ++ 32 ∷ digits 1 (c .collapse) ++ lineFeed ∷ []) r (now (out .exit)) ⌝ }
 {
-    LineEnd {
-        bytes: [
-            b' ',
-            first[0],
-            first[1],
-            first[2],
-            first[3],
-            first[4],
-            first[5],
-            b' ',
-            second[0],
-            second[1],
-            second[2],
-            second[3],
-            second[4],
-            second[5],
-            b' ',
-            phase_mark(a.phase),
-            b' ',
-            b'0' + a.frame / 10 / 10 % 10,
-            b'0' + a.frame / 10 % 10,
-            b'0' + a.frame % 10,
-            b' ',
-            b'0' + c.collapse % 10,
-            b'\n',
-        ],
-        length: 23,
-    }
+    let text = [
+        b' ',
+        first[0],
+        first[1],
+        first[2],
+        first[3],
+        first[4],
+        first[5],
+        b' ',
+        second[0],
+        second[1],
+        second[2],
+        second[3],
+        second[4],
+        second[5],
+        b' ',
+        phase_mark(a.phase),
+        b' ',
+        b'0' + a.frame / 10 / 10 % 10,
+        b'0' + a.frame / 10 % 10,
+        b'0' + a.frame % 10,
+        b' ',
+        b'0' + c.collapse % 10,
+        b'\n',
+    ];
+    copy(&text, out, place)
 }
 
-// What stands behind the text of an accepted CAPCODE.
-fn accepted_end(c: Capcode, a: Assignment) -> LineEnd
-    requires { ⌜ a .phase ≤ 4 ⌝ }
-    ensures { λ r. ⌜ Ends (verdictBy (toldRead (ReadAnswer.Whole c a)) ++ lineFeed ∷ []) r ⌝ }
+// Writes what stands behind the text of an accepted CAPCODE.
+fn write_accepted(c: Capcode, a: Assignment, out: &mut [u8], place: usize) -> usize
+    requires { ⌜ (a .phase ≤ 4) × (place + 23 ≤ length (now out)) ⌝ }
+    ensures { λ r. ⌜ Wrote (now (out .entry)) place (verdictBy (toldRead (ReadAnswer.Whole c a)) ++ lineFeed ∷ []) r (now (out .exit)) ⌝ }
 {
     match address::words_of(c.address) {
-        Worded::One(word) => fields_end(six_digits(word), [b'-'; 6], c, a),
-        Worded::Two(first, second) => fields_end(six_digits(first), six_digits(second), c, a),
-        Worded::Refused(_) => fields_end([b'0'; 6], [b'-'; 6], c, a),
+        Worded::One(word) => write_fields(six_digits(word), [b'-'; 6], c, a, out, place),
+        Worded::Two(first, second) => write_fields(
+            six_digits(first),
+            six_digits(second),
+            c,
+            a,
+            out,
+            place,
+        ),
+        Worded::Refused(_) => write_fields([b'0'; 6], [b'-'; 6], c, a, out, place),
     }
 }
 
-// " REFUSED n".
-fn refused_end(refusal: Refusal) -> LineEnd
-    ensures { λ r. ⌜ Ends (verdictBy (refused refusal) ++ lineFeed ∷ []) r ⌝ }
+// Writes " REFUSED n".
+fn write_refused(refusal: Refusal, out: &mut [u8], place: usize) -> usize
+    requires { ⌜ place + 23 ≤ length (now out) ⌝ }
+    ensures { λ r. ⌜ Wrote (now (out .entry)) place (verdictBy (refused refusal) ++ lineFeed ∷ []) r (now (out .exit)) ⌝ }
 {
     let n = refusal.number();
     let low = b'0' + (n % 10) as u8;
-    let mut bytes = *b" REFUSED n\n............";
+    let behind = copy(b" REFUSED ", out, place);
     if n < 10 {
-        bytes[9] = low;
-        return LineEnd { bytes, length: 11 };
+        return copy(&[low, b'\n'], out, behind);
     }
-    bytes[9] = b'0' + (n / 10 % 10) as u8;
-    bytes[10] = low;
-    bytes[11] = b'\n';
-    LineEnd { bytes, length: 12 }
+    copy(&[b'0' + (n / 10 % 10) as u8, low, b'\n'], out, behind)
 }
 
-// What stands behind a text.
-fn end_of_text(text: &[u8]) -> LineEnd
-    ensures { λ r. ⌜ Ends (verdictOf (now (text .entry))) r ⌝ }
+// Writes what stands behind a text.
+fn write_verdict(text: &[u8], out: &mut [u8], place: usize) -> usize
+    requires { ⌜ place + 23 ≤ length (now out) ⌝ }
+    ensures { λ r. ⌜ Wrote (now (out .entry)) place (verdictOf (now (text .entry))) r (now (out .exit)) ⌝ }
 {
     match capcode::read(text) {
-        ReadAnswer::Whole(c, a) => accepted_end(c, a),
-        ReadAnswer::Refused(r) => refused_end(r),
+        ReadAnswer::Whole(c, a) => write_accepted(c, a, out, place),
+        ReadAnswer::Refused(r) => write_refused(r, out, place),
     }
 }
 
-// What stands behind a line of which so many bytes are kept; a larger count stands for all of them.
-fn end_of_line(line: &[u8], count: usize) -> LineEnd
-    ensures { λ r. ⌜ Ends (verdictOf (take count (now (line .entry)))) r ⌝ }
-{
-    if count < line.len() {
-        return end_of_text(&line[..count]);
-    }
-    end_of_text(line)
-}
-
-// Writes the end of a line.
+// Writes the end of a line of which so many bytes are kept; a larger count stands for all of them.
 fn write_end(line: &[u8], count: usize, out: &mut [u8], place: usize) -> usize
     requires { ⌜ place + 23 ≤ length (now out) ⌝ }
     ensures { λ r. ⌜ Wrote (now (out .entry)) place (verdictOf (take count (now (line .entry)))) r (now (out .exit)) ⌝ }
 {
-    let end = end_of_line(line, count);
-    let bytes = end.bytes;
-    let length = end.length;
-    copy(&bytes[..length], out, place)
+    if count < line.len() {
+        return write_verdict(&line[..count], out, place);
+    }
+    write_verdict(line, out, place)
 }
 
 // Writes a byte of a line as the listing shows it: what a terminal could act on is escaped (house).
@@ -367,14 +367,13 @@ fn held_length(held: bool) -> usize
 fn write_last(line: &[u8], count: usize, held: bool, out: &mut [u8]) -> Written
     ensures { λ r. ⌜ Answered (now (out .entry)) (heldShown held ++ verdictOf (take count (now (line .entry)))) r (now (out .exit)) ⌝ }
 {
-    let end = end_of_line(line, count);
-    let length = end.length;
+    let mut end = [0; 23];
+    let length = write_end(line, count, &mut end, 0);
     if out.len() < held_length(held) + length {
         return Written::Refused(Refusal::Room);
     }
-    let bytes = end.bytes;
     let place = show_held(held, out, 0);
-    Written::Length(copy(&bytes[..length], out, place))
+    Written::Length(copy(&end[..length], out, place))
 }
 
 // Writes what stands behind the last byte: the end of the last line, if that has a byte and no line feed.

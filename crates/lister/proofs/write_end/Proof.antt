@@ -1,45 +1,44 @@
--- `write_end` meets its contract: the bytes of the end are copied.
-use mathlib.Core.Path.{sym}
+-- `write_end` meets its contract: a count over the length takes the whole line.
+use mathlib.Core.Path.{sym, ap}
 use native.Mathlib.Omega.{arith}
-use lib.Seq.{length-take-le}
+use lib.Seq.{length-take-le, take-all}
 use borrow.Author.Needs.{needs}
+use Rattle.lister.specs.Lines.{verdictOf}
 use Rattle.lister.proofs.Writes.{wrote-same}
 use Rattle.lister.proofs.write_end.Statement.{statement}
 use Rattle.lister.proofs.write_end.Tie as tie
 
-end-of-line-requires : tie.Need-end-of-line-requires
-end-of-line-requires c κs = search needs
+slice-aggregate-write-verdict : tie.Need-slice-aggregate-write-verdict
+slice-aggregate-write-verdict c = sym (length-take-le (c .before .before .before .before .args .count) (c .before .before .before .before .args .line .now) (omega arith))
 
-array-share-prefix-bytes : tie.Need-array-share-prefix-bytes
-array-share-prefix-bytes c =
-    let e = c .before .end-of-line .ensures in
-    omega (arith, e .long, e .within)
-
-slice-aggregate-copy : tie.Need-slice-aggregate-copy
-slice-aggregate-copy c =
-    let e = c .before .before .end-of-line in
-    sym (length-take-le (e .result .length) (e .result .bytes) (omega (arith, e .ensures .long, e .ensures .within)))
-
-copy-requires : tie.Need-copy-requires
-copy-requires c κs =
-    let e = c .before .before .before .end-of-line in
-    omega (arith, e .ensures .within, length-take-le (e .result .length) (e .result .bytes) (omega (arith, e .ensures .long, e .ensures .within)))
+write-verdict-requires : tie.Need-write-verdict-requires
+write-verdict-requires c κs = search needs
 
 same-length : tie.Need-same-length
 same-length c = search needs
 
 returns : tie.Need-returns
-returns c =
+returns c = search needs
+
+write-verdict-requires-2 : tie.Need-write-verdict-requires-2
+write-verdict-requires-2 c κs = search needs
+
+same-length-2 : tie.Need-same-length-2
+same-length-2 c = search needs
+
+returns-2 : tie.Need-returns-2
+returns-2 c =
     let k = c .before .before in
-    wrote-same _ _ _ _ _ _ (k .before .before .before .before .end-of-line .ensures .bytes) (k .copy .ensures)
+    wrote-same _ _ _ _ _ _ (ap verdictOf (sym (take-all _ _ (k .before .before .if1 .left)))) (k .write-verdict2 .ensures)
 
 pub write-end-spec : {M : Type 1} → statement M
 write-end-spec =
     tie.close
     (tie.spec
-    end-of-line-requires
-    array-share-prefix-bytes
-    slice-aggregate-copy
-    copy-requires
+    slice-aggregate-write-verdict
+    write-verdict-requires
     same-length
-    returns)
+    returns
+    write-verdict-requires-2
+    same-length-2
+    returns-2)
