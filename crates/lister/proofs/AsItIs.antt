@@ -15,7 +15,7 @@ use Rattle.lister.proofs.Writes.{shown-plain, writes-byte}
 use Rattle.lister.proofs.Keeping.{keep-none, next-kept}
 
 -- what is not is false
-is-not : (held : Bool) → not held ≡ true → held ≡ false
+pub is-not : (held : Bool) → not held ≡ true → held ≡ false
 is-not true e = sym e
 is-not false e = refl
 
@@ -40,11 +40,11 @@ module _ (byte : ℕ) (e : asItIs byte ≡ true) where
   no-return return = omega (arith, from-32)
 
   -- it writes itself
-  writes-itself : (text : List ℕ) → byte ∷ [] ≡ writes (stand text false) byte
+  pub writes-itself : (text : List ℕ) → byte ∷ [] ≡ writes (stand text false) byte
   writes-itself text = shown-plain byte no-slash printable ∙ writes-byte text false byte no-feed no-return
 
   -- and is kept
-  stands-behind : (text after : List ℕ) → text ≡ kept (text ++ []) → after ≡ kept (text ++ byte ∷ []) → stand after false ≡ next (stand text false) byte
+  pub stands-behind : (text after : List ℕ) → text ≡ kept (text ++ []) → after ≡ kept (text ++ byte ∷ []) → stand after false ≡ next (stand text false) byte
   stands-behind text after same more = rw (ne-eqb byte 13 no-return) at (next-kept text false byte text after no-feed no-return same more)
 
 -- the whole of what it does

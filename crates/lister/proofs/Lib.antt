@@ -7,5 +7,6 @@ pub mod Lengths
 pub mod Progress
 pub mod Said
 pub mod Reading
+pub mod WholeLine
 pub mod Listed
 pub mod Laws

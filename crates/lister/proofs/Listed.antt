@@ -11,12 +11,7 @@ use Rattle.laws.proofs.Writing.{take-joined}
 use Rattle.lister.specs.Lines.{lineFeed, carriageReturn, shownByte, shown, verdictOf, lineOf, withoutReturn, listedFrom}
 use Rattle.lister.specs.Portions.{Stand, stand, fresh, kept, heldBytes, heldShown, writes, next, writesAll, nextAll, closedText, closes}
 use Rattle.lister.proofs.Reading.{kept-verdict}
-
--- a joined text is shown joined
-shown-joined : (text more : List ℕ) → shown (text ++ more) ≡ shown text ++ shown more
-unfolding shown
-shown-joined [] more = refl
-shown-joined (byte ∷ text) more = rw (shown-joined text more) (sym (append-assoc (shownByte byte) (shown text) (shown more)))
+use Rattle.lister.proofs.Said.{shown-joined}
 
 -- a carriage return that was held back is shown as any byte of the line
 shown-held : (held : Bool) → shown (heldBytes held) ≡ heldShown held

@@ -14,7 +14,11 @@ use Rattle.capcode.specs.declared.Capcode.{Capcode}
 use Rattle.capcode.specs.declared.Form.{Form}
 use Rattle.capcode.specs.Assigned.{standard, framed}
 use Rattle.capcode.specs.Text.{digits, headWidth, widthOf, textOf, Sayable}
-use Rattle.capcode.specs.Reads.{formOf}
+use Rattle.capcode.specs.declared.Assignment.{Assignment}
+use Rattle.capcode.specs.declared.ReadAnswer.{ReadAnswer}
+use Rattle.capcode.specs.Reads.{formOf, readBy, readOf, toldRead}
+use Rattle.refusal.specs.declared.Refusal.the-variants.{Text}
+use Rattle.refusal.proofs.Laws.{given-not-refused}
 use Rattle.capcode.proofs.Heard.{printed-of-read}
 use Rattle.capcode.proofs.Writes.{text-numbers, length-text}
 use Rattle.lister.specs.Lines.{shownByte, shown}
@@ -43,7 +47,7 @@ plain-shown : (byte : ℕ) → 32 ≤ byte → byte ≤ 91 → shownByte byte �
 plain-shown byte low high = rw (ne-eqb byte 92 (λ e. omega arith), le-leb 32 byte low, le-leb byte 126 (omega arith))
 
 -- texts are shown one behind the other
-shown-joined : (text more : List ℕ) → shown (text ++ more) ≡ shown text ++ shown more
+pub shown-joined : (text more : List ℕ) → shown (text ++ more) ≡ shown text ++ shown more
 unfolding shown
 shown-joined [] more = refl
 shown-joined (byte ∷ text) more = rw (shown-joined text more) (sym (append-assoc (shownByte byte) (shown text) (shown more)))
@@ -83,3 +87,11 @@ pub said-shown : (text : List ℕ) (c : Capcode) → formOf text ≡ Form.Says c
 said-shown text c e =
     let said = printed-of-read text c e in
     rw (said .0) at (text-shown c (said .1))
+
+-- so is one that is read
+pub read-shown : (text : List ℕ) (c : Capcode) (a : Assignment) → toldRead (ReadAnswer.Whole c a) ≡ readOf text → shown text ≡ text
+read-shown text c a e = by-form (formOf text) refl e
+  where
+    by-form : (form : Form) → formOf text ≡ form → toldRead (ReadAnswer.Whole c a) ≡ readBy form → shown text ≡ text
+    by-form (Form.Says d) same told = said-shown text d same
+    by-form (Form.Wrong place) same told = absurd (given-not-refused _ Text told)

@@ -1,11 +1,11 @@
 -- The listing by portions: what each byte writes, and where the listing then stands.
-use Prim.Native.Nat.{ℕ, suc, _+_, _-_, _≤_}
+use Prim.Native.Nat.{ℕ, suc, _+_, _-_, _≤_, _<_}
 use Prim.Native.Char.{code}
 use mathlib.Core.Bool.{Bool, true, false, not, _&&_}
 use mathlib.Core.Path.{_≡_}
 use mathlib.Core.List.{List, [], _∷_, _++_}
 use lib.Dec.{leb, ltb, eqb}
-use lib.ListN.{length, take}
+use lib.ListN.{length, take, drop, getD}
 use Rattle.laws.specs.Choice.{pick}
 use Rattle.laws.specs.Lists.{put}
 use Rattle.refusal.specs.declared.Refusal.the-variants.{Room}
@@ -14,7 +14,8 @@ use Rattle.lister.specs.declared.Lister.{Lister}
 use Rattle.lister.specs.declared.Fed.{Fed}
 use Rattle.lister.specs.declared.Course.{Course}
 use Rattle.lister.specs.declared.Written.{Written}
-use Rattle.lister.specs.Lines.{lineFeed, carriageReturn, printable, shownByte, verdictOf}
+use Rattle.lister.specs.declared.Line.{Line}
+use Rattle.lister.specs.Lines.{lineFeed, carriageReturn, printable, shownByte, shown, verdictOf}
 
 -- a byte that the listing shows as it is
 abbrev pub asItIs : ℕ → Bool
@@ -124,6 +125,33 @@ pub record FedByte (line : List ℕ) (before : Course) (buffer : List ℕ) (byte
   pub taken : course .taken ≡ before .taken + 1
   pub stands : standAt kept course ≡ next (standAt line before) byte
   pub wrote : Wrote buffer (before .written) (writes (standAt line before) byte) (course .written) after
+
+-- the line of a text that is ahead, n bytes long: it begins here, ends with a line feed, and fits with whatever one byte more may write
+pub record Ahead (course : Course) (input : List ℕ) (room n : ℕ) : Type 0 where
+  pub begins : (course .count ≡ 0) × (course .held ≡ false)
+  pub roomy : 70 ≤ room
+  pub within : course .taken + n < length input
+  pub ends : getD input (course .taken + n) 0 ≡ lineFeed
+
+-- a line was written at a place, its text as it is, or nothing was
+abbrev pub LineWritten : List ℕ → ℕ → List ℕ → Line → List ℕ → Type 0
+LineWritten buffer place text (Line.Written behind) after = Wrote buffer place (text ++ verdictOf text) behind after × (shown text ≡ text)
+LineWritten buffer place text Line.Other after = after ≡ buffer
+
+-- the bytes taken between two places of a portion
+abbrev pub between : Course → Course → List ℕ → List ℕ
+between before course input = take (course .taken - before .taken) (drop (before .taken) input)
+
+-- what some bytes more do: to the line, to where the listing of the portion stands, to the buffer, and to how many bytes are taken in all
+pub record FedOn (line : List ℕ) (before : Course) (input buffer kept : List ℕ) (course : Course) (after : List ℕ) : Type 0 where
+  pub some : before .taken < course .taken
+  pub within : course .taken ≤ length input
+  pub fits : course .written ≤ length buffer
+  pub stands : standAt kept course ≡ nextAll (standAt line before) (between before course input)
+  pub wrote : Wrote buffer (before .written) (writesAll (standAt line before) (between before course input)) (course .written) after
+  pub rest :
+      takenOf (standAt line before) (length buffer - before .written) (drop (before .taken) input)
+      ≡ course .taken - before .taken + takenOf (standAt kept course) (length buffer - course .written) (drop (course .taken) input)
 
 -- what is done with a portion: how much of it is taken, where the listing then stands, and what was written
 pub record FedAll (s : Stand) (input buffer : List ℕ) (n : ℕ) (fed : Fed) (after : List ℕ) : Type 0 where

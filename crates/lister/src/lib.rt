@@ -4,13 +4,13 @@ ghost use mathlib.Core.Path.{_≡_};
 ghost use mathlib.Core.Bool.{true, false, not, _&&_};
 ghost use mathlib.Core.List.{[], _∷_, _++_};
 ghost use Prim.Native.Nat.{_+_, _^_, _≤_, _<_};
-ghost use lib.ListN.{length, take};
+ghost use lib.ListN.{length, take, getD};
 ghost use lib.Dec.{eqb};
 ghost use Rattle.refusal.specs.Told.{refused};
 ghost use Rattle.capcode.specs.Text.{digits};
 ghost use Rattle.capcode.specs.Reads.{toldRead};
 ghost use Rattle.lister.specs.Lines.{lineFeed, header, hexDigit, shownByte, sixDigits, phaseShown, verdictBy, verdictOf};
-ghost use Rattle.lister.specs.Portions.{stand, standOf, standAt, fresh, kept, heldBytes, heldShown, writes, next, closes, mostWritten, takenOf, asItIs, Answered, Wrote, FedByte, FedAll};
+ghost use Rattle.lister.specs.Portions.{stand, standOf, standAt, fresh, kept, heldBytes, heldShown, writes, next, closes, mostWritten, takenOf, asItIs, Answered, Wrote, FedByte, Ahead, LineWritten, FedOn, FedAll};
 use address::Worded;
 use capcode::Assignment;
 use capcode::Capcode;
@@ -326,6 +326,74 @@ fn feed_byte(line: &mut [u8], course: Course, byte: u8, out: &mut [u8]) -> Cours
     }
 }
 
+// How many bytes stand before the next line feed; 16 where no line feed comes within sixteen bytes.
+fn bytes_to_feed(input: &[u8], from: usize) -> usize
+    requires { ⌜ from ≤ length (now input) ⌝ }
+    ensures { λ r. ⌜ (r < 16 → (from + r < length (now (input .entry))) × (getD (now (input .entry)) (from + r) 0 ≡ lineFeed)) ⌝ }
+{
+    let mut n = 0;
+    while n < 16 {
+        if input.len() - from <= n {
+            return 16;
+        }
+        if input[from + n] == b'\n' {
+            break;
+        }
+        n += 1;
+    }
+    n
+}
+
+// How long the text of a line is that could be taken whole: one that begins here, is short enough for an
+// accepted text, and has room with whatever one byte more may write behind it. Else 16.
+fn line_ahead(course: Course, input: &[u8], room: usize) -> usize
+    requires { ⌜ course .taken ≤ length (now input) ⌝ }
+    ensures { λ r. ⌜ (r < 16 → Ahead course (now (input .entry)) room r) ⌝ }
+{
+    if ((course.count == 0) & !course.held) & (70 <= room) {
+        return bytes_to_feed(input, course.taken);
+    }
+    16
+}
+
+// Writes the line of an accepted text.
+fn write_line(text: &[u8], out: &mut [u8], place: usize) -> Line
+    requires { ⌜ place + length (now text) + 23 ≤ length (now out) ⌝ }
+    ensures { λ r. ⌜ LineWritten (now (out .entry)) place (now (text .entry)) r (now (out .exit)) ⌝ }
+{
+    match capcode::read(text) {
+        ReadAnswer::Whole(c, a) => {
+            let behind = copy(text, out, place);
+            Line::Written(write_accepted(c, a, out, behind))
+        }
+        ReadAnswer::Refused(_) => Line::Other,
+    }
+}
+
+// Takes a whole line, if that of an accepted text is ahead, and else one byte: most lines are such, and
+// need not be kept byte by byte.
+fn feed_some(line: &mut [u8], course: Course, input: &[u8], out: &mut [u8]) -> Course
+    requires { ⌜ length (now line) ≡ 16 ⌝ }
+    requires { ⌜ course .written + mostWritten ≤ length (now out) ⌝ }
+    requires { ⌜ course .taken < length (now input) ⌝ }
+    ensures { λ r. ⌜ FedOn (now (line .entry)) course (now (input .entry)) (now (out .entry)) (now (line .exit)) r (now (out .exit)) ⌝ }
+{
+    let at = course.taken;
+    let n = line_ahead(course, input, out.len() - course.written);
+    if 16 <= n {
+        return feed_byte(line, course, input[at], out);
+    }
+    let Line::Written(written) = write_line(&input[at..at + n], out, course.written) else {
+        return feed_byte(line, course, input[at], out);
+    };
+    Course {
+        count: course.count,
+        held: course.held,
+        taken: at + n + 1,
+        written,
+    }
+}
+
 // Takes the bytes of a portion while the buffer has room for whatever one byte may write, and writes the
 // listing of what was taken at the buffer's start. With room for 32 bytes at least one byte is taken.
 pub fn feed(lister: Lister, input: &[u8], out: &mut [u8]) -> Fed
@@ -342,8 +410,7 @@ pub fn feed(lister: Lister, input: &[u8], out: &mut [u8]) -> Fed
         if out.len() - course.written < 32 {
             break;
         }
-        let at = course.taken;
-        course = feed_byte(&mut line, course, input[at], out);
+        course = feed_some(&mut line, course, input, out);
     }
     Fed {
         lister: Lister {

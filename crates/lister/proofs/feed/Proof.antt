@@ -1,4 +1,4 @@
--- `feed` meets its contract: `Progress` holds between two bytes, and at the end is what is asked.
+-- `feed` meets its contract: `Progress` holds between two turns, and at the end is what is asked.
 use Prim.Native.Nat.{_-_}
 use mathlib.Core.Logic.{inl, inr}
 use mathlib.Core.Path.{_≡_, sym}
@@ -27,30 +27,25 @@ sub-if2 c =
     let p = c .before .before .before .loop .inv in
     omega (arith, p .fits, p .same)
 
-slice-aggregate-feed-byte : tie.Need-slice-aggregate-feed-byte Inv-loop μ-loop
-slice-aggregate-feed-byte c = sym (c .before .before .before .before .before .loop .inv .sixteen)
+slice-aggregate-feed-some : tie.Need-slice-aggregate-feed-some Inv-loop μ-loop
+slice-aggregate-feed-some c = sym (c .before .before .before .before .before .loop .inv .sixteen)
 
-shared-slice-read-feed-byte : tie.Need-shared-slice-read-feed-byte Inv-loop μ-loop
-shared-slice-read-feed-byte c = search needs
-
-feed-byte-requires : tie.Need-feed-byte-requires Inv-loop μ-loop
-feed-byte-requires c κs =
-    let d = c .before .before .before in
+feed-some-requires : tie.Need-feed-some-requires Inv-loop μ-loop
+feed-some-requires c κs =
+    let d = c .before .before in
     let p = d .before .before .before .before .loop .inv in
-    (p .sixteen, (omega (arith, d .if2 .left, p .fits, p .same), omega arith))
+    (p .sixteen, (omega (arith, d .if2 .left, p .fits, p .same), search needs))
 
 loop-less : tie.Need-loop-less Inv-loop μ-loop
 loop-less c =
     let f = c .before .before .before in
-    omega (arith, f .feed-byte .ensures .taken)
+    omega (arith, f .feed-some .ensures .some, f .feed-some .ensures .within)
 
 loop-again : tie.Need-loop-again Inv-loop μ-loop
 loop-again c =
     let f = c .before .before .before in
-    let d = f .before .before .before .before in
-    let a = d .before .before .before .before in
-    let p = a .loop .inv in
-    progress-turn _ _ _ _ _ _ p _ _ _ (d .before .before .if1 .taken) (omega (arith, d .if2 .left, p .same)) (omega (arith, f .feed-byte .kept)) (omega (arith, f .feed-byte .kept, p .same)) (f .feed-byte .ensures)
+    let p = f .before .before .before .before .before .before .before .loop .inv in
+    progress-turn _ _ _ _ _ _ p _ _ _ (omega (arith, f .feed-some .kept)) (omega (arith, f .feed-some .kept, p .same)) (f .feed-some .ensures)
 
 same-length : tie.Need-same-length Inv-loop μ-loop
 same-length c = c .before .before .loop .inv .same
@@ -74,9 +69,8 @@ feed-spec =
     μ-loop
     loop-holds
     sub-if2
-    slice-aggregate-feed-byte
-    shared-slice-read-feed-byte
-    feed-byte-requires
+    slice-aggregate-feed-some
+    feed-some-requires
     loop-less
     loop-again
     same-length
