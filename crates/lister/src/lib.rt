@@ -345,7 +345,8 @@ fn bytes_to_feed(input: &[u8], from: usize) -> usize
 }
 
 // How long the text of a line is that could be taken whole: one that begins here, is short enough for an
-// accepted text, and has room with whatever one byte more may write behind it. Else 16.
+// accepted text, and has room: 15 bytes of text, 23 of its end, and 32 for whatever one byte more may
+// write. Else 16.
 fn line_ahead(course: Course, input: &[u8], room: usize) -> usize
     requires { ⌜ course .taken ≤ length (now input) ⌝ }
     ensures { λ r. ⌜ (r < 16 → Ahead course (now (input .entry)) room r) ⌝ }
