@@ -1,3 +1,4 @@
 pub mod Choice
+pub mod Layouts
 pub mod Lists
 pub mod Texts

@@ -2,6 +2,7 @@
 use Prim.Native.Nat.{ℕ}
 use mathlib.Core.List.{List, [], _∷_}
 use mathlib.Core.Bool.{Bool, true, false}
+use Rattle.laws.specs.Choice.{pick}
 use Rattle.refusal.specs.declared.Refusal.{Refusal}
 use Rattle.refusal.specs.declared.Refusal.the-variants.{Room, State, Text, «Type», Range, Offset, Packet, Address, Size, Damaged, Checksum, Full, NoChain, OutOfTurn, TooLong, Signature, NoCall, Character}
 
@@ -42,6 +43,14 @@ given values = told 0 values
 abbrev pub ask : Bool → Refusal → Told → Told
 ask true r rest = refused r
 ask false r rest = rest
+
+-- the number of an answer that is refused unless a test holds
+abbrev pub numberUnless : Refusal → Bool → ℕ
+numberUnless r good = pick good 0 (numberOf r)
+
+-- a number told with an answer: itself, and 0 after a refusal
+abbrev pub kept : Bool → ℕ → ℕ
+kept good n = pick good n 0
 
 -- 01, "Order": the order in which the questions are asked. The first Room is the one for the chains' bytes, the last the one for every other buffer
 pub order : List Refusal

@@ -1,7 +1,7 @@
 // The eighteen answers of no (document 01, "The eighteen answers of no"), each under the paper's
 // word and with the paper's number.
 ghost use mathlib.Core.Path.{_≡_};
-ghost use Rattle.refusal.specs.Told.{numberOf};
+ghost use Rattle.refusal.specs.Told.{numberOf, numberUnless, kept};
 
 // One refusal. When each is given is 01's table; the order in which several are asked is in specs/Told.
 pub enum Refusal {
@@ -51,4 +51,21 @@ impl Refusal {
             Refusal::Character => 18,
         }
     }
+
+    // The number told: this refusal's unless the test holds.
+    pub fn unless(self, good: bool) -> u32
+        ensures { λ r. ⌜ r ≡ numberUnless self good ⌝ }
+    {
+        if good {
+            return 0;
+        }
+        self.number()
+    }
+}
+
+// A number told with an answer: itself, and 0 after a refusal.
+pub fn kept(good: bool, number: u32) -> u32
+    ensures { λ r. ⌜ r ≡ kept good number ⌝ }
+{
+    if good { number } else { 0 }
 }

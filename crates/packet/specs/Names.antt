@@ -1,0 +1,94 @@
+-- Every packet ID by its name, and the two halves of a packet.
+use Prim.Native.Nat.{ℕ, _/_, _%_, _^_}
+use mathlib.Core.List.{List, [], _∷_}
+
+-- S8.3.5, Table 1: byte 3 is the ID
+abbrev pub idOf : ℕ → ℕ
+idOf n = n / 2 ^ 24
+
+-- .. and bytes 2 to 0 are the 24 data bits
+abbrev pub dataOf : ℕ → ℕ
+dataOf n = n % 2 ^ 24
+
+-- S8.3.7, Table 2: what the host sends
+abbrev pub checksumID : ℕ
+checksumID = 0x00
+
+abbrev pub configurationID : ℕ
+configurationID = 0x01
+
+abbrev pub controlID : ℕ
+controlID = 0x02
+
+abbrev pub allFrameModeID : ℕ
+allFrameModeID = 0x03
+
+abbrev pub receiverLinesID : ℕ
+receiverLinesID = 0x0F
+
+-- .. the receiver's settings, from off to the last data setting
+abbrev pub firstSettingID : ℕ
+firstSettingID = 0x10
+
+abbrev pub lastSettingID : ℕ
+lastSettingID = 0x19
+
+abbrev pub shutDown1ID : ℕ
+shutDown1ID = 0x1A
+
+abbrev pub shutDown2ID : ℕ
+shutDown2ID = 0x1B
+
+-- .. the special packets, which the decoder ignores
+abbrev pub firstSpecialID : ℕ
+firstSpecialID = 0x1C
+
+abbrev pub lastSpecialID : ℕ
+lastSpecialID = 0x1F
+
+-- .. the eight frame assignments
+abbrev pub firstFramesID : ℕ
+firstFramesID = 0x20
+
+abbrev pub lastFramesID : ℕ
+lastFramesID = 0x27
+
+abbrev pub addressEnableID : ℕ
+addressEnableID = 0x78
+
+-- .. the sixteen user addresses
+abbrev pub firstUserAddressID : ℕ
+firstUserAddressID = 0x80
+
+abbrev pub lastUserAddressID : ℕ
+lastUserAddressID = 0x8F
+
+-- S8.3.8, Table 3: what the decoder sends
+abbrev pub addressID : ℕ
+addressID = 0x01
+
+-- .. vectors and messages, whose ID is their word number: a vector from word 2 on (S8.7.3)
+abbrev pub firstVectorID : ℕ
+firstVectorID = 0x02
+
+-- .. a message word from word 3 on (S8.7.8)
+abbrev pub firstMessageID : ℕ
+firstMessageID = 0x03
+
+-- .. both up to word 87
+abbrev pub lastWordID : ℕ
+lastWordID = 0x57
+
+abbrev pub statusID : ℕ
+statusID = 0x7F
+
+abbrev pub partIdID : ℕ
+partIdID = 0xFF
+
+-- all of them, in this order
+abbrev pub allIDs : List ℕ
+allIDs =
+    checksumID ∷ configurationID ∷ controlID ∷ allFrameModeID ∷ receiverLinesID ∷ firstSettingID ∷ lastSettingID
+    ∷ shutDown1ID ∷ shutDown2ID ∷ firstSpecialID ∷ lastSpecialID ∷ firstFramesID ∷ lastFramesID ∷ addressEnableID
+    ∷ firstUserAddressID ∷ lastUserAddressID ∷ addressID ∷ firstVectorID ∷ firstMessageID ∷ lastWordID ∷ statusID
+    ∷ partIdID ∷ []

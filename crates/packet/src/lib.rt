@@ -1,0 +1,404 @@
+// The packets between host and decoder: each ID's one name, and the packets that are built from their
+// fields (document 01, "Packets and the handshake"; S8.3.5, S8.3.7, S8.3.8). The tables that say where
+// a field stands are in specs/Tables. Every field is a number, so that one too large for its place can
+// be refused (7) wherever it comes from; a flag is 0 or 1.
+ghost use mathlib.Core.Path.{_≡_};
+ghost use Rattle.packet.specs.Names.{allIDs};
+ghost use Rattle.packet.specs.Tables.{checksum, configuration, control, allFrameMode, receiverLines, shutDown, frameAssignment, userAddress, addressEnable, partId};
+ghost use Rattle.packet.specs.Fields.{builtOf, builtBy, draftBy, ofChecksum, ofConfiguration, ofControl, ofAllFrameMode, ofReceiverLines, ofShutDown, ofFrameAssignment, ofUserAddress, ofAddressEnable, ofPartId};
+use refusal::Refusal;
+use refusal::kept;
+
+// 32 bits: the ID in the highest byte, 24 data bits behind it (Table 1).
+#[repr(C)]
+pub struct Packet {
+    pub bits: u32,
+}
+
+// The packet that was built; `number` is 0, or 7 and the packet's bits are 0.
+#[repr(C)]
+pub struct Built {
+    pub number: u32,
+    pub packet: Packet,
+}
+
+// The checksum packet (Table 9): CV, 24 bits.
+#[repr(C)]
+pub struct Checksum {
+    pub value: u32,
+}
+
+// The configuration packet (Table 5): OFD (Table 4) and SP (Table 6), 0 to 3; SME, MOT, COD, MTE and LBP.
+#[repr(C)]
+pub struct Configuration {
+    pub oscillator: u32,
+    pub polarity: u32,
+    pub synchronous_mode: u32,
+    pub maximum_off_time: u32,
+    pub clock_output_disable: u32,
+    pub minute_timer: u32,
+    pub low_battery_polarity: u32,
+}
+
+// The control packet (Table 11): FF, a bit for each of frames 0 to 7; SPM; PS (Table 10), 0 to 3; SBI, MTC and ON.
+#[repr(C)]
+pub struct Control {
+    pub forced_frames: u32,
+    pub single_phase: u32,
+    pub phase: u32,
+    pub block_information: u32,
+    pub minute_timer_clear: u32,
+    pub on: u32,
+}
+
+// The all frame mode packet (Table 56): DAF; FAF; DTA, a bit for each temporary address.
+#[repr(C)]
+pub struct AllFrameMode {
+    pub decrement: u32,
+    pub force: u32,
+    pub decrement_temporary: u32,
+}
+
+// The receiver line control packet (Table 19): FRS and CLS, a bit for each of lines S0 to S7.
+#[repr(C)]
+pub struct ReceiverLines {
+    pub forced: u32,
+    pub settings: u32,
+}
+
+// A receiver shut-down packet (Tables 20 and 21): s, 0 for shut-down 1 and 1 for shut-down 2; SE; LBC; CLS,
+// a bit for each line; ST, in steps of 625 microseconds.
+#[repr(C)]
+pub struct ShutDown {
+    pub setting: u32,
+    pub enable: u32,
+    pub low_battery_check: u32,
+    pub lines: u32,
+    pub time: u32,
+}
+
+// A frame assignment packet (Tables 28 and 29): f, 0 to 7; AF, a bit for each of its sixteen frames.
+#[repr(C)]
+pub struct FrameAssignment {
+    pub range: u32,
+    pub frames: u32,
+}
+
+// A user address assignment packet (Table 26): a, 0 to 15; LA; TOA; A, an address word of 21 bits.
+#[repr(C)]
+pub struct UserAddress {
+    pub location: u32,
+    pub long: u32,
+    pub tone_only: u32,
+    pub word: u32,
+}
+
+// The user address enable packet (Table 27): UAE, a bit for each location.
+#[repr(C)]
+pub struct AddressEnable {
+    pub enabled: u32,
+}
+
+// The part ID packet (Table 8): MDL, CID and REV.
+#[repr(C)]
+pub struct PartId {
+    pub model: u32,
+    pub compatibility: u32,
+    pub revision: u32,
+}
+
+// A packet in the making: whether each field fits its place, and the bits.
+struct Draft {
+    fits: bool,
+    bits: u32,
+}
+
+fn finished(draft: Draft) -> Built
+    ensures { λ r. ⌜ r ≡ builtOf draft ⌝ }
+{
+    let fits = draft.fits;
+    let bits = draft.bits;
+    Built {
+        number: Refusal::Packet.unless(fits),
+        packet: Packet {
+            bits: kept(fits, bits),
+        },
+    }
+}
+
+fn checksum_draft(f: Checksum) -> Draft
+    ensures { λ r. ⌜ r ≡ draftBy checksum (ofChecksum f) ⌝ }
+{
+    Draft {
+        fits: f.value < 0x100_0000,
+        bits: Packet::CHECKSUM << 24 | f.value,
+    }
+}
+
+fn configuration_draft(f: Configuration) -> Draft
+    ensures { λ r. ⌜ r ≡ draftBy configuration (ofConfiguration f) ⌝ }
+{
+    Draft {
+        fits: (f.oscillator < 4)
+            & (f.polarity < 4)
+            & (f.synchronous_mode < 2)
+            & (f.maximum_off_time < 2)
+            & (f.clock_output_disable < 2)
+            & (f.minute_timer < 2)
+            & (f.low_battery_polarity < 2),
+        bits: Packet::CONFIGURATION << 24
+            | f.oscillator << 16
+            | f.polarity << 8
+            | f.synchronous_mode << 7
+            | f.maximum_off_time << 6
+            | f.clock_output_disable << 5
+            | f.minute_timer << 4
+            | f.low_battery_polarity << 3,
+    }
+}
+
+fn control_draft(f: Control) -> Draft
+    ensures { λ r. ⌜ r ≡ draftBy control (ofControl f) ⌝ }
+{
+    Draft {
+        fits: (f.forced_frames < 0x100)
+            & (f.single_phase < 2)
+            & (f.phase < 4)
+            & (f.block_information < 2)
+            & (f.minute_timer_clear < 2)
+            & (f.on < 2),
+        bits: Packet::CONTROL << 24
+            | f.forced_frames << 16
+            | f.single_phase << 14
+            | f.phase << 12
+            | f.block_information << 6
+            | f.minute_timer_clear << 4
+            | f.on,
+    }
+}
+
+fn all_frame_mode_draft(f: AllFrameMode) -> Draft
+    ensures { λ r. ⌜ r ≡ draftBy allFrameMode (ofAllFrameMode f) ⌝ }
+{
+    Draft {
+        fits: (f.decrement < 2) & (f.force < 2) & (f.decrement_temporary < 0x1_0000),
+        bits: Packet::ALL_FRAME_MODE << 24
+            | f.decrement << 23
+            | f.force << 22
+            | f.decrement_temporary,
+    }
+}
+
+fn receiver_lines_draft(f: ReceiverLines) -> Draft
+    ensures { λ r. ⌜ r ≡ draftBy receiverLines (ofReceiverLines f) ⌝ }
+{
+    Draft {
+        fits: (f.forced < 0x100) & (f.settings < 0x100),
+        bits: Packet::RECEIVER_LINES << 24 | f.forced << 8 | f.settings,
+    }
+}
+
+fn shut_down_draft(f: ShutDown) -> Draft
+    ensures { λ r. ⌜ r ≡ draftBy shutDown (ofShutDown f) ⌝ }
+{
+    Draft {
+        fits: (f.setting < 2)
+            & (f.enable < 2)
+            & (f.low_battery_check < 2)
+            & (f.lines < 0x100)
+            & (f.time < 0x40),
+        bits: Packet::SHUT_DOWN_1 << 24
+            | f.setting << 24
+            | f.enable << 23
+            | f.low_battery_check << 19
+            | f.lines << 8
+            | f.time,
+    }
+}
+
+fn frame_assignment_draft(f: FrameAssignment) -> Draft
+    ensures { λ r. ⌜ r ≡ draftBy frameAssignment (ofFrameAssignment f) ⌝ }
+{
+    Draft {
+        fits: (f.range < 8) & (f.frames < 0x1_0000),
+        bits: Packet::FIRST_FRAMES << 24 | f.range << 24 | f.frames,
+    }
+}
+
+fn user_address_draft(f: UserAddress) -> Draft
+    ensures { λ r. ⌜ r ≡ draftBy userAddress (ofUserAddress f) ⌝ }
+{
+    Draft {
+        fits: (f.location < 16) & (f.long < 2) & (f.tone_only < 2) & (f.word < 0x20_0000),
+        bits: Packet::FIRST_USER_ADDRESS << 24
+            | f.location << 24
+            | f.long << 22
+            | f.tone_only << 21
+            | f.word,
+    }
+}
+
+fn address_enable_draft(f: AddressEnable) -> Draft
+    ensures { λ r. ⌜ r ≡ draftBy addressEnable (ofAddressEnable f) ⌝ }
+{
+    Draft {
+        fits: f.enabled < 0x1_0000,
+        bits: Packet::ADDRESS_ENABLE << 24 | f.enabled,
+    }
+}
+
+fn part_id_draft(f: PartId) -> Draft
+    ensures { λ r. ⌜ r ≡ draftBy partId (ofPartId f) ⌝ }
+{
+    Draft {
+        fits: (f.model < 4) & (f.compatibility < 0x4000) & (f.revision < 0x100),
+        bits: Packet::PART_ID << 24 | f.model << 22 | f.compatibility << 8 | f.revision,
+    }
+}
+
+impl Packet {
+    // What the host sends (Table 2).
+    pub const CHECKSUM: u32 = 0x00;
+
+    pub const CONFIGURATION: u32 = 0x01;
+
+    pub const CONTROL: u32 = 0x02;
+
+    pub const ALL_FRAME_MODE: u32 = 0x03;
+
+    pub const RECEIVER_LINES: u32 = 0x0F;
+
+    pub const FIRST_SETTING: u32 = 0x10;
+
+    pub const LAST_SETTING: u32 = 0x19;
+
+    pub const SHUT_DOWN_1: u32 = 0x1A;
+
+    pub const SHUT_DOWN_2: u32 = 0x1B;
+
+    pub const FIRST_SPECIAL: u32 = 0x1C;
+
+    pub const LAST_SPECIAL: u32 = 0x1F;
+
+    pub const FIRST_FRAMES: u32 = 0x20;
+
+    pub const LAST_FRAMES: u32 = 0x27;
+
+    pub const ADDRESS_ENABLE: u32 = 0x78;
+
+    pub const FIRST_USER_ADDRESS: u32 = 0x80;
+
+    pub const LAST_USER_ADDRESS: u32 = 0x8F;
+    // What the decoder sends (Table 3). A vector's or message word's ID is its word number.
+    pub const ADDRESS: u32 = 0x01;
+
+    pub const FIRST_VECTOR: u32 = 0x02;
+
+    pub const FIRST_MESSAGE: u32 = 0x03;
+
+    pub const LAST_WORD: u32 = 0x57;
+
+    pub const STATUS: u32 = 0x7F;
+
+    pub const PART_ID: u32 = 0xFF;
+
+    // Every name, tied to the definitions' number.
+    pub fn names() -> [u32; 22]
+        ensures { λ r. ⌜ r ≡ allIDs ⌝ }
+    {
+        [
+            Packet::CHECKSUM,
+            Packet::CONFIGURATION,
+            Packet::CONTROL,
+            Packet::ALL_FRAME_MODE,
+            Packet::RECEIVER_LINES,
+            Packet::FIRST_SETTING,
+            Packet::LAST_SETTING,
+            Packet::SHUT_DOWN_1,
+            Packet::SHUT_DOWN_2,
+            Packet::FIRST_SPECIAL,
+            Packet::LAST_SPECIAL,
+            Packet::FIRST_FRAMES,
+            Packet::LAST_FRAMES,
+            Packet::ADDRESS_ENABLE,
+            Packet::FIRST_USER_ADDRESS,
+            Packet::LAST_USER_ADDRESS,
+            Packet::ADDRESS,
+            Packet::FIRST_VECTOR,
+            Packet::FIRST_MESSAGE,
+            Packet::LAST_WORD,
+            Packet::STATUS,
+            Packet::PART_ID,
+        ]
+    }
+
+    // The packet that makes a silent decoder talk, where its value is the decoder's register.
+    pub fn checksum(fields: Checksum) -> Built
+        ensures { λ r. ⌜ r ≡ builtBy checksum (ofChecksum fields) ⌝ }
+    {
+        finished(checksum_draft(fields))
+    }
+
+    // What stays as it is while the decoder works. A decoder that is on ignores it.
+    pub fn configuration(fields: Configuration) -> Built
+        ensures { λ r. ⌜ r ≡ builtBy configuration (ofConfiguration fields) ⌝ }
+    {
+        finished(configuration_draft(fields))
+    }
+
+    // What may change while the decoder works, and whether it is on.
+    pub fn control(fields: Control) -> Built
+        ensures { λ r. ⌜ r ≡ builtBy control (ofControl fields) ⌝ }
+    {
+        finished(control_draft(fields))
+    }
+
+    // The counters of fragmented messages and temporary addresses, and whether every frame is decoded.
+    pub fn all_frame_mode(fields: AllFrameMode) -> Built
+        ensures { λ r. ⌜ r ≡ builtBy allFrameMode (ofAllFrameMode fields) ⌝ }
+    {
+        finished(all_frame_mode_draft(fields))
+    }
+
+    // The host's hold on the receiver control lines.
+    pub fn receiver_lines(fields: ReceiverLines) -> Built
+        ensures { λ r. ⌜ r ≡ builtBy receiverLines (ofReceiverLines fields) ⌝ }
+    {
+        finished(receiver_lines_draft(fields))
+    }
+
+    // A step of the receiver's shut-down.
+    pub fn shut_down(fields: ShutDown) -> Built
+        ensures { λ r. ⌜ r ≡ builtBy shutDown (ofShutDown fields) ⌝ }
+    {
+        finished(shut_down_draft(fields))
+    }
+
+    // Sixteen of the frames listened to.
+    pub fn frame_assignment(fields: FrameAssignment) -> Built
+        ensures { λ r. ⌜ r ≡ builtBy frameAssignment (ofFrameAssignment fields) ⌝ }
+    {
+        finished(frame_assignment_draft(fields))
+    }
+
+    // One address word of the pager.
+    pub fn user_address(fields: UserAddress) -> Built
+        ensures { λ r. ⌜ r ≡ builtBy userAddress (ofUserAddress fields) ⌝ }
+    {
+        finished(user_address_draft(fields))
+    }
+
+    // Which address words are looked for.
+    pub fn address_enable(fields: AddressEnable) -> Built
+        ensures { λ r. ⌜ r ≡ builtBy addressEnable (ofAddressEnable fields) ⌝ }
+    {
+        finished(address_enable_draft(fields))
+    }
+
+    // What a decoder that is not talking sends; a host builds it to set a mirror or a test up.
+    pub fn part_id(fields: PartId) -> Built
+        ensures { λ r. ⌜ r ≡ builtBy partId (ofPartId fields) ⌝ }
+    {
+        finished(part_id_draft(fields))
+    }
+}

@@ -1,0 +1,25 @@
+-- `checksum` meets its contract: number and fields are told by the same test.
+use mathlib.Core.Path.{refl}
+use borrow.Author.Needs.{needs}
+use Rattle.sent.proofs.checksum.Statement.{statement}
+use Rattle.sent.proofs.checksum.Tie as tie
+
+is-checksum-requires : tie.Need-is-checksum-requires
+is-checksum-requires c κs = search needs
+
+unless-requires : tie.Need-unless-requires
+unless-requires c κs = search needs
+
+kept-requires : tie.Need-kept-requires
+kept-requires c κs = search needs
+
+checksum-of-requires : tie.Need-checksum-of-requires
+checksum-of-requires c κs = search needs
+
+returns : tie.Need-returns
+returns c = rw (c .checksum-of .ensures, c .before .kept .ensures, c .before .before .unless .ensures, c .before .before .before .is-checksum .ensures) refl
+
+pub checksum-spec : {M : Type 1} → statement M
+checksum-spec =
+    tie.close
+    (tie.spec is-checksum-requires unless-requires kept-requires checksum-of-requires returns)

@@ -1,0 +1,25 @@
+-- `control` meets its contract: number and fields are told by the same test.
+use mathlib.Core.Path.{refl}
+use borrow.Author.Needs.{needs}
+use Rattle.sent.proofs.control.Statement.{statement}
+use Rattle.sent.proofs.control.Tie as tie
+
+is-control-requires : tie.Need-is-control-requires
+is-control-requires c κs = search needs
+
+unless-requires : tie.Need-unless-requires
+unless-requires c κs = search needs
+
+kept-requires : tie.Need-kept-requires
+kept-requires c κs = search needs
+
+control-of-requires : tie.Need-control-of-requires
+control-of-requires c κs = search needs
+
+returns : tie.Need-returns
+returns c = rw (c .control-of .ensures, c .before .kept .ensures, c .before .before .unless .ensures, c .before .before .before .is-control .ensures) refl
+
+pub control-spec : {M : Type 1} → statement M
+control-spec =
+    tie.close
+    (tie.spec is-control-requires unless-requires kept-requires control-of-requires returns)

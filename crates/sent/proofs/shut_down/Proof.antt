@@ -1,0 +1,25 @@
+-- `shut_down` meets its contract: number and fields are told by the same test.
+use mathlib.Core.Path.{refl}
+use borrow.Author.Needs.{needs}
+use Rattle.sent.proofs.shut_down.Statement.{statement}
+use Rattle.sent.proofs.shut_down.Tie as tie
+
+is-shut-down-requires : tie.Need-is-shut-down-requires
+is-shut-down-requires c κs = search needs
+
+unless-requires : tie.Need-unless-requires
+unless-requires c κs = search needs
+
+kept-requires : tie.Need-kept-requires
+kept-requires c κs = search needs
+
+shut-down-of-requires : tie.Need-shut-down-of-requires
+shut-down-of-requires c κs = search needs
+
+returns : tie.Need-returns
+returns c = rw (c .shut-down-of .ensures, c .before .kept .ensures, c .before .before .unless .ensures, c .before .before .before .is-shut-down .ensures) refl
+
+pub shut-down-spec : {M : Type 1} → statement M
+shut-down-spec =
+    tie.close
+    (tie.spec is-shut-down-requires unless-requires kept-requires shut-down-of-requires returns)

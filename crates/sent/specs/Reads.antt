@@ -1,0 +1,88 @@
+-- Reading back what the host sends, and what it may send at all (document 01, "Packets and the handshake").
+use Prim.Native.Nat.{ℕ}
+use mathlib.Core.Bool.{Bool, not, _&&_}
+use mathlib.Core.List.{List, [], _∷_}
+use lib.Dec.{leb, eqb}
+use Rattle.laws.specs.Choice.{some, every, implies}
+use Rattle.laws.specs.Layouts.{Layout, shows, fieldsOf}
+use Rattle.refusal.specs.Told.{numberUnless, kept}
+use Rattle.refusal.specs.declared.Refusal.the-variants as refusals
+use Rattle.packet.specs.Names.{idOf, configurationID, controlID, allFrameModeID, receiverLinesID, shutDown1ID, shutDown2ID, firstSpecialID, lastSpecialID, firstFramesID, lastFramesID, addressEnableID, firstUserAddressID, lastUserAddressID}
+use Rattle.packet.specs.Tables.{checksum, configuration, control, allFrameMode, receiverLines, shutDown, frameAssignment, userAddress, addressEnable}
+use Rattle.packet.specs.Fields.{asChecksum, asConfiguration, asControl, asAllFrameMode, asReceiverLines, asShutDown, asFrameAssignment, asUserAddress, asAddressEnable}
+use Rattle.sent.specs.declared.ChecksumRead.{ChecksumRead}
+use Rattle.sent.specs.declared.ConfigurationRead.{ConfigurationRead}
+use Rattle.sent.specs.declared.ControlRead.{ControlRead}
+use Rattle.sent.specs.declared.AllFrameModeRead.{AllFrameModeRead}
+use Rattle.sent.specs.declared.ReceiverLinesRead.{ReceiverLinesRead}
+use Rattle.sent.specs.declared.ShutDownRead.{ShutDownRead}
+use Rattle.sent.specs.declared.FrameAssignmentRead.{FrameAssignmentRead}
+use Rattle.sent.specs.declared.UserAddressRead.{UserAddressRead}
+use Rattle.sent.specs.declared.AddressEnableRead.{AddressEnableRead}
+
+-- 01's table, 7: "not of that kind" or "a 0 bit set", so a bit that the packet's table prints is another
+abbrev pub numberBy : Layout → ℕ → ℕ
+numberBy row n = numberUnless refusals.Packet (shows row n)
+
+-- the numbers in the packet's fields; after a refusal each is 0
+abbrev pub fieldsBy : Layout → ℕ → List ℕ
+fieldsBy row n = fieldsOf row (kept (shows row n) n)
+
+abbrev pub checksumRead : ℕ → ChecksumRead
+checksumRead n = record { number = numberBy checksum n; fields = asChecksum (fieldsBy checksum n) }
+
+abbrev pub configurationRead : ℕ → ConfigurationRead
+configurationRead n = record { number = numberBy configuration n; fields = asConfiguration (fieldsBy configuration n) }
+
+abbrev pub controlRead : ℕ → ControlRead
+controlRead n = record { number = numberBy control n; fields = asControl (fieldsBy control n) }
+
+abbrev pub allFrameModeRead : ℕ → AllFrameModeRead
+allFrameModeRead n = record { number = numberBy allFrameMode n; fields = asAllFrameMode (fieldsBy allFrameMode n) }
+
+abbrev pub receiverLinesRead : ℕ → ReceiverLinesRead
+receiverLinesRead n = record { number = numberBy receiverLines n; fields = asReceiverLines (fieldsBy receiverLines n) }
+
+abbrev pub shutDownRead : ℕ → ShutDownRead
+shutDownRead n = record { number = numberBy shutDown n; fields = asShutDown (fieldsBy shutDown n) }
+
+abbrev pub frameAssignmentRead : ℕ → FrameAssignmentRead
+frameAssignmentRead n = record { number = numberBy frameAssignment n; fields = asFrameAssignment (fieldsBy frameAssignment n) }
+
+abbrev pub userAddressRead : ℕ → UserAddressRead
+userAddressRead n = record { number = numberBy userAddress n; fields = asUserAddress (fieldsBy userAddress n) }
+
+abbrev pub addressEnableRead : ℕ → AddressEnableRead
+addressEnableRead n = record { number = numberBy addressEnable n; fields = asAddressEnable (fieldsBy addressEnable n) }
+
+-- whether an ID is one of those from the first to the last
+abbrev pub among : ℕ → ℕ → ℕ → Bool
+among first last id = leb first id && leb id last
+
+-- 01: "The host refuses to send IDs 04H to 0EH, 1CH to 1FH, 28H to 77H, 79H to 7FH, 90H to FFH"
+abbrev pub neverSent : ℕ → Bool
+neverSent id =
+    some
+    (among 0x04 0x0E id ∷ among firstSpecialID lastSpecialID id ∷ among 0x28 0x77 id ∷ among 0x79 0x7F id ∷ among 0x90 0xFF id ∷ [])
+
+-- 01: "Bits that a table shows as 0 must be 0; 10H to 19H are sent with any data bits". The checksum's table shows none
+abbrev pub zerosRight : ℕ → Bool
+zerosRight n =
+    every
+    (implies (eqb (idOf n) configurationID) (shows configuration n)
+    ∷ implies (eqb (idOf n) controlID) (shows control n)
+    ∷ implies (eqb (idOf n) allFrameModeID) (shows allFrameMode n)
+    ∷ implies (eqb (idOf n) receiverLinesID) (shows receiverLines n)
+    ∷ implies (among shutDown1ID shutDown2ID (idOf n)) (shows shutDown n)
+    ∷ implies (among firstFramesID lastFramesID (idOf n)) (shows frameAssignment n)
+    ∷ implies (eqb (idOf n) addressEnableID) (shows addressEnable n)
+    ∷ implies (among firstUserAddressID lastUserAddressID (idOf n)) (shows userAddress n)
+    ∷ [])
+
+-- whether the host may send these 32 bits
+abbrev pub maySend : ℕ → Bool
+maySend n = not (neverSent (idOf n)) && zerosRight n
+
+-- 01's table: 7 for what is not to be sent
+abbrev pub sendOf : ℕ → ℕ
+sendOf n = numberUnless refusals.Packet (maySend n)

@@ -1,0 +1,377 @@
+// What the host sends, read back into its fields, and whether it may be sent at all (document 01,
+// "Packets and the handshake"). A packet whose ID is another's, or that has a bit set which its table
+// prints as 0, is refused (7), and its fields read 0.
+ghost use mathlib.Core.Path.{_≡_};
+ghost use mathlib.Core.Bool.{not};
+ghost use Rattle.laws.specs.Layouts.{shows, fieldsOf};
+ghost use Rattle.packet.specs.Tables.{checksum, configuration, control, allFrameMode, receiverLines, shutDown, frameAssignment, userAddress, addressEnable};
+ghost use Rattle.packet.specs.Fields.{asChecksum, asConfiguration, asControl, asAllFrameMode, asReceiverLines, asShutDown, asFrameAssignment, asUserAddress, asAddressEnable};
+ghost use Rattle.sent.specs.Reads.{checksumRead, configurationRead, controlRead, allFrameModeRead, receiverLinesRead, shutDownRead, frameAssignmentRead, userAddressRead, addressEnableRead, neverSent, zerosRight, sendOf};
+use packet::AddressEnable;
+use packet::AllFrameMode;
+use packet::Checksum;
+use packet::Configuration;
+use packet::Control;
+use packet::FrameAssignment;
+use packet::Packet;
+use packet::ReceiverLines;
+use packet::ShutDown;
+use packet::UserAddress;
+use refusal::Refusal;
+use refusal::kept;
+
+// The fields of a checksum packet (Table 9), or its refusal.
+#[repr(C)]
+pub struct ChecksumRead {
+    pub number: u32,
+    pub fields: Checksum,
+}
+
+// The fields of a configuration packet (Table 5), or its refusal.
+#[repr(C)]
+pub struct ConfigurationRead {
+    pub number: u32,
+    pub fields: Configuration,
+}
+
+// The fields of a control packet (Table 11), or its refusal.
+#[repr(C)]
+pub struct ControlRead {
+    pub number: u32,
+    pub fields: Control,
+}
+
+// The fields of an all frame mode packet (Table 56), or its refusal.
+#[repr(C)]
+pub struct AllFrameModeRead {
+    pub number: u32,
+    pub fields: AllFrameMode,
+}
+
+// The fields of a receiver line control packet (Table 19), or its refusal.
+#[repr(C)]
+pub struct ReceiverLinesRead {
+    pub number: u32,
+    pub fields: ReceiverLines,
+}
+
+// The fields of a receiver shut-down packet (Table 21), or its refusal.
+#[repr(C)]
+pub struct ShutDownRead {
+    pub number: u32,
+    pub fields: ShutDown,
+}
+
+// The fields of a frame assignment packet (Table 29), or its refusal.
+#[repr(C)]
+pub struct FrameAssignmentRead {
+    pub number: u32,
+    pub fields: FrameAssignment,
+}
+
+// The fields of a user address assignment packet (Table 26), or its refusal.
+#[repr(C)]
+pub struct UserAddressRead {
+    pub number: u32,
+    pub fields: UserAddress,
+}
+
+// The fields of the user address enable packet (Table 27), or its refusal.
+#[repr(C)]
+pub struct AddressEnableRead {
+    pub number: u32,
+    pub fields: AddressEnable,
+}
+
+fn is_checksum(bits: u32) -> bool
+    ensures { λ r. ⌜ r ≡ shows checksum bits ⌝ }
+{
+    bits & 0xFF00_0000 == Packet::CHECKSUM << 24
+}
+
+fn checksum_of(bits: u32) -> Checksum
+    ensures { λ r. ⌜ r ≡ asChecksum (fieldsOf checksum bits) ⌝ }
+{
+    Checksum {
+        value: bits % 0x100_0000,
+    }
+}
+
+// Reads a checksum packet (Table 9).
+pub fn checksum(packet: Packet) -> ChecksumRead
+    ensures { λ r. ⌜ r ≡ checksumRead (packet .bits) ⌝ }
+{
+    let bits = packet.bits;
+    let good = is_checksum(bits);
+    ChecksumRead {
+        number: Refusal::Packet.unless(good),
+        fields: checksum_of(kept(good, bits)),
+    }
+}
+
+fn is_configuration(bits: u32) -> bool
+    ensures { λ r. ⌜ r ≡ shows configuration bits ⌝ }
+{
+    bits & 0xFFFC_FC07 == Packet::CONFIGURATION << 24
+}
+
+fn configuration_of(bits: u32) -> Configuration
+    ensures { λ r. ⌜ r ≡ asConfiguration (fieldsOf configuration bits) ⌝ }
+{
+    Configuration {
+        oscillator: (bits >> 16) % 4,
+        polarity: (bits >> 8) % 4,
+        synchronous_mode: (bits >> 7) % 2,
+        maximum_off_time: (bits >> 6) % 2,
+        clock_output_disable: (bits >> 5) % 2,
+        minute_timer: (bits >> 4) % 2,
+        low_battery_polarity: (bits >> 3) % 2,
+    }
+}
+
+// Reads a configuration packet (Table 5).
+pub fn configuration(packet: Packet) -> ConfigurationRead
+    ensures { λ r. ⌜ r ≡ configurationRead (packet .bits) ⌝ }
+{
+    let bits = packet.bits;
+    let good = is_configuration(bits);
+    ConfigurationRead {
+        number: Refusal::Packet.unless(good),
+        fields: configuration_of(kept(good, bits)),
+    }
+}
+
+fn is_control(bits: u32) -> bool
+    ensures { λ r. ⌜ r ≡ shows control bits ⌝ }
+{
+    bits & 0xFF00_8FAE == Packet::CONTROL << 24
+}
+
+fn control_of(bits: u32) -> Control
+    ensures { λ r. ⌜ r ≡ asControl (fieldsOf control bits) ⌝ }
+{
+    Control {
+        forced_frames: (bits >> 16) % 0x100,
+        single_phase: (bits >> 14) % 2,
+        phase: (bits >> 12) % 4,
+        block_information: (bits >> 6) % 2,
+        minute_timer_clear: (bits >> 4) % 2,
+        on: bits % 2,
+    }
+}
+
+// Reads a control packet (Table 11).
+pub fn control(packet: Packet) -> ControlRead
+    ensures { λ r. ⌜ r ≡ controlRead (packet .bits) ⌝ }
+{
+    let bits = packet.bits;
+    let good = is_control(bits);
+    ControlRead {
+        number: Refusal::Packet.unless(good),
+        fields: control_of(kept(good, bits)),
+    }
+}
+
+fn is_all_frame_mode(bits: u32) -> bool
+    ensures { λ r. ⌜ r ≡ shows allFrameMode bits ⌝ }
+{
+    bits & 0xFF3F_0000 == Packet::ALL_FRAME_MODE << 24
+}
+
+fn all_frame_mode_of(bits: u32) -> AllFrameMode
+    ensures { λ r. ⌜ r ≡ asAllFrameMode (fieldsOf allFrameMode bits) ⌝ }
+{
+    AllFrameMode {
+        decrement: (bits >> 23) % 2,
+        force: (bits >> 22) % 2,
+        decrement_temporary: bits % 0x1_0000,
+    }
+}
+
+// Reads an all frame mode packet (Table 56).
+pub fn all_frame_mode(packet: Packet) -> AllFrameModeRead
+    ensures { λ r. ⌜ r ≡ allFrameModeRead (packet .bits) ⌝ }
+{
+    let bits = packet.bits;
+    let good = is_all_frame_mode(bits);
+    AllFrameModeRead {
+        number: Refusal::Packet.unless(good),
+        fields: all_frame_mode_of(kept(good, bits)),
+    }
+}
+
+fn is_receiver_lines(bits: u32) -> bool
+    ensures { λ r. ⌜ r ≡ shows receiverLines bits ⌝ }
+{
+    bits & 0xFFFF_0000 == Packet::RECEIVER_LINES << 24
+}
+
+fn receiver_lines_of(bits: u32) -> ReceiverLines
+    ensures { λ r. ⌜ r ≡ asReceiverLines (fieldsOf receiverLines bits) ⌝ }
+{
+    ReceiverLines {
+        forced: (bits >> 8) % 0x100,
+        settings: bits % 0x100,
+    }
+}
+
+// Reads a receiver line control packet (Table 19).
+pub fn receiver_lines(packet: Packet) -> ReceiverLinesRead
+    ensures { λ r. ⌜ r ≡ receiverLinesRead (packet .bits) ⌝ }
+{
+    let bits = packet.bits;
+    let good = is_receiver_lines(bits);
+    ReceiverLinesRead {
+        number: Refusal::Packet.unless(good),
+        fields: receiver_lines_of(kept(good, bits)),
+    }
+}
+
+fn is_shut_down(bits: u32) -> bool
+    ensures { λ r. ⌜ r ≡ shows shutDown bits ⌝ }
+{
+    bits & 0xFE77_00C0 == Packet::SHUT_DOWN_1 << 24
+}
+
+fn shut_down_of(bits: u32) -> ShutDown
+    ensures { λ r. ⌜ r ≡ asShutDown (fieldsOf shutDown bits) ⌝ }
+{
+    ShutDown {
+        setting: (bits >> 24) % 2,
+        enable: (bits >> 23) % 2,
+        low_battery_check: (bits >> 19) % 2,
+        lines: (bits >> 8) % 0x100,
+        time: bits % 0x40,
+    }
+}
+
+// Reads a receiver shut-down packet (Table 21).
+pub fn shut_down(packet: Packet) -> ShutDownRead
+    ensures { λ r. ⌜ r ≡ shutDownRead (packet .bits) ⌝ }
+{
+    let bits = packet.bits;
+    let good = is_shut_down(bits);
+    ShutDownRead {
+        number: Refusal::Packet.unless(good),
+        fields: shut_down_of(kept(good, bits)),
+    }
+}
+
+fn is_frame_assignment(bits: u32) -> bool
+    ensures { λ r. ⌜ r ≡ shows frameAssignment bits ⌝ }
+{
+    bits & 0xF8FF_0000 == Packet::FIRST_FRAMES << 24
+}
+
+fn frame_assignment_of(bits: u32) -> FrameAssignment
+    ensures { λ r. ⌜ r ≡ asFrameAssignment (fieldsOf frameAssignment bits) ⌝ }
+{
+    FrameAssignment {
+        range: (bits >> 24) % 8,
+        frames: bits % 0x1_0000,
+    }
+}
+
+// Reads a frame assignment packet (Table 29).
+pub fn frame_assignment(packet: Packet) -> FrameAssignmentRead
+    ensures { λ r. ⌜ r ≡ frameAssignmentRead (packet .bits) ⌝ }
+{
+    let bits = packet.bits;
+    let good = is_frame_assignment(bits);
+    FrameAssignmentRead {
+        number: Refusal::Packet.unless(good),
+        fields: frame_assignment_of(kept(good, bits)),
+    }
+}
+
+fn is_user_address(bits: u32) -> bool
+    ensures { λ r. ⌜ r ≡ shows userAddress bits ⌝ }
+{
+    bits & 0xF080_0000 == Packet::FIRST_USER_ADDRESS << 24
+}
+
+fn user_address_of(bits: u32) -> UserAddress
+    ensures { λ r. ⌜ r ≡ asUserAddress (fieldsOf userAddress bits) ⌝ }
+{
+    UserAddress {
+        location: (bits >> 24) % 0x10,
+        long: (bits >> 22) % 2,
+        tone_only: (bits >> 21) % 2,
+        word: bits % 0x20_0000,
+    }
+}
+
+// Reads a user address assignment packet (Table 26).
+pub fn user_address(packet: Packet) -> UserAddressRead
+    ensures { λ r. ⌜ r ≡ userAddressRead (packet .bits) ⌝ }
+{
+    let bits = packet.bits;
+    let good = is_user_address(bits);
+    UserAddressRead {
+        number: Refusal::Packet.unless(good),
+        fields: user_address_of(kept(good, bits)),
+    }
+}
+
+fn is_address_enable(bits: u32) -> bool
+    ensures { λ r. ⌜ r ≡ shows addressEnable bits ⌝ }
+{
+    bits & 0xFFFF_0000 == Packet::ADDRESS_ENABLE << 24
+}
+
+fn address_enable_of(bits: u32) -> AddressEnable
+    ensures { λ r. ⌜ r ≡ asAddressEnable (fieldsOf addressEnable bits) ⌝ }
+{
+    AddressEnable {
+        enabled: bits % 0x1_0000,
+    }
+}
+
+// Reads the user address enable packet (Table 27).
+pub fn address_enable(packet: Packet) -> AddressEnableRead
+    ensures { λ r. ⌜ r ≡ addressEnableRead (packet .bits) ⌝ }
+{
+    let bits = packet.bits;
+    let good = is_address_enable(bits);
+    AddressEnableRead {
+        number: Refusal::Packet.unless(good),
+        fields: address_enable_of(kept(good, bits)),
+    }
+}
+
+// Whether no packet with this ID is ever sent: the reserved ones and the special ones (Table 2).
+fn never_sent(id: u32) -> bool
+    ensures { λ r. ⌜ r ≡ neverSent id ⌝ }
+{
+    ((Packet::ALL_FRAME_MODE < id) & (id < Packet::RECEIVER_LINES))
+        | ((Packet::FIRST_SPECIAL <= id) & (id <= Packet::LAST_SPECIAL))
+        | ((Packet::LAST_FRAMES < id) & (id < Packet::ADDRESS_ENABLE))
+        | ((Packet::ADDRESS_ENABLE < id) & (id < Packet::FIRST_USER_ADDRESS))
+        | ((Packet::LAST_USER_ADDRESS < id) & (id <= Packet::PART_ID))
+}
+
+// Whether each bit is 0 that the table of the packet's ID prints as 0. The settings of the receiver go
+// with any data bits.
+fn zeros_right(bits: u32) -> bool
+    ensures { λ r. ⌜ r ≡ zerosRight bits ⌝ }
+{
+    let id = bits >> 24;
+    ((id != Packet::CONFIGURATION) | is_configuration(bits))
+        & ((id != Packet::CONTROL) | is_control(bits))
+        & ((id != Packet::ALL_FRAME_MODE) | is_all_frame_mode(bits))
+        & ((id != Packet::RECEIVER_LINES) | is_receiver_lines(bits))
+        & (!((Packet::SHUT_DOWN_1 <= id) & (id <= Packet::SHUT_DOWN_2)) | is_shut_down(bits))
+        & (!((Packet::FIRST_FRAMES <= id) & (id <= Packet::LAST_FRAMES))
+            | is_frame_assignment(bits))
+        & ((id != Packet::ADDRESS_ENABLE) | is_address_enable(bits))
+        & (!((Packet::FIRST_USER_ADDRESS <= id) & (id <= Packet::LAST_USER_ADDRESS))
+            | is_user_address(bits))
+}
+
+// Whether the host may send a packet: 0 if so, else 7.
+pub fn may_send(packet: Packet) -> u32
+    ensures { λ r. ⌜ r ≡ sendOf (packet .bits) ⌝ }
+{
+    let bits = packet.bits;
+    Refusal::Packet.unless(!never_sent(bits >> 24) & zeros_right(bits))
+}
