@@ -1,6 +1,8 @@
 -- Every packet ID by its name, and the two halves of a packet.
 use Prim.Native.Nat.{ℕ, _/_, _%_, _^_}
+use mathlib.Core.Bool.{Bool, _&&_}
 use mathlib.Core.List.{List, [], _∷_}
+use lib.Dec.{leb}
 
 -- S8.3.5, Table 1: byte 3 is the ID
 abbrev pub idOf : ℕ → ℕ
@@ -9,6 +11,10 @@ idOf n = n / 2 ^ 24
 -- .. and bytes 2 to 0 are the 24 data bits
 abbrev pub dataOf : ℕ → ℕ
 dataOf n = n % 2 ^ 24
+
+-- whether an ID is one of those from the first to the last
+abbrev pub among : ℕ → ℕ → ℕ → Bool
+among first last id = leb first id && leb id last
 
 -- S8.3.7, Table 2: what the host sends
 abbrev pub checksumID : ℕ

@@ -2,12 +2,12 @@
 use Prim.Native.Nat.{ℕ}
 use mathlib.Core.Bool.{Bool, not, _&&_}
 use mathlib.Core.List.{List, [], _∷_}
-use lib.Dec.{leb, eqb}
+use lib.Dec.{eqb}
 use Rattle.laws.specs.Choice.{some, every, implies}
 use Rattle.laws.specs.Layouts.{Layout, shows, fieldsOf}
 use Rattle.refusal.specs.Told.{numberUnless, kept}
 use Rattle.refusal.specs.declared.Refusal.the-variants as refusals
-use Rattle.packet.specs.Names.{idOf, configurationID, controlID, allFrameModeID, receiverLinesID, shutDown1ID, shutDown2ID, firstSpecialID, lastSpecialID, firstFramesID, lastFramesID, addressEnableID, firstUserAddressID, lastUserAddressID}
+use Rattle.packet.specs.Names.{idOf, among, configurationID, controlID, allFrameModeID, receiverLinesID, shutDown1ID, shutDown2ID, firstSpecialID, lastSpecialID, firstFramesID, lastFramesID, addressEnableID, firstUserAddressID, lastUserAddressID}
 use Rattle.packet.specs.Tables.{checksum, configuration, control, allFrameMode, receiverLines, shutDown, frameAssignment, userAddress, addressEnable}
 use Rattle.packet.specs.Fields.{asChecksum, asConfiguration, asControl, asAllFrameMode, asReceiverLines, asShutDown, asFrameAssignment, asUserAddress, asAddressEnable}
 use Rattle.sent.specs.declared.ChecksumRead.{ChecksumRead}
@@ -54,10 +54,6 @@ userAddressRead n = record { number = numberBy userAddress n; fields = asUserAdd
 
 abbrev pub addressEnableRead : ℕ → AddressEnableRead
 addressEnableRead n = record { number = numberBy addressEnable n; fields = asAddressEnable (fieldsBy addressEnable n) }
-
--- whether an ID is one of those from the first to the last
-abbrev pub among : ℕ → ℕ → ℕ → Bool
-among first last id = leb first id && leb id last
 
 -- 01: "The host refuses to send IDs 04H to 0EH, 1CH to 1FH, 28H to 77H, 79H to 7FH, 90H to FFH"
 abbrev pub neverSent : ℕ → Bool
