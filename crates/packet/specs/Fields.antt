@@ -100,10 +100,10 @@ asFrameAssignment v = record { range = getD v 0 0; frames = getD v 1 0 }
 
 -- Table 26
 abbrev pub ofUserAddress : UserAddress → List ℕ
-ofUserAddress f = f .location ∷ f .long ∷ f .«tone_only» ∷ f .word ∷ []
+ofUserAddress f = f .location ∷ f .«long_address» ∷ f .«tone_only» ∷ f .word ∷ []
 
 abbrev pub asUserAddress : List ℕ → UserAddress
-asUserAddress v = record { location = getD v 0 0; long = getD v 1 0; «tone_only» = getD v 2 0; word = getD v 3 0 }
+asUserAddress v = record { location = getD v 0 0; «long_address» = getD v 1 0; «tone_only» = getD v 2 0; word = getD v 3 0 }
 
 -- Table 27
 abbrev pub ofAddressEnable : AddressEnable → List ℕ

@@ -88,7 +88,7 @@ pub struct FrameAssignment {
 #[repr(C)]
 pub struct UserAddress {
     pub location: u32,
-    pub long: u32,
+    pub long_address: u32,
     pub tone_only: u32,
     pub word: u32,
 }
@@ -229,10 +229,10 @@ fn user_address_draft(f: UserAddress) -> Draft
     ensures { λ r. ⌜ r ≡ draftBy userAddress (ofUserAddress f) ⌝ }
 {
     Draft {
-        fits: (f.location < 16) & (f.long < 2) & (f.tone_only < 2) & (f.word < 0x20_0000),
+        fits: (f.location < 16) & (f.long_address < 2) & (f.tone_only < 2) & (f.word < 0x20_0000),
         bits: Packet::FIRST_USER_ADDRESS << 24
             | f.location << 24
-            | f.long << 22
+            | f.long_address << 22
             | f.tone_only << 21
             | f.word,
     }

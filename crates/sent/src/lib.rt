@@ -98,7 +98,7 @@ fn checksum_of(bits: u32) -> Checksum
 }
 
 // Reads a checksum packet (Table 9).
-pub fn checksum(packet: Packet) -> ChecksumRead
+pub fn read_checksum(packet: Packet) -> ChecksumRead
     ensures { λ r. ⌜ r ≡ checksumRead (packet .bits) ⌝ }
 {
     let bits = packet.bits;
@@ -130,7 +130,7 @@ fn configuration_of(bits: u32) -> Configuration
 }
 
 // Reads a configuration packet (Table 5).
-pub fn configuration(packet: Packet) -> ConfigurationRead
+pub fn read_configuration(packet: Packet) -> ConfigurationRead
     ensures { λ r. ⌜ r ≡ configurationRead (packet .bits) ⌝ }
 {
     let bits = packet.bits;
@@ -161,7 +161,7 @@ fn control_of(bits: u32) -> Control
 }
 
 // Reads a control packet (Table 11).
-pub fn control(packet: Packet) -> ControlRead
+pub fn read_control(packet: Packet) -> ControlRead
     ensures { λ r. ⌜ r ≡ controlRead (packet .bits) ⌝ }
 {
     let bits = packet.bits;
@@ -189,7 +189,7 @@ fn all_frame_mode_of(bits: u32) -> AllFrameMode
 }
 
 // Reads an all frame mode packet (Table 56).
-pub fn all_frame_mode(packet: Packet) -> AllFrameModeRead
+pub fn read_all_frame_mode(packet: Packet) -> AllFrameModeRead
     ensures { λ r. ⌜ r ≡ allFrameModeRead (packet .bits) ⌝ }
 {
     let bits = packet.bits;
@@ -216,7 +216,7 @@ fn receiver_lines_of(bits: u32) -> ReceiverLines
 }
 
 // Reads a receiver line control packet (Table 19).
-pub fn receiver_lines(packet: Packet) -> ReceiverLinesRead
+pub fn read_receiver_lines(packet: Packet) -> ReceiverLinesRead
     ensures { λ r. ⌜ r ≡ receiverLinesRead (packet .bits) ⌝ }
 {
     let bits = packet.bits;
@@ -246,7 +246,7 @@ fn shut_down_of(bits: u32) -> ShutDown
 }
 
 // Reads a receiver shut-down packet (Table 21).
-pub fn shut_down(packet: Packet) -> ShutDownRead
+pub fn read_shut_down(packet: Packet) -> ShutDownRead
     ensures { λ r. ⌜ r ≡ shutDownRead (packet .bits) ⌝ }
 {
     let bits = packet.bits;
@@ -273,7 +273,7 @@ fn frame_assignment_of(bits: u32) -> FrameAssignment
 }
 
 // Reads a frame assignment packet (Table 29).
-pub fn frame_assignment(packet: Packet) -> FrameAssignmentRead
+pub fn read_frame_assignment(packet: Packet) -> FrameAssignmentRead
     ensures { λ r. ⌜ r ≡ frameAssignmentRead (packet .bits) ⌝ }
 {
     let bits = packet.bits;
@@ -295,14 +295,14 @@ fn user_address_of(bits: u32) -> UserAddress
 {
     UserAddress {
         location: (bits >> 24) % 0x10,
-        long: (bits >> 22) % 2,
+        long_address: (bits >> 22) % 2,
         tone_only: (bits >> 21) % 2,
         word: bits % 0x20_0000,
     }
 }
 
 // Reads a user address assignment packet (Table 26).
-pub fn user_address(packet: Packet) -> UserAddressRead
+pub fn read_user_address(packet: Packet) -> UserAddressRead
     ensures { λ r. ⌜ r ≡ userAddressRead (packet .bits) ⌝ }
 {
     let bits = packet.bits;
@@ -328,7 +328,7 @@ fn address_enable_of(bits: u32) -> AddressEnable
 }
 
 // Reads the user address enable packet (Table 27).
-pub fn address_enable(packet: Packet) -> AddressEnableRead
+pub fn read_address_enable(packet: Packet) -> AddressEnableRead
     ensures { λ r. ⌜ r ≡ addressEnableRead (packet .bits) ⌝ }
 {
     let bits = packet.bits;

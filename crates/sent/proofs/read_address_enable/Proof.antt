@@ -1,8 +1,8 @@
--- `address_enable` meets its contract: number and fields are told by the same test.
+-- `read_address_enable` meets its contract: number and fields are told by the same test.
 use mathlib.Core.Path.{refl}
 use borrow.Author.Needs.{needs}
-use Rattle.sent.proofs.address_enable.Statement.{statement}
-use Rattle.sent.proofs.address_enable.Tie as tie
+use Rattle.sent.proofs.read_address_enable.Statement.{statement}
+use Rattle.sent.proofs.read_address_enable.Tie as tie
 
 is-address-enable-requires : tie.Need-is-address-enable-requires
 is-address-enable-requires c κs = search needs
@@ -19,8 +19,8 @@ address-enable-of-requires c κs = search needs
 returns : tie.Need-returns
 returns c = rw (c .address-enable-of .ensures, c .before .kept .ensures, c .before .before .unless .ensures, c .before .before .before .is-address-enable .ensures) refl
 
-pub address-enable-spec : {M : Type 1} → statement M
-address-enable-spec =
+pub read-address-enable-spec : {M : Type 1} → statement M
+read-address-enable-spec =
     tie.close
     (tie.spec
     is-address-enable-requires

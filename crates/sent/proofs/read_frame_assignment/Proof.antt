@@ -1,8 +1,8 @@
--- `frame_assignment` meets its contract: number and fields are told by the same test.
+-- `read_frame_assignment` meets its contract: number and fields are told by the same test.
 use mathlib.Core.Path.{refl}
 use borrow.Author.Needs.{needs}
-use Rattle.sent.proofs.frame_assignment.Statement.{statement}
-use Rattle.sent.proofs.frame_assignment.Tie as tie
+use Rattle.sent.proofs.read_frame_assignment.Statement.{statement}
+use Rattle.sent.proofs.read_frame_assignment.Tie as tie
 
 is-frame-assignment-requires : tie.Need-is-frame-assignment-requires
 is-frame-assignment-requires c κs = search needs
@@ -19,8 +19,8 @@ frame-assignment-of-requires c κs = search needs
 returns : tie.Need-returns
 returns c = rw (c .frame-assignment-of .ensures, c .before .kept .ensures, c .before .before .unless .ensures, c .before .before .before .is-frame-assignment .ensures) refl
 
-pub frame-assignment-spec : {M : Type 1} → statement M
-frame-assignment-spec =
+pub read-frame-assignment-spec : {M : Type 1} → statement M
+read-frame-assignment-spec =
     tie.close
     (tie.spec
     is-frame-assignment-requires

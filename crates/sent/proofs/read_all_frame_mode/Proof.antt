@@ -1,8 +1,8 @@
--- `all_frame_mode` meets its contract: number and fields are told by the same test.
+-- `read_all_frame_mode` meets its contract: number and fields are told by the same test.
 use mathlib.Core.Path.{refl}
 use borrow.Author.Needs.{needs}
-use Rattle.sent.proofs.all_frame_mode.Statement.{statement}
-use Rattle.sent.proofs.all_frame_mode.Tie as tie
+use Rattle.sent.proofs.read_all_frame_mode.Statement.{statement}
+use Rattle.sent.proofs.read_all_frame_mode.Tie as tie
 
 is-all-frame-mode-requires : tie.Need-is-all-frame-mode-requires
 is-all-frame-mode-requires c κs = search needs
@@ -19,8 +19,8 @@ all-frame-mode-of-requires c κs = search needs
 returns : tie.Need-returns
 returns c = rw (c .all-frame-mode-of .ensures, c .before .kept .ensures, c .before .before .unless .ensures, c .before .before .before .is-all-frame-mode .ensures) refl
 
-pub all-frame-mode-spec : {M : Type 1} → statement M
-all-frame-mode-spec =
+pub read-all-frame-mode-spec : {M : Type 1} → statement M
+read-all-frame-mode-spec =
     tie.close
     (tie.spec
     is-all-frame-mode-requires

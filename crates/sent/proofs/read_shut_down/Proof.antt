@@ -1,8 +1,8 @@
--- `shut_down` meets its contract: number and fields are told by the same test.
+-- `read_shut_down` meets its contract: number and fields are told by the same test.
 use mathlib.Core.Path.{refl}
 use borrow.Author.Needs.{needs}
-use Rattle.sent.proofs.shut_down.Statement.{statement}
-use Rattle.sent.proofs.shut_down.Tie as tie
+use Rattle.sent.proofs.read_shut_down.Statement.{statement}
+use Rattle.sent.proofs.read_shut_down.Tie as tie
 
 is-shut-down-requires : tie.Need-is-shut-down-requires
 is-shut-down-requires c κs = search needs
@@ -19,7 +19,7 @@ shut-down-of-requires c κs = search needs
 returns : tie.Need-returns
 returns c = rw (c .shut-down-of .ensures, c .before .kept .ensures, c .before .before .unless .ensures, c .before .before .before .is-shut-down .ensures) refl
 
-pub shut-down-spec : {M : Type 1} → statement M
-shut-down-spec =
+pub read-shut-down-spec : {M : Type 1} → statement M
+read-shut-down-spec =
     tie.close
     (tie.spec is-shut-down-requires unless-requires kept-requires shut-down-of-requires returns)

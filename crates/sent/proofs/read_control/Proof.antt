@@ -1,8 +1,8 @@
--- `control` meets its contract: number and fields are told by the same test.
+-- `read_control` meets its contract: number and fields are told by the same test.
 use mathlib.Core.Path.{refl}
 use borrow.Author.Needs.{needs}
-use Rattle.sent.proofs.control.Statement.{statement}
-use Rattle.sent.proofs.control.Tie as tie
+use Rattle.sent.proofs.read_control.Statement.{statement}
+use Rattle.sent.proofs.read_control.Tie as tie
 
 is-control-requires : tie.Need-is-control-requires
 is-control-requires c κs = search needs
@@ -19,7 +19,7 @@ control-of-requires c κs = search needs
 returns : tie.Need-returns
 returns c = rw (c .control-of .ensures, c .before .kept .ensures, c .before .before .unless .ensures, c .before .before .before .is-control .ensures) refl
 
-pub control-spec : {M : Type 1} → statement M
-control-spec =
+pub read-control-spec : {M : Type 1} → statement M
+read-control-spec =
     tie.close
     (tie.spec is-control-requires unless-requires kept-requires control-of-requires returns)

@@ -1,8 +1,8 @@
--- `checksum` meets its contract: number and fields are told by the same test.
+-- `read_checksum` meets its contract: number and fields are told by the same test.
 use mathlib.Core.Path.{refl}
 use borrow.Author.Needs.{needs}
-use Rattle.sent.proofs.checksum.Statement.{statement}
-use Rattle.sent.proofs.checksum.Tie as tie
+use Rattle.sent.proofs.read_checksum.Statement.{statement}
+use Rattle.sent.proofs.read_checksum.Tie as tie
 
 is-checksum-requires : tie.Need-is-checksum-requires
 is-checksum-requires c κs = search needs
@@ -19,7 +19,7 @@ checksum-of-requires c κs = search needs
 returns : tie.Need-returns
 returns c = rw (c .checksum-of .ensures, c .before .kept .ensures, c .before .before .unless .ensures, c .before .before .before .is-checksum .ensures) refl
 
-pub checksum-spec : {M : Type 1} → statement M
-checksum-spec =
+pub read-checksum-spec : {M : Type 1} → statement M
+read-checksum-spec =
     tie.close
     (tie.spec is-checksum-requires unless-requires kept-requires checksum-of-requires returns)

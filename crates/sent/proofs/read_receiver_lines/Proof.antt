@@ -1,8 +1,8 @@
--- `receiver_lines` meets its contract: number and fields are told by the same test.
+-- `read_receiver_lines` meets its contract: number and fields are told by the same test.
 use mathlib.Core.Path.{refl}
 use borrow.Author.Needs.{needs}
-use Rattle.sent.proofs.receiver_lines.Statement.{statement}
-use Rattle.sent.proofs.receiver_lines.Tie as tie
+use Rattle.sent.proofs.read_receiver_lines.Statement.{statement}
+use Rattle.sent.proofs.read_receiver_lines.Tie as tie
 
 is-receiver-lines-requires : tie.Need-is-receiver-lines-requires
 is-receiver-lines-requires c κs = search needs
@@ -19,8 +19,8 @@ receiver-lines-of-requires c κs = search needs
 returns : tie.Need-returns
 returns c = rw (c .receiver-lines-of .ensures, c .before .kept .ensures, c .before .before .unless .ensures, c .before .before .before .is-receiver-lines .ensures) refl
 
-pub receiver-lines-spec : {M : Type 1} → statement M
-receiver-lines-spec =
+pub read-receiver-lines-spec : {M : Type 1} → statement M
+read-receiver-lines-spec =
     tie.close
     (tie.spec
     is-receiver-lines-requires

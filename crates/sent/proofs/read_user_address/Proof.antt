@@ -1,8 +1,8 @@
--- `user_address` meets its contract: number and fields are told by the same test.
+-- `read_user_address` meets its contract: number and fields are told by the same test.
 use mathlib.Core.Path.{refl}
 use borrow.Author.Needs.{needs}
-use Rattle.sent.proofs.user_address.Statement.{statement}
-use Rattle.sent.proofs.user_address.Tie as tie
+use Rattle.sent.proofs.read_user_address.Statement.{statement}
+use Rattle.sent.proofs.read_user_address.Tie as tie
 
 is-user-address-requires : tie.Need-is-user-address-requires
 is-user-address-requires c κs = search needs
@@ -19,8 +19,8 @@ user-address-of-requires c κs = search needs
 returns : tie.Need-returns
 returns c = rw (c .user-address-of .ensures, c .before .kept .ensures, c .before .before .unless .ensures, c .before .before .before .is-user-address .ensures) refl
 
-pub user-address-spec : {M : Type 1} → statement M
-user-address-spec =
+pub read-user-address-spec : {M : Type 1} → statement M
+read-user-address-spec =
     tie.close
     (tie.spec
     is-user-address-requires

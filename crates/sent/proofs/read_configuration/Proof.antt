@@ -1,8 +1,8 @@
--- `configuration` meets its contract: number and fields are told by the same test.
+-- `read_configuration` meets its contract: number and fields are told by the same test.
 use mathlib.Core.Path.{refl}
 use borrow.Author.Needs.{needs}
-use Rattle.sent.proofs.configuration.Statement.{statement}
-use Rattle.sent.proofs.configuration.Tie as tie
+use Rattle.sent.proofs.read_configuration.Statement.{statement}
+use Rattle.sent.proofs.read_configuration.Tie as tie
 
 is-configuration-requires : tie.Need-is-configuration-requires
 is-configuration-requires c κs = search needs
@@ -19,8 +19,8 @@ configuration-of-requires c κs = search needs
 returns : tie.Need-returns
 returns c = rw (c .configuration-of .ensures, c .before .kept .ensures, c .before .before .unless .ensures, c .before .before .before .is-configuration .ensures) refl
 
-pub configuration-spec : {M : Type 1} → statement M
-configuration-spec =
+pub read-configuration-spec : {M : Type 1} → statement M
+read-configuration-spec =
     tie.close
     (tie.spec
     is-configuration-requires
