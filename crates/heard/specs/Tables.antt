@@ -1,0 +1,119 @@
+-- The data sheet's tables of the packets that the decoder sends: a line a byte, byte 3 first (docs/datasheet.md).
+use Prim.Native.Nat.{ℕ}
+use mathlib.Core.List.{[], _∷_}
+use Rattle.laws.specs.Layouts.{Layout, printed, zeros, field, unused}
+use Rattle.packet.specs.Names.{addressID, statusID}
+
+-- S8.4.9, Table 12: FIV, f; SM, LB, c; SMU, LBU, MT, EOF, BOE
+abbrev pub status : Layout
+status =
+    printed 8 statusID
+    ∷ field 1 ∷ field 7
+    ∷ field 1 ∷ field 1 ∷ unused 2 ∷ field 4
+    ∷ field 1 ∷ field 1 ∷ unused 1 ∷ field 1 ∷ unused 1 ∷ field 1 ∷ unused 1 ∷ field 1
+    ∷ []
+
+-- S8.7.2, Table 30: PA, p, LA; AI; TOA, WN
+abbrev pub address : Layout
+address =
+    printed 8 addressID
+    ∷ field 1 ∷ field 2 ∷ field 1 ∷ unused 4
+    ∷ field 8
+    ∷ field 1 ∷ field 7
+    ∷ []
+
+-- S8.7.8, Table 40: WN; e, p, i
+abbrev pub message : Layout
+message =
+    zeros 1 ∷ field 7
+    ∷ field 1 ∷ field 2 ∷ field 21
+    ∷ []
+
+-- S8.7.4, Table 31, a numeric vector: WN; e, p, V; K, n, b
+abbrev pub numericVector : Layout
+numericVector =
+    zeros 1 ∷ field 7
+    ∷ field 1 ∷ field 2 ∷ unused 2 ∷ field 3
+    ∷ unused 2 ∷ field 4 ∷ field 3 ∷ field 7
+    ∷ []
+
+-- S8.7.6, Table 36, a hex/binary, alphanumeric or secure vector: WN; e, p, V; n, b
+abbrev pub textVector : Layout
+textVector =
+    zeros 1 ∷ field 7
+    ∷ field 1 ∷ field 2 ∷ unused 2 ∷ field 3
+    ∷ unused 2 ∷ field 7 ∷ field 7
+    ∷ []
+
+-- S8.7.5, Table 33, a short message/tone-only vector: WN; e, p, V; d (twelve bits), t
+abbrev pub shortVector : Layout
+shortVector =
+    zeros 1 ∷ field 7
+    ∷ field 1 ∷ field 2 ∷ unused 2 ∷ field 3
+    ∷ unused 2 ∷ field 12 ∷ field 2
+    ∷ []
+
+-- .. Table 34, t 00, the first three numeric characters: WN; e, p; c, b, a
+abbrev pub charactersVector : Layout
+charactersVector =
+    zeros 1 ∷ field 7
+    ∷ field 1 ∷ field 2 ∷ unused 2 ∷ printed 3 2
+    ∷ unused 2 ∷ field 4 ∷ field 4 ∷ field 4 ∷ printed 2 0
+    ∷ []
+
+-- .. t 01, a source: WN; e, p; S (s unused)
+abbrev pub sourceVector : Layout
+sourceVector =
+    zeros 1 ∷ field 7
+    ∷ field 1 ∷ field 2 ∷ unused 2 ∷ printed 3 2
+    ∷ unused 2 ∷ unused 9 ∷ field 3 ∷ printed 2 1
+    ∷ []
+
+-- .. t 10, a source and a message number: WN; e, p; R, N, S (s unused)
+abbrev pub numberedVector : Layout
+numberedVector =
+    zeros 1 ∷ field 7
+    ∷ field 1 ∷ field 2 ∷ unused 2 ∷ printed 3 2
+    ∷ unused 2 ∷ unused 2 ∷ field 1 ∷ field 6 ∷ field 3 ∷ printed 2 2
+    ∷ []
+
+-- S8.7.7, Table 37, a short instruction vector: WN; e, p, V; d (eleven bits), i
+abbrev pub instructionVector : Layout
+instructionVector =
+    zeros 1 ∷ field 7
+    ∷ field 1 ∷ field 2 ∷ unused 2 ∷ field 3
+    ∷ unused 2 ∷ field 11 ∷ field 3
+    ∷ []
+
+-- .. Table 38, i 000, a temporary address: WN; e, p; a, f
+abbrev pub temporaryVector : Layout
+temporaryVector =
+    zeros 1 ∷ field 7
+    ∷ field 1 ∷ field 2 ∷ unused 2 ∷ printed 3 1
+    ∷ unused 2 ∷ field 4 ∷ field 7 ∷ printed 3 0
+    ∷ []
+
+-- Tables 32, 33, 35 and S8.7.7: the vector types V
+abbrev pub secureType : ℕ
+secureType = 0
+
+abbrev pub instructionType : ℕ
+instructionType = 1
+
+abbrev pub shortType : ℕ
+shortType = 2
+
+abbrev pub standardType : ℕ
+standardType = 3
+
+abbrev pub specialType : ℕ
+specialType = 4
+
+abbrev pub alphanumericType : ℕ
+alphanumericType = 5
+
+abbrev pub hexType : ℕ
+hexType = 6
+
+abbrev pub numberedType : ℕ
+numberedType = 7
