@@ -2,3 +2,4 @@ pub mod Bits
 pub mod Counting
 pub mod Tests
 pub mod Writing
+pub mod Xor
