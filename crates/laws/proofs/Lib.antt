@@ -1,4 +1,5 @@
 pub mod Bits
 pub mod Counting
+pub mod Layouts
 pub mod Tests
 pub mod Writing
