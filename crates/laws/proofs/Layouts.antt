@@ -61,6 +61,7 @@ abbrev Fits : Layout → List ℕ → Type 0
 Fits [] values = values ≡ []
 Fits (part ∷ row) values = (numberIn part values < 2 ^ width part) × Fits row (behind part values)
 
+-- what the tests of the row and of the values say
 fits : (so : Bool) (row : Layout) (values : List ℕ) → T (printedFit row) → fitAfter so row values ≡ true → (so ≡ true) × Fits row values
 fits so [] [] t e = (e, refl)
 fits so [] (v ∷ values) t e = absurd (false≢true e)
@@ -83,16 +84,15 @@ fits so (unused w ∷ row) values t e =
 number-lt : (w s v rest : ℕ) → v < 2 ^ w → rest < 2 ^ s → v * 2 ^ s + rest < 2 ^ (w + s)
 number-lt w s v rest h k = rw (pow-add 2 w s) (digits-lt h k)
 
--- .. and so do the bits alone
-no-part : (s rest : ℕ) → 0 * 2 ^ s + rest ≡ rest
-no-part s rest = rw (zero-mul, zero-add)
+-- a part that is 0 adds nothing
+nothing-added : (s rest : ℕ) → 0 * 2 ^ s + rest ≡ rest
+nothing-added s rest = rw (zero-mul, zero-add)
 
-printed-behind : (w : ℕ) (row : Layout) → printedBits row < 2 ^ size row → printedBits row < 2 ^ (w + size row)
-printed-behind w row h = rw (no-part (size row) (printedBits row)) at (number-lt w (size row) 0 (printedBits row) (pow-pos w) h)
-
+-- a row's sum has no more bits than the row
 sum-lt : (row : Layout) (values : List ℕ) → Fits row values → sumOf row values < 2 ^ size row
 sum-lt [] values f = omega arith
-sum-lt (part ∷ row) values f = number-lt (width part) (size row) (numberIn part values) (sumOf row (behind part values)) (f .0) (sum-lt row (behind part values) (f .1))
+sum-lt (part ∷ row) values f =
+    number-lt (width part) (size row) (numberIn part values) (sumOf row (behind part values)) (f .0) (sum-lt row (behind part values) (f .1))
 
 -- a number is moved to its place whole
 moved-whole : (w place v : ℕ) → v < 2 ^ w → w + place ≤ 32 → moved place v ≡ v * 2 ^ place
@@ -113,36 +113,34 @@ joined w s v q h l =
     ∙ or-shifted q (w + s) (v * 2 ^ s) (shl-lt w s h)
     ∙ above-rest w s v q
 
--- .. and where the part stays 0 there is nothing to do
-nothing-joined : (w s q : ℕ) → q * 2 ^ (w + s) ≡ (q * 2 ^ w + 0) * 2 ^ s
-nothing-joined w s q = rw (add-zero, pow-add 2 w s, mul-assoc q (2 ^ w) (2 ^ s))
+-- .. and a part that is 0 needs no "or"
+not-joined : (w s q : ℕ) → q * 2 ^ (w + s) ≡ (q * 2 ^ w + 0) * 2 ^ s
+not-joined w s q = rw (add-zero, pow-add 2 w s, mul-assoc q (2 ^ w) (2 ^ s))
 
+-- what is known of the rest is known of the part and the rest
+one-more : (w v q so : ℕ) (row : Layout) (values : List ℕ) → so ≡ (q * 2 ^ w + v) * 2 ^ size row → packedAfter ((q * 2 ^ w + v) * 2 ^ size row) row values ≡ (q * 2 ^ w + v) * 2 ^ size row + sumOf row values → packedAfter so row values ≡ q * 2 ^ (w + size row) + (v * 2 ^ size row + sumOf row values)
+one-more w v q so row values e rest =
+    ap (λ (x : ℕ). packedAfter x row values) e ∙ rest ∙ sym (regroup w (size row) v (sumOf row values) q)
+
+-- each part's number is added to the parts so far
 packed-after : (row : Layout) (values : List ℕ) (q : ℕ) → Fits row values → size row ≤ 32 → packedAfter (q * 2 ^ size row) row values ≡ q * 2 ^ size row + sumOf row values
 packed-after [] values q f l = sym (add-zero (q * 2 ^ 0))
 packed-after (printed w p ∷ row) values q f l =
-    ap (λ (x : ℕ). packedAfter x row values) (joined w (size row) p q (f .0) l)
-    ∙ packed-after row values (q * 2 ^ w + p) (f .1) (omega arith)
-    ∙ sym (regroup w (size row) p (sumOf row values) q)
+    one-more w p q _ row values (joined w (size row) p q (f .0) l) (packed-after row values (q * 2 ^ w + p) (f .1) (omega arith))
 packed-after (zeros w ∷ row) values q f l =
-    ap (λ (x : ℕ). packedAfter x row values) (nothing-joined w (size row) q)
-    ∙ packed-after row values (q * 2 ^ w + 0) (f .1) (omega arith)
-    ∙ sym (regroup w (size row) 0 (sumOf row values) q)
+    one-more w 0 q _ row values (not-joined w (size row) q) (packed-after row values (q * 2 ^ w + 0) (f .1) (omega arith))
 packed-after (field w ∷ row) [] q f l = absurd (omega arith)
 packed-after (field w ∷ row) (v ∷ values) q f l =
-    ap (λ (x : ℕ). packedAfter x row values) (joined w (size row) v q (f .0) l)
-    ∙ packed-after row values (q * 2 ^ w + v) (f .1) (omega arith)
-    ∙ sym (regroup w (size row) v (sumOf row values) q)
+    one-more w v q _ row values (joined w (size row) v q (f .0) l) (packed-after row values (q * 2 ^ w + v) (f .1) (omega arith))
 packed-after (unused w ∷ row) values q f l =
-    ap (λ (x : ℕ). packedAfter x row values) (nothing-joined w (size row) q)
-    ∙ packed-after row values (q * 2 ^ w + 0) (f .1) (omega arith)
-    ∙ sym (regroup w (size row) 0 (sumOf row values) q)
+    one-more w 0 q _ row values (not-joined w (size row) q) (packed-after row values (q * 2 ^ w + 0) (f .1) (omega arith))
 
 -- a packet is the sum of its numbers
 packed-sum : (row : Layout) (values : List ℕ) → Fits row values → size row ≤ 32 → packed row values ≡ sumOf row values
 packed-sum row values f l =
     ap (λ (x : ℕ). packedAfter x row values) (sym (zero-mul (2 ^ size row)))
     ∙ packed-after row values 0 f l
-    ∙ rw (zero-mul, zero-add)
+    ∙ nothing-added (size row) (sumOf row values)
 
 -- the lowest bits left out, at every place
 above-is : (place n : ℕ) → above place n ≡ n / 2 ^ place
@@ -185,7 +183,7 @@ fit-read (zeros w ∷ row) n = fit-read row n
 fit-read (field w ∷ row) n = rw (lt-ltb (bitsAt (size row) w n) (2 ^ w) (bits-lt (size row) w n)) (fit-read row n)
 fit-read (unused w ∷ row) n = fit-read row n
 
--- a part's mask, its bits all set or none
+-- a part's bits in a mask, all set or none
 mask-times : (c : Bool) (s w : ℕ) → pick c (onesAt s w) 0 ≡ pick c (2 ^ w - 1) 0 * 2 ^ s
 mask-times true s w = refl
 mask-times false s w = sym (zero-mul (2 ^ s))
@@ -194,6 +192,7 @@ mask-number-lt : (c : Bool) (w : ℕ) → pick c (2 ^ w - 1) 0 < 2 ^ w
 mask-number-lt true w = ones-lt w
 mask-number-lt false w = pow-pos w
 
+-- a mask has no more bits than the row
 mask-lt : (chosen : Part → Bool) (row : Layout) → maskOf chosen row < 2 ^ size row
 mask-lt chosen [] = omega arith
 mask-lt chosen (part ∷ row) =
@@ -228,6 +227,7 @@ masked chosen (part ∷ row) n =
     ∙ and-block s (n / 2 ^ s) ones (n % 2 ^ s) (maskOf chosen row) (mod-lt n (pow-pos s)) (mask-lt chosen row)
     ∙ ap₂ (λ (x y : ℕ). x * 2 ^ s + y) (and-part (chosen part) s w n) (and-low n (maskOf chosen row) s (mask-lt chosen row) ∙ masked chosen row n)
 
+-- .. and so has what it takes
 taken-lt : (chosen : Part → Bool) (row : Layout) (n : ℕ) → takenOf chosen row n < 2 ^ size row
 taken-lt chosen row n = rw (← masked chosen row n) (lt-of-le-of-lt (and-le-r n (maskOf chosen row)) (mask-lt chosen row))
 
@@ -240,6 +240,11 @@ same-parts s a b r t h k = by-test (eqb a b) refl (eqb r t) refl
     by-test true e false f = ne-eqb _ _ (λ q. eqb-false r t f (sym (digits-mod a h) ∙ ap (λ (x : ℕ). x % 2 ^ s) q ∙ digits-mod b k))
     by-test false e y f = ne-eqb _ _ (λ q. eqb-false a b e (sym (digits-div a h) ∙ ap (λ (x : ℕ). x / 2 ^ s) q ∙ digits-div b k))
 
+-- what the table prints has no more bits than the row
+printed-behind : (w : ℕ) (row : Layout) → printedBits row < 2 ^ size row → printedBits row < 2 ^ (w + size row)
+printed-behind w row h =
+    rw (nothing-added (size row) (printedBits row)) at (number-lt w (size row) 0 (printedBits row) (pow-pos w) h)
+
 printed-lt : (row : Layout) → T (printedFit row) → printedBits row < 2 ^ size row
 printed-lt [] t = omega arith
 printed-lt (printed w v ∷ row) t =
@@ -249,6 +254,7 @@ printed-lt (zeros w ∷ row) t = printed-behind w row (printed-lt row t)
 printed-lt (field w ∷ row) t = printed-behind w row (printed-lt row t)
 printed-lt (unused w ∷ row) t = printed-behind w row (printed-lt row t)
 
+-- what the mask takes is what the table prints exactly if each part is
 shown-each : (row : Layout) (n : ℕ) → T (printedFit row) → eqb (takenOf isPrinted row n) (printedBits row) ≡ shownEach row n
 shown-each [] n t = refl
 shown-each (printed w v ∷ row) n t =
@@ -256,11 +262,11 @@ shown-each (printed w v ∷ row) n t =
     same-parts (size row) (bitsAt (size row) w n) v (takenOf isPrinted row n) (printedBits row) (taken-lt isPrinted row n) (printed-lt row rest)
     ∙ ap (λ (b : Bool). eqb (bitsAt (size row) w n) v && b) (shown-each row n rest)
 shown-each (zeros w ∷ row) n t =
-    ap (eqb (takenOf isPrinted (zeros w ∷ row) n)) (sym (no-part (size row) (printedBits row)))
+    ap (eqb (takenOf isPrinted (zeros w ∷ row) n)) (sym (nothing-added (size row) (printedBits row)))
     ∙ same-parts (size row) (bitsAt (size row) w n) 0 (takenOf isPrinted row n) (printedBits row) (taken-lt isPrinted row n) (printed-lt row t)
     ∙ ap (λ (b : Bool). eqb (bitsAt (size row) w n) 0 && b) (shown-each row n t)
-shown-each (field w ∷ row) n t = rw (no-part (size row)) (shown-each row n t)
-shown-each (unused w ∷ row) n t = rw (no-part (size row)) (shown-each row n t)
+shown-each (field w ∷ row) n t = rw (nothing-added (size row)) (shown-each row n t)
+shown-each (unused w ∷ row) n t = rw (nothing-added (size row)) (shown-each row n t)
 
 -- a packet has the bits that the table prints exactly if it has those of each printed part; bits above the row are not looked at
 pub shows-each : (row : Layout) (n : ℕ) → T (laid row) → shows row n ≡ shownEach row n
@@ -291,7 +297,7 @@ each-fits row values t e = fits true row values (and-yes (leb (size row) 32) (pr
 found-packed : (row : Layout) (values : List ℕ) → T (laid row) → fit row values ≡ true → (fieldsOf row (packed row values) ≡ values) × (shownEach row (packed row values) ≡ true)
 found-packed row values t e =
     let f = each-fits row values t e in
-    found row values (packed row values) 0 f (packed-sum row values f (at-most-32 row t) ∙ sym (no-part (size row) (sumOf row values)))
+    found row values (packed row values) 0 f (packed-sum row values f (at-most-32 row t) ∙ sym (nothing-added (size row) (sumOf row values)))
 
 -- reading what was built gives the numbers it was built from
 pub read-packed : (row : Layout) (values : List ℕ) → T (laid row) → fit row values ≡ true → fieldsOf row (packed row values) ≡ values
