@@ -1,6 +1,6 @@
 -- Laws of every row of parts: what was built is read back, and what was read is built again.
 use Prim.Native.Nat.{ℕ, zero, suc, _+_, _-_, _*_, _/_, _%_, _^_, _≤_, _<_}
-use mathlib.Core.Bool.{Bool, true, false, _&&_, false≢true}
+use mathlib.Core.Bool.{Bool, true, false, _&&_, and-eq-true-iff, false≢true}
 use mathlib.Core.List.{List, [], _∷_}
 use mathlib.Core.Path.{_≡_, refl, sym, ap, ap₂, _∙_}
 use native.Mathlib.Nat.{add-assoc, add-mul, add-zero, div-one, lt-of-le-of-lt, mod-eq-of-lt, mod-lt, mul-assoc, mul-one, zero-add, zero-mul}
@@ -13,7 +13,6 @@ use lib.Pow.{pow-add, pow-pos, shl-exact, shl-lt, split, ones-lt}
 use mir.Facts.{and-yes}
 use Rattle.laws.specs.Choice.{pick}
 use Rattle.laws.specs.Layouts.{Part, printed, zeros, field, unused, Layout, width, size, above, bitsAt, moved, fieldsOf, onesAt, maskOf, isPrinted, isRead, printedBits, shows, fitAfter, fit, packedAfter, packed}
-use Rattle.laws.proofs.Tests.{first-of, second-of}
 
 -- whether each number that a row prints fits its bits
 abbrev pub printedFit : Layout → Bool
@@ -75,7 +74,8 @@ fits so (zeros w ∷ row) values t e =
 fits so (field w ∷ row) [] t e = absurd (false≢true e)
 fits so (field w ∷ row) (v ∷ values) t e =
     let rest = fits (so && ltb v (2 ^ w)) row values t e in
-    (first-of so (ltb v (2 ^ w)) (rest .0), (ltb-true v (2 ^ w) (second-of so (ltb v (2 ^ w)) (rest .0)), rest .1))
+    let both = and-eq-true-iff so (ltb v (2 ^ w)) .0 (rest .0) in
+    (both .0, (ltb-true v (2 ^ w) (both .1), rest .1))
 fits so (unused w ∷ row) values t e =
     let rest = fits so row values t e in
     (rest .0, (pow-pos w, rest .1))
@@ -272,17 +272,34 @@ shown-each (unused w ∷ row) n t = rw (nothing-added (size row)) (shown-each ro
 pub shows-each : (row : Layout) (n : ℕ) → T (laid row) → shows row n ≡ shownEach row n
 shows-each row n t = rw (masked isPrinted row n) (shown-each row n (and-yes (leb (size row) 32) (printedFit row) t .1))
 
+-- what the table prints, as a fact for each printed part
+abbrev pub Shown : Layout → ℕ → Type 0
+Shown [] n = Unit
+Shown (printed w v ∷ row) n = (bitsAt (size row) w n ≡ v) × Shown row n
+Shown (zeros w ∷ row) n = (bitsAt (size row) w n ≡ 0) × Shown row n
+Shown (field w ∷ row) n = Shown row n
+Shown (unused w ∷ row) n = Shown row n
+
+each-shown : (row : Layout) (n : ℕ) → shownEach row n ≡ true → Shown row n
+each-shown [] n e = tt
+each-shown (printed w v ∷ row) n e =
+    let both = and-eq-true-iff (eqb (bitsAt (size row) w n) v) (shownEach row n) .0 e in
+    (eqb-true (bitsAt (size row) w n) v (both .0), each-shown row n (both .1))
+each-shown (zeros w ∷ row) n e =
+    let both = and-eq-true-iff (eqb (bitsAt (size row) w n) 0) (shownEach row n) .0 e in
+    (eqb-true (bitsAt (size row) w n) 0 (both .0), each-shown row n (both .1))
+each-shown (field w ∷ row) n e = each-shown row n e
+each-shown (unused w ∷ row) n e = each-shown row n e
+
+-- a packet that has the bits that the table prints has each printed number at its place, the ID first
+pub shown-bits : (row : Layout) (n : ℕ) → T (laid row) → shows row n ≡ true → Shown row n
+shown-bits row n t e = each-shown row n (sym (shows-each row n t) ∙ e)
+
 -- the numbers that were read make the sum of the parts that are looked at
-read-sum : (row : Layout) (n : ℕ) → shownEach row n ≡ true → sumOf row (fieldsOf row n) ≡ takenOf isRead row n
+read-sum : (row : Layout) (n : ℕ) → Shown row n → sumOf row (fieldsOf row n) ≡ takenOf isRead row n
 read-sum [] n e = refl
-read-sum (printed w v ∷ row) n e =
-    let here = eqb-true (bitsAt (size row) w n) v (first-of (eqb (bitsAt (size row) w n) v) (shownEach row n) e) in
-    let rest = read-sum row n (second-of (eqb (bitsAt (size row) w n) v) (shownEach row n) e) in
-    ap₂ (λ (x y : ℕ). x * 2 ^ size row + y) (sym here) rest
-read-sum (zeros w ∷ row) n e =
-    let here = eqb-true (bitsAt (size row) w n) 0 (first-of (eqb (bitsAt (size row) w n) 0) (shownEach row n) e) in
-    let rest = read-sum row n (second-of (eqb (bitsAt (size row) w n) 0) (shownEach row n) e) in
-    ap₂ (λ (x y : ℕ). x * 2 ^ size row + y) (sym here) rest
+read-sum (printed w v ∷ row) n e = ap₂ (λ (x y : ℕ). x * 2 ^ size row + y) (sym (e .0)) (read-sum row n (e .1))
+read-sum (zeros w ∷ row) n e = ap₂ (λ (x y : ℕ). x * 2 ^ size row + y) (sym (e .0)) (read-sum row n (e .1))
 read-sum (field w ∷ row) n e = ap (λ (y : ℕ). bitsAt (size row) w n * 2 ^ size row + y) (read-sum row n e)
 read-sum (unused w ∷ row) n e = ap (λ (y : ℕ). 0 * 2 ^ size row + y) (read-sum row n e)
 
@@ -317,7 +334,7 @@ packed-lt row values t e =
 pub packed-read : (row : Layout) (n : ℕ) → T (laid row) → shows row n ≡ true → packed row (fieldsOf row n) ≡ bitAnd n (maskOf isRead row)
 packed-read row n t e =
     packed-sum row (fieldsOf row n) (each-fits row (fieldsOf row n) t (fit-read row n)) (at-most-32 row t)
-    ∙ read-sum row n (sym (shows-each row n t) ∙ e)
+    ∙ read-sum row n (shown-bits row n t e)
     ∙ sym (masked isRead row n)
 
 -- .. and the very bits where every one is looked at
