@@ -14,11 +14,11 @@ checksum-example = refl
 pub configuration-example : configurationRead 0x01000010 ≡ record { number = 0; fields = record { oscillator = 0; polarity = 0; «synchronous_mode» = 0; «maximum_off_time» = 0; «clock_output_disable» = 0; «minute_timer» = 1; «low_battery_polarity» = 0 } }
 configuration-example = refl
 
--- .. each of its fields with another number
+-- .. and OFD, SP, SME and LBP
 pub configuration-fields-example : configurationRead 0x01020188 ≡ record { number = 0; fields = record { oscillator = 2; polarity = 1; «synchronous_mode» = 1; «maximum_off_time» = 0; «clock_output_disable» = 0; «minute_timer» = 0; «low_battery_polarity» = 1 } }
 configuration-fields-example = refl
 
--- Table 11: on, in phase 2 alone
+-- Table 11: SPM, PS 2 and ON
 pub control-example : controlRead 0x02006001 ≡ record { number = 0; fields = record { «forced_frames» = 0; «single_phase» = 1; phase = 2; «block_information» = 0; «minute_timer_clear» = 0; on = 1 } }
 control-example = refl
 
@@ -39,7 +39,7 @@ other-kind-example = refl
 pub all-frame-mode-example : allFrameModeRead 0x03400000 ≡ record { number = 0; fields = record { decrement = 0; force = 1; «decrement_temporary» = 0 } }
 all-frame-mode-example = refl
 
--- Table 19: lines S7 and S0 forced, S0 high
+-- Table 19: FRS for lines S7 and S0, CLS for S0
 pub receiver-lines-example : receiverLinesRead 0x0F008101 ≡ record { number = 0; fields = record { forced = 0x81; settings = 0x01 } }
 receiver-lines-example = refl
 
@@ -50,12 +50,12 @@ shut-down-example = refl
 pub shut-down-2-example : shutDownRead 0x1B000000 ≡ record { number = 0; fields = record { setting = 1; enable = 0; «low_battery_check» = 0; lines = 0; time = 0 } }
 shut-down-2-example = refl
 
--- Table 29: the first frames, and the last
-pub frame-assignment-example : frameAssignmentRead 0x20000001 ≡ record { number = 0; fields = record { range = 0; frames = 1 } }
-frame-assignment-example = refl
+-- Table 29: frame 112 alone, and frame 15 alone (Table 28)
+pub frame-112-example : frameAssignmentRead 0x20000001 ≡ record { number = 0; fields = record { range = 0; frames = 1 } }
+frame-112-example = refl
 
-pub last-frames-example : frameAssignmentRead 0x27008000 ≡ record { number = 0; fields = record { range = 7; frames = 0x8000 } }
-last-frames-example = refl
+pub frame-15-example : frameAssignmentRead 0x27008000 ≡ record { number = 0; fields = record { range = 7; frames = 0x8000 } }
+frame-15-example = refl
 
 -- Table 27: UAE
 pub address-enable-example : addressEnableRead 0x78008001 ≡ record { number = 0; fields = record { enabled = 0x8001 } }
