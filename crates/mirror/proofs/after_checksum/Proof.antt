@@ -21,7 +21,7 @@ cast-t6 : tie.Need-cast-t6
 cast-t6 c = search needs
 
 returns-2 : tie.Need-returns-2
-returns-2 c = rw (eq-eqb (c .before .before .args .mirror .talking) 0 (omega (arith, c .if1 .left)), as-bit)
+returns-2 c = rw (eq-eqb (c .before .before .args .mirror .talking) 0 (omega (arith, c .if1 .left)), as-bit) refl
 
 pub after-checksum-spec : {M : Type 1} → statement M
 after-checksum-spec = tie.close (tie.spec returns cast-t6 returns-2)
