@@ -45,6 +45,7 @@ asStatus v =
       overflow = getD v 9 0;
     }
 
+-- .. 7 for another ID
 abbrev pub statusRead : ℕ → StatusRead
 statusRead n = record { number = numberBy status n; fields = asStatus (fieldsBy status n) }
 
@@ -72,6 +73,7 @@ asAddress v =
 abbrev pub addressRight : ℕ → Bool
 addressRight n = shows address n && (eqb (getD (fieldsOf address n) 4 0) 1 || leb (getD (fieldsOf address n) 5 0) 87)
 
+-- the index is one of an address
 abbrev pub addressNumbered : ℕ → Bool
 addressNumbered n = isIndex (getD (fieldsOf address n) 3 0)
 
@@ -79,6 +81,7 @@ addressNumbered n = isIndex (getD (fieldsOf address n) 3 0)
 abbrev pub addressRefusal : Bool → Bool → ℕ
 addressRefusal right numbered = pick right (numberUnless refusals.Address numbered) (numberOf refusals.Packet)
 
+-- the answer: the fields are told where neither is refused
 abbrev pub addressRead : ℕ → AddressRead
 addressRead n =
     record {
@@ -94,6 +97,7 @@ asMessage v = record { word = getD v 0 0; damaged = getD v 1 0; phase = getD v 2
 abbrev pub isMessage : ℕ → Bool
 isMessage n = among firstMessageID lastWordID (idOf n)
 
+-- .. 7 for another ID
 abbrev pub messageRead : ℕ → MessageRead
 messageRead n = record { number = numberUnless refusals.Packet (isMessage n); fields = asMessage (fieldsOf message (kept (isMessage n) n)) }
 
@@ -101,9 +105,11 @@ messageRead n = record { number = numberUnless refusals.Packet (isMessage n); fi
 abbrev pub vectorType : ℕ → ℕ
 vectorType n = getD (fieldsOf numericVector n) 3 0
 
+-- Table 32
 abbrev pub isNumeric : ℕ → Bool
 isNumeric v = some (eqb v standardType ∷ eqb v specialType ∷ eqb v numberedType ∷ [])
 
+-- Table 35
 abbrev pub isText : ℕ → Bool
 isText v = some (eqb v secureType ∷ eqb v alphanumericType ∷ eqb v hexType ∷ [])
 
@@ -131,16 +137,19 @@ abbrev pub shortMessage : ℕ → ℕ → ℕ → ℕ → ℕ → ℕ → ℕ �
 shortMessage t a b c s r m d =
     record { kind = t; first = a; second = b; third = c; source = s; retrieval = r; message = m; unread = d }
 
--- Table 34
+-- Table 34, t 00
 abbrev pub asCharacters : List ℕ → ShortMessage
 asCharacters v = shortMessage 0 (getD v 5 0) (getD v 4 0) (getD v 3 0) 0 0 0 0
 
+-- .. t 01
 abbrev pub asSource : List ℕ → ShortMessage
 asSource v = shortMessage 1 0 0 0 (getD v 3 0) 0 0 0
 
+-- .. t 10
 abbrev pub asNumbered : List ℕ → ShortMessage
 asNumbered v = shortMessage 2 0 0 0 (getD v 5 0) (getD v 3 0) (getD v 4 0) 0
 
+-- .. t 11, the spare type: the d bits are handed over unread
 abbrev pub asSpare : List ℕ → ShortMessage
 asSpare v = shortMessage 3 0 0 0 0 0 0 (getD v 4 0)
 
@@ -160,13 +169,15 @@ shortMessageOf n = pick (eqb (vectorType n) shortType) (shortOf n) (shortMessage
 abbrev pub instructionKind : ℕ → ℕ
 instructionKind n = getD (fieldsOf instructionVector n) 5 0
 
--- Table 38: the address number of the temporary address, and its frame; the d bits of a reserved type are handed over unread
+-- Table 38, i 000: the address number of the temporary address, and its frame
 abbrev pub asTemporary : List ℕ → Instruction
 asTemporary v = record { kind = 0; address = getD v 3 0 + 16; frame = getD v 4 0; unread = 0 }
 
+-- .. a reserved type: the d bits are handed over unread
 abbrev pub asReserved : List ℕ → Instruction
 asReserved v = record { kind = getD v 5 0; address = 0; frame = 0; unread = getD v 4 0 }
 
+-- the rest of a short instruction vector, and 0 in any other
 abbrev pub instructionOf : ℕ → Instruction
 instructionOf n =
     pick (eqb (vectorType n) instructionType)
@@ -190,5 +201,6 @@ vectorOf n =
 abbrev pub isVector : ℕ → Bool
 isVector n = among firstVectorID lastWordID (idOf n)
 
+-- .. 7 for another ID. A vector marked in error is read like any other
 abbrev pub vectorRead : ℕ → VectorRead
 vectorRead n = record { number = numberUnless refusals.Packet (isVector n); fields = vectorOf (kept (isVector n) n) }

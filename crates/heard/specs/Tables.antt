@@ -93,27 +93,34 @@ temporaryVector =
     ∷ unused 2 ∷ field 4 ∷ field 7 ∷ printed 3 0
     ∷ []
 
--- Tables 32, 33, 35 and S8.7.7: the vector types V
+-- the vector types V. Table 35: secure
 abbrev pub secureType : ℕ
 secureType = 0
 
+-- S8.7.7: short instruction
 abbrev pub instructionType : ℕ
 instructionType = 1
 
+-- S8.7.5: short message/tone-only
 abbrev pub shortType : ℕ
 shortType = 2
 
+-- Table 32: standard numeric
 abbrev pub standardType : ℕ
 standardType = 3
 
+-- .. special format numeric
 abbrev pub specialType : ℕ
 specialType = 4
 
+-- Table 35: alphanumeric
 abbrev pub alphanumericType : ℕ
 alphanumericType = 5
 
+-- .. hex/binary
 abbrev pub hexType : ℕ
 hexType = 6
 
+-- Table 32: numbered numeric
 abbrev pub numberedType : ℕ
 numberedType = 7

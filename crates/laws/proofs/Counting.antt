@@ -1,6 +1,6 @@
 -- Tests and bounds: a rule over all numbers below a bound, by one test that is computed; a row cut at a bound.
 use Prim.Native.Nat.{ℕ, zero, suc, _<_, min}
-use mathlib.Core.Bool.{Bool, true, false, _&&_}
+use mathlib.Core.Bool.{Bool, true, _&&_}
 use mathlib.Core.Logic.{⊎-elim}
 use mathlib.Core.List.{List, [], _∷_}
 use mathlib.Core.Path.{_≡_}
@@ -8,15 +8,7 @@ use native.Mathlib.Nat.{eq-or-lt-of-le, le-of-suc-le-suc, zero-min, min-zero, su
 use native.Mathlib.Omega.{arith}
 use lib.Dec.{T}
 use lib.ListN.{length, take}
-
--- where two tests hold together, each holds
-both-left : (a b : Bool) → T (a && b) → T a
-both-left true b t = tt
-both-left false b t = t
-
-both-right : (a b : Bool) → T (a && b) → T b
-both-right true b t = t
-both-right false b t = absurd t
+use mir.Facts.{and-yes}
 
 -- the test holds of each number below the bound
 abbrev pub allBelow : (ℕ → Bool) → ℕ → Bool
@@ -28,8 +20,8 @@ pub of-all-below : (test : ℕ → Bool) (n : ℕ) → T (allBelow test n) → (
 of-all-below test zero t k h = absurd (omega arith)
 of-all-below test (suc n) t k h =
     ⊎-elim
-    (λ e. rw e (both-left (test n) (allBelow test n) t))
-    (λ l. of-all-below test n (both-right (test n) (allBelow test n) t) k l)
+    (λ e. rw e (and-yes (test n) (allBelow test n) t .0))
+    (λ l. of-all-below test n (and-yes (test n) (allBelow test n) t .1) k l)
     (eq-or-lt-of-le (le-of-suc-le-suc h))
 
 -- a row cut at its own length, where the number asked for is larger, is the row cut at that number

@@ -13,19 +13,21 @@ abbrev pub bitOf : Bool → ℕ
 bitOf true = 1
 bitOf false = 0
 
--- whether one of the tests holds; those asked so far are carried along
+-- whether one of the tests holds, where those asked so far are carried along
 abbrev pub someAfter : Bool → List Bool → Bool
 someAfter so [] = so
 someAfter so (test ∷ tests) = someAfter (so || test) tests
 
+-- whether one of the tests holds
 abbrev pub some : List Bool → Bool
 some tests = someAfter false tests
 
--- whether each of the tests holds
+-- whether each of the tests holds, where those asked so far are carried along
 abbrev pub everyAfter : Bool → List Bool → Bool
 everyAfter so [] = so
 everyAfter so (test ∷ tests) = everyAfter (so && test) tests
 
+-- whether each of the tests holds
 abbrev pub every : List Bool → Bool
 every tests = everyAfter true tests
 

@@ -13,6 +13,7 @@ pub data Part : Type 0 where
   field : ℕ → Part
   unused : ℕ → Part
 
+-- a row of parts
 abbrev pub Layout : Type 0
 Layout = List Part
 
@@ -85,7 +86,7 @@ printedBits (unused w ∷ row) = printedBits row
 abbrev pub shows : Layout → ℕ → Bool
 shows row n = eqb (bitAnd n (maskOf isPrinted row)) (printedBits row)
 
--- whether there is a number for each field and none is too large; what was asked so far is carried along
+-- whether there is a number for each field and none is too large, where what was asked so far is carried along
 abbrev pub fitAfter : Bool → Layout → List ℕ → Bool
 fitAfter so [] [] = so
 fitAfter so [] (v ∷ values) = false
@@ -95,10 +96,11 @@ fitAfter so (field w ∷ row) [] = false
 fitAfter so (field w ∷ row) (v ∷ values) = fitAfter (so && ltb v (2 ^ w)) row values
 fitAfter so (unused w ∷ row) values = fitAfter so row values
 
+-- whether there is a number for each field and none is too large
 abbrev pub fit : Layout → List ℕ → Bool
 fit row values = fitAfter true row values
 
--- the packet with these numbers in its fields, and 0 for bits that are not looked at; the parts so far are carried along
+-- the packet with these numbers in its fields, where the parts so far are carried along
 abbrev pub packedAfter : ℕ → Layout → List ℕ → ℕ
 packedAfter so [] values = so
 packedAfter so (printed w p ∷ row) values = packedAfter (bitOr so (moved (size row) p)) row values
@@ -107,5 +109,6 @@ packedAfter so (field w ∷ row) [] = packedAfter so row []
 packedAfter so (field w ∷ row) (v ∷ values) = packedAfter (bitOr so (moved (size row) v)) row values
 packedAfter so (unused w ∷ row) values = packedAfter so row values
 
+-- the packet with these numbers in its fields, and 0 for bits that are not looked at
 abbrev pub packed : Layout → List ℕ → ℕ
 packed row values = packedAfter 0 row values

@@ -16,6 +16,7 @@ use Rattle.packet.specs.declared.Built.{Built}
 use Rattle.mirror.specs.declared.Mirror.{Mirror}
 use Rattle.mirror.specs.declared.Mirrored.{Mirrored}
 
+-- S8.4.6
 abbrev pub isChecksum : ℕ → Bool
 isChecksum n = eqb (idOf n) checksumID
 

@@ -43,6 +43,7 @@ fieldsBy row n = fieldsOf row (kept (shows row n) n)
 abbrev pub ofChecksum : Checksum → List ℕ
 ofChecksum f = f .value ∷ []
 
+-- .. and back
 abbrev pub asChecksum : List ℕ → Checksum
 asChecksum v = record { value = getD v 0 0 }
 
@@ -51,6 +52,7 @@ abbrev pub ofConfiguration : Configuration → List ℕ
 ofConfiguration f =
     f .oscillator ∷ f .polarity ∷ f .«synchronous_mode» ∷ f .«maximum_off_time» ∷ f .«clock_output_disable» ∷ f .«minute_timer» ∷ f .«low_battery_polarity» ∷ []
 
+-- .. and back
 abbrev pub asConfiguration : List ℕ → Configuration
 asConfiguration v =
     record {
@@ -67,6 +69,7 @@ asConfiguration v =
 abbrev pub ofControl : Control → List ℕ
 ofControl f = f .«forced_frames» ∷ f .«single_phase» ∷ f .phase ∷ f .«block_information» ∷ f .«minute_timer_clear» ∷ f .on ∷ []
 
+-- .. and back
 abbrev pub asControl : List ℕ → Control
 asControl v =
     record {
@@ -82,6 +85,7 @@ asControl v =
 abbrev pub ofAllFrameMode : AllFrameMode → List ℕ
 ofAllFrameMode f = f .decrement ∷ f .force ∷ f .«decrement_temporary» ∷ []
 
+-- .. and back
 abbrev pub asAllFrameMode : List ℕ → AllFrameMode
 asAllFrameMode v = record { decrement = getD v 0 0; force = getD v 1 0; «decrement_temporary» = getD v 2 0 }
 
@@ -89,6 +93,7 @@ asAllFrameMode v = record { decrement = getD v 0 0; force = getD v 1 0; «decrem
 abbrev pub ofReceiverLines : ReceiverLines → List ℕ
 ofReceiverLines f = f .forced ∷ f .settings ∷ []
 
+-- .. and back
 abbrev pub asReceiverLines : List ℕ → ReceiverLines
 asReceiverLines v = record { forced = getD v 0 0; settings = getD v 1 0 }
 
@@ -96,6 +101,7 @@ asReceiverLines v = record { forced = getD v 0 0; settings = getD v 1 0 }
 abbrev pub ofShutDown : ShutDown → List ℕ
 ofShutDown f = f .setting ∷ f .enable ∷ f .«low_battery_check» ∷ f .lines ∷ f .time ∷ []
 
+-- .. and back
 abbrev pub asShutDown : List ℕ → ShutDown
 asShutDown v = record { setting = getD v 0 0; enable = getD v 1 0; «low_battery_check» = getD v 2 0; lines = getD v 3 0; time = getD v 4 0 }
 
@@ -103,6 +109,7 @@ asShutDown v = record { setting = getD v 0 0; enable = getD v 1 0; «low_battery
 abbrev pub ofFrameAssignment : FrameAssignment → List ℕ
 ofFrameAssignment f = f .range ∷ f .frames ∷ []
 
+-- .. and back
 abbrev pub asFrameAssignment : List ℕ → FrameAssignment
 asFrameAssignment v = record { range = getD v 0 0; frames = getD v 1 0 }
 
@@ -110,6 +117,7 @@ asFrameAssignment v = record { range = getD v 0 0; frames = getD v 1 0 }
 abbrev pub ofUserAddress : UserAddress → List ℕ
 ofUserAddress f = f .location ∷ f .«long_address» ∷ f .«tone_only» ∷ f .word ∷ []
 
+-- .. and back
 abbrev pub asUserAddress : List ℕ → UserAddress
 asUserAddress v = record { location = getD v 0 0; «long_address» = getD v 1 0; «tone_only» = getD v 2 0; word = getD v 3 0 }
 
@@ -117,6 +125,7 @@ asUserAddress v = record { location = getD v 0 0; «long_address» = getD v 1 0;
 abbrev pub ofAddressEnable : AddressEnable → List ℕ
 ofAddressEnable f = f .enabled ∷ []
 
+-- .. and back
 abbrev pub asAddressEnable : List ℕ → AddressEnable
 asAddressEnable v = record { enabled = getD v 0 0 }
 
@@ -124,5 +133,6 @@ asAddressEnable v = record { enabled = getD v 0 0 }
 abbrev pub ofPartId : PartId → List ℕ
 ofPartId f = f .model ∷ f .compatibility ∷ f .revision ∷ []
 
+-- .. and back
 abbrev pub asPartId : List ℕ → PartId
 asPartId v = record { model = getD v 0 0; compatibility = getD v 1 0; revision = getD v 2 0 }

@@ -16,60 +16,71 @@ dataOf n = n % 2 ^ 24
 abbrev pub among : ℕ → ℕ → ℕ → Bool
 among first last id = leb first id && leb id last
 
--- S8.3.7, Table 2: what the host sends
+-- S8.3.7, Table 2, what the host sends: checksum (S8.4.6)
 abbrev pub checksumID : ℕ
 checksumID = 0x00
 
+-- .. configuration (S8.4.4)
 abbrev pub configurationID : ℕ
 configurationID = 0x01
 
+-- .. control (S8.4.7)
 abbrev pub controlID : ℕ
 controlID = 0x02
 
+-- .. all frame mode (S8.8.3)
 abbrev pub allFrameModeID : ℕ
 allFrameModeID = 0x03
 
+-- .. receiver line control (S8.5.7)
 abbrev pub receiverLinesID : ℕ
 receiverLinesID = 0x0F
 
--- .. the receiver's settings, from off to the last data setting
+-- .. the first of the receiver's settings that go with any data bits: off (S8.5.4)
 abbrev pub firstSettingID : ℕ
 firstSettingID = 0x10
 
+-- .. and the last: data at 1600 symbols/s (S8.5.6.2)
 abbrev pub lastSettingID : ℕ
 lastSettingID = 0x19
 
+-- .. shut-down 1 (S8.5.8.1)
 abbrev pub shutDown1ID : ℕ
 shutDown1ID = 0x1A
 
+-- .. shut-down 2 (S8.5.8.1)
 abbrev pub shutDown2ID : ℕ
 shutDown2ID = 0x1B
 
--- .. the special packets, which the decoder ignores
+-- .. the first of the special packets, which the decoder ignores
 abbrev pub firstSpecialID : ℕ
 firstSpecialID = 0x1C
 
+-- .. the last of them
 abbrev pub lastSpecialID : ℕ
 lastSpecialID = 0x1F
 
--- .. the eight frame assignments
+-- .. the first of the eight frame assignments (S8.6.7)
 abbrev pub firstFramesID : ℕ
 firstFramesID = 0x20
 
+-- .. the last of them
 abbrev pub lastFramesID : ℕ
 lastFramesID = 0x27
 
+-- .. user address enable (S8.6.6)
 abbrev pub addressEnableID : ℕ
 addressEnableID = 0x78
 
--- .. the sixteen user addresses
+-- .. the first of the sixteen user address assignments (S8.6.6)
 abbrev pub firstUserAddressID : ℕ
 firstUserAddressID = 0x80
 
+-- .. the last of them
 abbrev pub lastUserAddressID : ℕ
 lastUserAddressID = 0x8F
 
--- S8.3.8, Table 3: what the decoder sends
+-- S8.3.8, Table 3, what the decoder sends: address (S8.7.2)
 abbrev pub addressID : ℕ
 addressID = 0x01
 
@@ -85,9 +96,11 @@ firstMessageID = 0x03
 abbrev pub lastWordID : ℕ
 lastWordID = 0x57
 
+-- .. status (S8.4.9)
 abbrev pub statusID : ℕ
 statusID = 0x7F
 
+-- .. part ID (S8.4.5)
 abbrev pub partIdID : ℕ
 partIdID = 0xFF
 

@@ -2,16 +2,16 @@
 use Prim.Native.Nat.{ℕ, zero, suc, _-_, _^_, _≤_, _<_}
 use mathlib.Core.Bool.{Bool, true, false, not, _&&_, Bool·beq, and-false, true≢false}
 use mathlib.Core.List.{List, [], _∷_}
-use mathlib.Core.Path.{_≡_, refl, ap, ap₂, _∙_}
+use mathlib.Core.Path.{_≡_, refl, ap, ap₂, sym, _∙_}
 use native.Mathlib.Omega.{arith}
-use borrow.Author.Tests.{eq-eqb, le-leb, lt-leb, ltb-false, ltb-true, ne-eqb}
+use borrow.Author.Tests.{eq-eqb, eqb-true, le-leb, lt-leb, ltb-false, ltb-true, ne-eqb}
 use lib.Dec.{T, eqb, leb, ltb}
 use lib.ListN.{getD}
 use mir.Facts.{and-yes}
 use Rattle.laws.specs.Choice.{every, everyAfter, implies}
-use Rattle.laws.specs.Layouts.{Layout, size, fieldsOf, maskOf, isRead, shows, fit, packed}
+use Rattle.laws.specs.Layouts.{Layout, bitsAt, shows, fit, packed}
 use Rattle.laws.proofs.Counting.{allBelow, of-all-below}
-use Rattle.laws.proofs.Layouts.{laid, fit-read, packed-read-whole, read-packed, shown-bits, shows-packed}
+use Rattle.laws.proofs.Layouts.{laid, shown-bits, shows-each, shows-packed}
 use Rattle.packet.proofs.Laws.{fitting-built, read-built, built-read}
 use Rattle.packet.specs.Names.{idOf, among, checksumID, configurationID, controlID, allFrameModeID, receiverLinesID, firstSettingID, lastSettingID, shutDown1ID, shutDown2ID, firstSpecialID, lastSpecialID, firstFramesID, lastFramesID, addressEnableID, firstUserAddressID, lastUserAddressID}
 use Rattle.packet.specs.Tables.{checksum, configuration, control, allFrameMode, receiverLines, shutDown, frameAssignment, userAddress, addressEnable}
@@ -230,96 +230,81 @@ named-never n e = rw e
 between : (first last id : ℕ) → first ≤ id → id ≤ last → among first last id ≡ true
 between first last id h k = rw (le-leb first id h, le-leb id last k)
 
--- What can be read may be sent.
+-- the nine kinds of packets that are read back
+pub data Kind : Type 0 where
+  checksumKind : Kind
+  configurationKind : Kind
+  controlKind : Kind
+  allFrameModeKind : Kind
+  receiverLinesKind : Kind
+  shutDownKind : Kind
+  frameAssignmentKind : Kind
+  addressEnableKind : Kind
+  userAddressKind : Kind
 
--- the checksum packet (Table 9)
-pub checksum-read-sent : (n : ℕ) → shows checksum n ≡ true → maySend n ≡ true
-checksum-read-sent n e =
-    sent-by-id (λ id. eqb id checksumID) (asks checksumID) tt n (λ h. eq-eqb (idOf n) checksumID (omega (arith, shown-bits checksum n tt e .0))) refl
+-- a kind's table
+abbrev pub tableOf : Kind → Layout
+tableOf checksumKind = checksum
+tableOf configurationKind = configuration
+tableOf controlKind = control
+tableOf allFrameModeKind = allFrameMode
+tableOf receiverLinesKind = receiverLines
+tableOf shutDownKind = shutDown
+tableOf frameAssignmentKind = frameAssignment
+tableOf addressEnableKind = addressEnable
+tableOf userAddressKind = userAddress
 
--- the configuration packet (Table 5)
-pub configuration-read-sent : (n : ℕ) → shows configuration n ≡ true → maySend n ≡ true
-configuration-read-sent n e =
-    sent-by-id (λ id. eqb id configurationID) (asks configurationID) tt n (λ h. eq-eqb (idOf n) configurationID (omega (arith, shown-bits configuration n tt e .0))) (rw e)
+-- whether an ID is the kind's (Table 2)
+abbrev pub isOf : Kind → ℕ → Bool
+isOf checksumKind id = eqb id checksumID
+isOf configurationKind id = eqb id configurationID
+isOf controlKind id = eqb id controlID
+isOf allFrameModeKind id = eqb id allFrameModeID
+isOf receiverLinesKind id = eqb id receiverLinesID
+isOf shutDownKind id = among shutDown1ID shutDown2ID id
+isOf frameAssignmentKind id = among firstFramesID lastFramesID id
+isOf addressEnableKind id = eqb id addressEnableID
+isOf userAddressKind id = among firstUserAddressID lastUserAddressID id
 
--- the control packet (Table 11)
-pub control-read-sent : (n : ℕ) → shows control n ≡ true → maySend n ≡ true
-control-read-sent n e =
-    sent-by-id (λ id. eqb id controlID) (asks controlID) tt n (λ h. eq-eqb (idOf n) controlID (omega (arith, shown-bits control n tt e .0))) (rw e)
+-- each table has at most 32 bits, and prints numbers that fit
+laid-each : (k : Kind) → T (laid (tableOf k))
+laid-each checksumKind = tt
+laid-each configurationKind = tt
+laid-each controlKind = tt
+laid-each allFrameModeKind = tt
+laid-each receiverLinesKind = tt
+laid-each shutDownKind = tt
+laid-each frameAssignmentKind = tt
+laid-each addressEnableKind = tt
+laid-each userAddressKind = tt
 
--- the all frame mode packet (Table 56)
-pub all-frame-mode-read-sent : (n : ℕ) → shows allFrameMode n ≡ true → maySend n ≡ true
-all-frame-mode-read-sent n e =
-    sent-by-id (λ id. eqb id allFrameModeID) (asks allFrameModeID) tt n (λ h. eq-eqb (idOf n) allFrameModeID (omega (arith, shown-bits allFrameMode n tt e .0))) (rw e)
+-- a packet with the bits that a kind's table prints has the kind's ID
+id-shown : (k : Kind) (n : ℕ) → shows (tableOf k) n ≡ true → idOf n < 256 → isOf k (idOf n) ≡ true
+id-shown checksumKind n e h = eq-eqb (idOf n) checksumID (omega (arith, shown-bits checksum n tt e .0))
+id-shown configurationKind n e h = eq-eqb (idOf n) configurationID (omega (arith, shown-bits configuration n tt e .0))
+id-shown controlKind n e h = eq-eqb (idOf n) controlID (omega (arith, shown-bits control n tt e .0))
+id-shown allFrameModeKind n e h = eq-eqb (idOf n) allFrameModeID (omega (arith, shown-bits allFrameMode n tt e .0))
+id-shown receiverLinesKind n e h = eq-eqb (idOf n) receiverLinesID (omega (arith, shown-bits receiverLines n tt e .0))
+id-shown shutDownKind n e h = between shutDown1ID shutDown2ID (idOf n) (omega (arith, shown-bits shutDown n tt e .0)) (omega (arith, shown-bits shutDown n tt e .0))
+id-shown frameAssignmentKind n e h = between firstFramesID lastFramesID (idOf n) (omega (arith, shown-bits frameAssignment n tt e .0)) (omega (arith, shown-bits frameAssignment n tt e .0))
+id-shown addressEnableKind n e h = eq-eqb (idOf n) addressEnableID (omega (arith, shown-bits addressEnable n tt e .0))
+id-shown userAddressKind n e h = between firstUserAddressID lastUserAddressID (idOf n) (omega (arith, shown-bits userAddress n tt e .0)) (omega (arith, shown-bits userAddress n tt e .0))
 
--- the receiver line control packet (Table 19)
-pub receiver-lines-read-sent : (n : ℕ) → shows receiverLines n ≡ true → maySend n ≡ true
-receiver-lines-read-sent n e =
-    sent-by-id (λ id. eqb id receiverLinesID) (asks receiverLinesID) tt n (λ h. eq-eqb (idOf n) receiverLinesID (omega (arith, shown-bits receiverLines n tt e .0))) (rw e)
+-- what can be read may be sent
+pub read-sent : (k : Kind) (n : ℕ) → shows (tableOf k) n ≡ true → maySend n ≡ true
+read-sent checksumKind n e = sent-by-id (isOf checksumKind) (asks checksumID) tt n (id-shown checksumKind n e) refl
+read-sent configurationKind n e = sent-by-id (isOf configurationKind) (asks configurationID) tt n (id-shown configurationKind n e) (rw e)
+read-sent controlKind n e = sent-by-id (isOf controlKind) (asks controlID) tt n (id-shown controlKind n e) (rw e)
+read-sent allFrameModeKind n e = sent-by-id (isOf allFrameModeKind) (asks allFrameModeID) tt n (id-shown allFrameModeKind n e) (rw e)
+read-sent receiverLinesKind n e = sent-by-id (isOf receiverLinesKind) (asks receiverLinesID) tt n (id-shown receiverLinesKind n e) (rw e)
+read-sent shutDownKind n e = sent-by-id (isOf shutDownKind) (asks shutDown1ID) tt n (id-shown shutDownKind n e) (rw e)
+read-sent frameAssignmentKind n e = sent-by-id (isOf frameAssignmentKind) (asks firstFramesID) tt n (id-shown frameAssignmentKind n e) (rw e)
+read-sent addressEnableKind n e = sent-by-id (isOf addressEnableKind) (asks addressEnableID) tt n (id-shown addressEnableKind n e) (rw e)
+read-sent userAddressKind n e = sent-by-id (isOf userAddressKind) (asks firstUserAddressID) tt n (id-shown userAddressKind n e) (rw e)
 
--- the receiver shut-down packets (Table 21)
-pub shut-down-read-sent : (n : ℕ) → shows shutDown n ≡ true → maySend n ≡ true
-shut-down-read-sent n e =
-    sent-by-id (among shutDown1ID shutDown2ID) (asks shutDown1ID) tt n (λ h. between shutDown1ID shutDown2ID (idOf n) (omega (arith, shown-bits shutDown n tt e .0)) (omega (arith, shown-bits shutDown n tt e .0))) (rw e)
-
--- the frame assignment packets (Table 29)
-pub frame-assignment-read-sent : (n : ℕ) → shows frameAssignment n ≡ true → maySend n ≡ true
-frame-assignment-read-sent n e =
-    sent-by-id (among firstFramesID lastFramesID) (asks firstFramesID) tt n (λ h. between firstFramesID lastFramesID (idOf n) (omega (arith, shown-bits frameAssignment n tt e .0)) (omega (arith, shown-bits frameAssignment n tt e .0))) (rw e)
-
--- the user address enable packet (Table 27)
-pub address-enable-read-sent : (n : ℕ) → shows addressEnable n ≡ true → maySend n ≡ true
-address-enable-read-sent n e =
-    sent-by-id (λ id. eqb id addressEnableID) (asks addressEnableID) tt n (λ h. eq-eqb (idOf n) addressEnableID (omega (arith, shown-bits addressEnable n tt e .0))) (rw e)
-
--- the user address assignment packets (Table 26)
-pub user-address-read-sent : (n : ℕ) → shows userAddress n ≡ true → maySend n ≡ true
-user-address-read-sent n e =
-    sent-by-id (among firstUserAddressID lastUserAddressID) (asks firstUserAddressID) tt n (λ h. between firstUserAddressID lastUserAddressID (idOf n) (omega (arith, shown-bits userAddress n tt e .0)) (omega (arith, shown-bits userAddress n tt e .0))) (rw e)
-
--- What was built may be sent.
-
--- .. where what can be read may be
-built-sent : (row : Layout) → T (laid row) → ((n : ℕ) → shows row n ≡ true → maySend n ≡ true) → (values : List ℕ) → fit row values ≡ true → maySend ((builtBy row values) .packet .bits) ≡ true
-built-sent row t read-sent values e = rw (fitting-built row values e) (read-sent (packed row values) (shows-packed row values t e))
-
--- the checksum packet (Table 9)
-pub checksum-built-sent : (f : Checksum) → fit checksum (ofChecksum f) ≡ true → maySend ((builtBy checksum (ofChecksum f)) .packet .bits) ≡ true
-checksum-built-sent f = built-sent checksum tt checksum-read-sent (ofChecksum f)
-
--- the configuration packet (Table 5)
-pub configuration-built-sent : (f : Configuration) → fit configuration (ofConfiguration f) ≡ true → maySend ((builtBy configuration (ofConfiguration f)) .packet .bits) ≡ true
-configuration-built-sent f = built-sent configuration tt configuration-read-sent (ofConfiguration f)
-
--- the control packet (Table 11)
-pub control-built-sent : (f : Control) → fit control (ofControl f) ≡ true → maySend ((builtBy control (ofControl f)) .packet .bits) ≡ true
-control-built-sent f = built-sent control tt control-read-sent (ofControl f)
-
--- the all frame mode packet (Table 56)
-pub all-frame-mode-built-sent : (f : AllFrameMode) → fit allFrameMode (ofAllFrameMode f) ≡ true → maySend ((builtBy allFrameMode (ofAllFrameMode f)) .packet .bits) ≡ true
-all-frame-mode-built-sent f = built-sent allFrameMode tt all-frame-mode-read-sent (ofAllFrameMode f)
-
--- the receiver line control packet (Table 19)
-pub receiver-lines-built-sent : (f : ReceiverLines) → fit receiverLines (ofReceiverLines f) ≡ true → maySend ((builtBy receiverLines (ofReceiverLines f)) .packet .bits) ≡ true
-receiver-lines-built-sent f = built-sent receiverLines tt receiver-lines-read-sent (ofReceiverLines f)
-
--- the receiver shut-down packets (Table 21)
-pub shut-down-built-sent : (f : ShutDown) → fit shutDown (ofShutDown f) ≡ true → maySend ((builtBy shutDown (ofShutDown f)) .packet .bits) ≡ true
-shut-down-built-sent f = built-sent shutDown tt shut-down-read-sent (ofShutDown f)
-
--- the frame assignment packets (Table 29)
-pub frame-assignment-built-sent : (f : FrameAssignment) → fit frameAssignment (ofFrameAssignment f) ≡ true → maySend ((builtBy frameAssignment (ofFrameAssignment f)) .packet .bits) ≡ true
-frame-assignment-built-sent f = built-sent frameAssignment tt frame-assignment-read-sent (ofFrameAssignment f)
-
--- the user address enable packet (Table 27)
-pub address-enable-built-sent : (f : AddressEnable) → fit addressEnable (ofAddressEnable f) ≡ true → maySend ((builtBy addressEnable (ofAddressEnable f)) .packet .bits) ≡ true
-address-enable-built-sent f = built-sent addressEnable tt address-enable-read-sent (ofAddressEnable f)
-
--- the user address assignment packets (Table 26)
-pub user-address-built-sent : (f : UserAddress) → fit userAddress (ofUserAddress f) ≡ true → maySend ((builtBy userAddress (ofUserAddress f)) .packet .bits) ≡ true
-user-address-built-sent f = built-sent userAddress tt user-address-read-sent (ofUserAddress f)
-
--- A 0 bit set: a packet with the ID of a table, and without the bits that the table prints, is not sent.
+-- what was built may be sent
+pub built-sent : (k : Kind) (values : List ℕ) → fit (tableOf k) values ≡ true → maySend ((builtBy (tableOf k) values) .packet .bits) ≡ true
+built-sent k values e = rw (fitting-built (tableOf k) values e) (read-sent k (packed (tableOf k) values) (shows-packed (tableOf k) values (laid-each k) e))
 
 -- where one test fails, not every test holds
 failed-stays : (tests : List Bool) → everyAfter false tests ≡ false
@@ -340,34 +325,17 @@ not-met n place e =
 asked-not-met : (ask see : Bool) → ask ≡ true → see ≡ false → implies ask see ≡ false
 asked-not-met ask see a s = rw (a, s)
 
--- the configuration packet (Table 5)
-pub configuration-zero-bit-refused : (n : ℕ) → idOf n ≡ configurationID → shows configuration n ≡ false → sendOf n ≡ 7
-configuration-zero-bit-refused n i e = not-met n 0 (asked-not-met (eqb (idOf n) configurationID) (shows configuration n) (eq-eqb (idOf n) configurationID i) e)
-
--- the control packet (Table 11)
-pub control-zero-bit-refused : (n : ℕ) → idOf n ≡ controlID → shows control n ≡ false → sendOf n ≡ 7
-control-zero-bit-refused n i e = not-met n 1 (asked-not-met (eqb (idOf n) controlID) (shows control n) (eq-eqb (idOf n) controlID i) e)
-
--- the all frame mode packet (Table 56)
-pub all-frame-mode-zero-bit-refused : (n : ℕ) → idOf n ≡ allFrameModeID → shows allFrameMode n ≡ false → sendOf n ≡ 7
-all-frame-mode-zero-bit-refused n i e = not-met n 2 (asked-not-met (eqb (idOf n) allFrameModeID) (shows allFrameMode n) (eq-eqb (idOf n) allFrameModeID i) e)
-
--- the receiver line control packet (Table 19)
-pub receiver-lines-zero-bit-refused : (n : ℕ) → idOf n ≡ receiverLinesID → shows receiverLines n ≡ false → sendOf n ≡ 7
-receiver-lines-zero-bit-refused n i e = not-met n 3 (asked-not-met (eqb (idOf n) receiverLinesID) (shows receiverLines n) (eq-eqb (idOf n) receiverLinesID i) e)
-
--- the receiver shut-down packets (Table 21)
-pub shut-down-zero-bit-refused : (n : ℕ) → among shutDown1ID shutDown2ID (idOf n) ≡ true → shows shutDown n ≡ false → sendOf n ≡ 7
-shut-down-zero-bit-refused n i e = not-met n 4 (asked-not-met (among shutDown1ID shutDown2ID (idOf n)) (shows shutDown n) i e)
-
--- the frame assignment packets (Table 29)
-pub frame-assignment-zero-bit-refused : (n : ℕ) → among firstFramesID lastFramesID (idOf n) ≡ true → shows frameAssignment n ≡ false → sendOf n ≡ 7
-frame-assignment-zero-bit-refused n i e = not-met n 5 (asked-not-met (among firstFramesID lastFramesID (idOf n)) (shows frameAssignment n) i e)
-
--- the user address enable packet (Table 27)
-pub address-enable-zero-bit-refused : (n : ℕ) → idOf n ≡ addressEnableID → shows addressEnable n ≡ false → sendOf n ≡ 7
-address-enable-zero-bit-refused n i e = not-met n 6 (asked-not-met (eqb (idOf n) addressEnableID) (shows addressEnable n) (eq-eqb (idOf n) addressEnableID i) e)
-
--- the user address assignment packets (Table 26)
-pub user-address-zero-bit-refused : (n : ℕ) → among firstUserAddressID lastUserAddressID (idOf n) ≡ true → shows userAddress n ≡ false → sendOf n ≡ 7
-user-address-zero-bit-refused n i e = not-met n 7 (asked-not-met (among firstUserAddressID lastUserAddressID (idOf n)) (shows userAddress n) i e)
+-- a packet with a kind's ID, and a bit set that the kind's table prints as 0, is not sent. The checksum's table prints none
+pub zero-bit-refused : (k : Kind) (n : ℕ) → isOf k (idOf n) ≡ true → shows (tableOf k) n ≡ false → sendOf n ≡ 7
+zero-bit-refused checksumKind n i e =
+    let id : idOf n ≡ 0 = eqb-true (idOf n) checksumID i in
+    let shown : shows checksum n ≡ true = shows-each checksum n tt ∙ rw (eq-eqb (bitsAt 24 8 n) 0 (omega arith)) refl in
+    absurd (true≢false (sym shown ∙ e))
+zero-bit-refused configurationKind n i e = not-met n 0 (asked-not-met (isOf configurationKind (idOf n)) (shows configuration n) i e)
+zero-bit-refused controlKind n i e = not-met n 1 (asked-not-met (isOf controlKind (idOf n)) (shows control n) i e)
+zero-bit-refused allFrameModeKind n i e = not-met n 2 (asked-not-met (isOf allFrameModeKind (idOf n)) (shows allFrameMode n) i e)
+zero-bit-refused receiverLinesKind n i e = not-met n 3 (asked-not-met (isOf receiverLinesKind (idOf n)) (shows receiverLines n) i e)
+zero-bit-refused shutDownKind n i e = not-met n 4 (asked-not-met (isOf shutDownKind (idOf n)) (shows shutDown n) i e)
+zero-bit-refused frameAssignmentKind n i e = not-met n 5 (asked-not-met (isOf frameAssignmentKind (idOf n)) (shows frameAssignment n) i e)
+zero-bit-refused addressEnableKind n i e = not-met n 6 (asked-not-met (isOf addressEnableKind (idOf n)) (shows addressEnable n) i e)
+zero-bit-refused userAddressKind n i e = not-met n 7 (asked-not-met (isOf userAddressKind (idOf n)) (shows userAddress n) i e)

@@ -20,31 +20,39 @@ use Rattle.sent.specs.declared.FrameAssignmentRead.{FrameAssignmentRead}
 use Rattle.sent.specs.declared.UserAddressRead.{UserAddressRead}
 use Rattle.sent.specs.declared.AddressEnableRead.{AddressEnableRead}
 
--- each packet by its own table
+-- Table 9
 abbrev pub checksumRead : ℕ → ChecksumRead
 checksumRead n = record { number = numberBy checksum n; fields = asChecksum (fieldsBy checksum n) }
 
+-- Table 5
 abbrev pub configurationRead : ℕ → ConfigurationRead
 configurationRead n = record { number = numberBy configuration n; fields = asConfiguration (fieldsBy configuration n) }
 
+-- Table 11
 abbrev pub controlRead : ℕ → ControlRead
 controlRead n = record { number = numberBy control n; fields = asControl (fieldsBy control n) }
 
+-- Table 56
 abbrev pub allFrameModeRead : ℕ → AllFrameModeRead
 allFrameModeRead n = record { number = numberBy allFrameMode n; fields = asAllFrameMode (fieldsBy allFrameMode n) }
 
+-- Table 19
 abbrev pub receiverLinesRead : ℕ → ReceiverLinesRead
 receiverLinesRead n = record { number = numberBy receiverLines n; fields = asReceiverLines (fieldsBy receiverLines n) }
 
+-- Table 21
 abbrev pub shutDownRead : ℕ → ShutDownRead
 shutDownRead n = record { number = numberBy shutDown n; fields = asShutDown (fieldsBy shutDown n) }
 
+-- Table 29
 abbrev pub frameAssignmentRead : ℕ → FrameAssignmentRead
 frameAssignmentRead n = record { number = numberBy frameAssignment n; fields = asFrameAssignment (fieldsBy frameAssignment n) }
 
+-- Table 26
 abbrev pub userAddressRead : ℕ → UserAddressRead
 userAddressRead n = record { number = numberBy userAddress n; fields = asUserAddress (fieldsBy userAddress n) }
 
+-- Table 27
 abbrev pub addressEnableRead : ℕ → AddressEnableRead
 addressEnableRead n = record { number = numberBy addressEnable n; fields = asAddressEnable (fieldsBy addressEnable n) }
 
