@@ -1,12 +1,13 @@
 -- 01's numbers tell the refusals apart, and a refusal from what is none.
 use Prim.Native.Nat.{ℕ, _<_}
+use mathlib.Core.Bool.{Bool, true, false}
 use mathlib.Core.Path.{_≡_, refl, ap, sym, _∙_}
 use mathlib.Core.List.{List, [], _∷_}
 use lib.ListN.{getD}
 use native.Mathlib.Omega.{arith}
 use Rattle.refusal.specs.declared.Refusal.{Refusal}
 use Rattle.refusal.specs.declared.Refusal.the-variants.{Room, State, Text, «Type», Range, Offset, Packet, Address, Size, Damaged, Checksum, Full, NoChain, OutOfTurn, TooLong, Signature, NoCall, Character}
-use Rattle.refusal.specs.Told.{numberOf, Told, told, refused, given}
+use Rattle.refusal.specs.Told.{numberOf, numberUnless, Told, told, refused, given}
 
 -- the refusal of a number
 abbrev ofNumber : ℕ → Refusal
@@ -77,3 +78,11 @@ given-not-refused values r e =
 -- two refusals told alike are the same
 pub refused-tells : (a b : Refusal) → refused a ≡ refused b → a ≡ b
 refused-tells a b e = number-tells a b (ap toldNumber e)
+
+-- the number told is 0 exactly if the test holds
+pub unless-good : (r : Refusal) (good : Bool) → good ≡ true → numberUnless r good ≡ 0
+unless-good r good e = rw e
+
+pub good-unless : (r : Refusal) (good : Bool) → numberUnless r good ≡ 0 → good ≡ true
+good-unless r true e = refl
+good-unless r false e = absurd (omega (arith, number-positive r))
