@@ -1,9 +1,13 @@
 //! What the command line asks for.
 
+use crate::packets::Extent;
+
 const DEFAULT_LINES: u64 = 200_000;
 const DEFAULT_SEED: u64 = 5008;
 
 pub const USAGE: &str = "usage: compare exports EXCHANGE_COMMAND.. [--seed NUMBER]
+       compare packets EXCHANGE_COMMAND.. [--seed NUMBER] [--full]
+       compare start-up FILE EXCHANGE_COMMAND..
        compare lines LISTING_COMMAND.. [--count NUMBER] [--seed NUMBER]
        compare edges LISTING_COMMAND..
        compare write-lines COUNT [SEED]
@@ -18,6 +22,15 @@ pub enum Task {
     Exports {
         exchange: Vec<String>,
         seed: u64,
+    },
+    Packets {
+        exchange: Vec<String>,
+        seed: u64,
+        extent: Extent,
+    },
+    StartUp {
+        file: String,
+        exchange: Vec<String>,
     },
     Lines {
         listing: Vec<String>,
@@ -46,6 +59,22 @@ pub fn read(words: &[String]) -> Option<Task> {
             let (exchange, [seed]) = command_and_numbers(rest, ["--seed"])?;
             let seed = seed.unwrap_or(DEFAULT_SEED);
             Some(Task::Exports { exchange, seed })
+        }
+        "packets" => {
+            let (words, extent) = words_and_extent(rest);
+            let (exchange, [seed]) = command_and_numbers(words, ["--seed"])?;
+            let seed = seed.unwrap_or(DEFAULT_SEED);
+            Some(Task::Packets {
+                exchange,
+                seed,
+                extent,
+            })
+        }
+        "start-up" => {
+            let (file, rest) = rest.split_first()?;
+            let (exchange, []) = command_and_numbers(rest, [])?;
+            let file = file.clone();
+            Some(Task::StartUp { file, exchange })
         }
         "lines" => {
             let (listing, [count, seed]) = command_and_numbers(rest, ["--count", "--seed"])?;
@@ -77,6 +106,14 @@ fn count_and_seed(words: &[String]) -> Option<(u64, u64)> {
         [count] => Some((count.parse().ok()?, DEFAULT_SEED)),
         [count, seed] => Some((count.parse().ok()?, seed.parse().ok()?)),
         _ => None,
+    }
+}
+
+/// The word that asks for the full extent comes last of all.
+fn words_and_extent(words: &[String]) -> (&[String], Extent) {
+    match words {
+        [rest @ .., last] if last == "--full" => (rest, Extent::Full),
+        _ => (words, Extent::Usual),
     }
 }
 
@@ -134,6 +171,33 @@ mod tests {
     }
 
     #[test]
+    fn packets_to_either_extent() {
+        for (line, seed, extent) in [
+            ("packets run exchange", DEFAULT_SEED, Extent::Usual),
+            ("packets run exchange --seed 7", 7, Extent::Usual),
+            ("packets run exchange --full", DEFAULT_SEED, Extent::Full),
+            ("packets run exchange --seed 7 --full", 7, Extent::Full),
+        ] {
+            let exchange = words("run exchange");
+            let task = Task::Packets {
+                exchange,
+                seed,
+                extent,
+            };
+            assert_eq!(read(&words(line)), Some(task), "{line}");
+        }
+    }
+
+    #[test]
+    fn a_start_up_has_a_file_and_a_command() {
+        let task = Task::StartUp {
+            file: "table.md".to_string(),
+            exchange: words("run exchange"),
+        };
+        assert_eq!(read(&words("start-up table.md run exchange")), Some(task));
+    }
+
+    #[test]
     fn slips_are_no_task() {
         for line in [
             "",
@@ -142,6 +206,12 @@ mod tests {
             "exports --seed 1",
             "exports run --seed",
             "exports run --seed one",
+            "packets",
+            "packets --full",
+            "packets --seed 1",
+            "packets run --seed --full",
+            "start-up",
+            "start-up table.md",
             "lines --count 5",
             "edges",
             "write-lines",

@@ -31,6 +31,15 @@ impl Numbers for u32 {
     }
 }
 
+/// Nothing is told beside yes or no.
+impl Numbers for () {
+    const COUNT: usize = 0;
+
+    fn from_numbers(_: &mut impl Iterator<Item = u32>) -> Self {}
+
+    fn append_to(&self, _: &mut Vec<u32>) {}
+}
+
 /// Declares a struct whose fields are numbers, or again such structs.
 macro_rules! numbers {
     (
