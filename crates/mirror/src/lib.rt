@@ -27,7 +27,7 @@ pub fn reset(packet: Packet) -> Mirrored
     ensures { λ r. ⌜ r ≡ resetBy (packet .bits) ⌝ }
 {
     let bits = packet.bits;
-    let good = bits >> 24 == Packet::PART_ID;
+    let good = bits & 0xFF00_0000 == Packet::PART_ID << 24;
     Mirrored {
         number: Refusal::Packet.unless(good),
         mirror: Mirror {

@@ -1,0 +1,234 @@
+// Packets, as C and Rust link them: building, reading, and what may be sent. Every function takes any
+// input, and its contract is that of the function it calls: `number` is 0, or 01's number of the
+// refusal, and every other field is then 0.
+ghost use mathlib.Core.Path.{_≡_};
+ghost use Rattle.packet.specs.Tables.{checksum, configuration, control, allFrameMode, receiverLines, shutDown, frameAssignment, userAddress, addressEnable, partId};
+ghost use Rattle.packet.specs.Fields.{builtBy, ofChecksum, ofConfiguration, ofControl, ofAllFrameMode, ofReceiverLines, ofShutDown, ofFrameAssignment, ofUserAddress, ofAddressEnable, ofPartId};
+ghost use Rattle.sent.specs.Reads.{checksumRead, configurationRead, controlRead, allFrameModeRead, receiverLinesRead, shutDownRead, frameAssignmentRead, userAddressRead, addressEnableRead, sendOf};
+ghost use Rattle.heard.specs.Reads.{partIdRead, statusRead, addressRead, vectorRead, messageRead};
+use heard::AddressRead;
+use heard::MessageRead;
+use heard::PartIdRead;
+use heard::StatusRead;
+use heard::VectorRead;
+use packet::AddressEnable;
+use packet::AllFrameMode;
+use packet::Built;
+use packet::Checksum;
+use packet::Configuration;
+use packet::Control;
+use packet::FrameAssignment;
+use packet::Packet;
+use packet::PartId;
+use packet::ReceiverLines;
+use packet::ShutDown;
+use packet::UserAddress;
+use sent::AddressEnableRead;
+use sent::AllFrameModeRead;
+use sent::ChecksumRead;
+use sent::ConfigurationRead;
+use sent::ControlRead;
+use sent::FrameAssignmentRead;
+use sent::ReceiverLinesRead;
+use sent::ShutDownRead;
+use sent::UserAddressRead;
+
+// Builds a checksum packet.
+#[no_mangle]
+pub extern "C" fn mortisevane_build_checksum(fields: Checksum) -> Built
+    ensures { λ r. ⌜ r ≡ builtBy checksum (ofChecksum fields) ⌝ }
+{
+    Packet::checksum(fields)
+}
+
+// Builds a configuration packet.
+#[no_mangle]
+pub extern "C" fn mortisevane_build_configuration(fields: Configuration) -> Built
+    ensures { λ r. ⌜ r ≡ builtBy configuration (ofConfiguration fields) ⌝ }
+{
+    Packet::configuration(fields)
+}
+
+// Builds a control packet.
+#[no_mangle]
+pub extern "C" fn mortisevane_build_control(fields: Control) -> Built
+    ensures { λ r. ⌜ r ≡ builtBy control (ofControl fields) ⌝ }
+{
+    Packet::control(fields)
+}
+
+// Builds an all frame mode packet.
+#[no_mangle]
+pub extern "C" fn mortisevane_build_all_frame_mode(fields: AllFrameMode) -> Built
+    ensures { λ r. ⌜ r ≡ builtBy allFrameMode (ofAllFrameMode fields) ⌝ }
+{
+    Packet::all_frame_mode(fields)
+}
+
+// Builds a receiver line control packet.
+#[no_mangle]
+pub extern "C" fn mortisevane_build_receiver_lines(fields: ReceiverLines) -> Built
+    ensures { λ r. ⌜ r ≡ builtBy receiverLines (ofReceiverLines fields) ⌝ }
+{
+    Packet::receiver_lines(fields)
+}
+
+// Builds a receiver shut-down packet.
+#[no_mangle]
+pub extern "C" fn mortisevane_build_shut_down(fields: ShutDown) -> Built
+    ensures { λ r. ⌜ r ≡ builtBy shutDown (ofShutDown fields) ⌝ }
+{
+    Packet::shut_down(fields)
+}
+
+// Builds a frame assignment packet.
+#[no_mangle]
+pub extern "C" fn mortisevane_build_frame_assignment(fields: FrameAssignment) -> Built
+    ensures { λ r. ⌜ r ≡ builtBy frameAssignment (ofFrameAssignment fields) ⌝ }
+{
+    Packet::frame_assignment(fields)
+}
+
+// Builds a user address assignment packet.
+#[no_mangle]
+pub extern "C" fn mortisevane_build_user_address(fields: UserAddress) -> Built
+    ensures { λ r. ⌜ r ≡ builtBy userAddress (ofUserAddress fields) ⌝ }
+{
+    Packet::user_address(fields)
+}
+
+// Builds a user address enable packet.
+#[no_mangle]
+pub extern "C" fn mortisevane_build_address_enable(fields: AddressEnable) -> Built
+    ensures { λ r. ⌜ r ≡ builtBy addressEnable (ofAddressEnable fields) ⌝ }
+{
+    Packet::address_enable(fields)
+}
+
+// Builds a part ID packet.
+#[no_mangle]
+pub extern "C" fn mortisevane_build_part_id(fields: PartId) -> Built
+    ensures { λ r. ⌜ r ≡ builtBy partId (ofPartId fields) ⌝ }
+{
+    Packet::part_id(fields)
+}
+
+// Reads a checksum packet.
+#[no_mangle]
+pub extern "C" fn mortisevane_read_checksum(packet: u32) -> ChecksumRead
+    ensures { λ r. ⌜ r ≡ checksumRead packet ⌝ }
+{
+    sent::read_checksum(Packet { bits: packet })
+}
+
+// Reads a configuration packet.
+#[no_mangle]
+pub extern "C" fn mortisevane_read_configuration(packet: u32) -> ConfigurationRead
+    ensures { λ r. ⌜ r ≡ configurationRead packet ⌝ }
+{
+    sent::read_configuration(Packet { bits: packet })
+}
+
+// Reads a control packet.
+#[no_mangle]
+pub extern "C" fn mortisevane_read_control(packet: u32) -> ControlRead
+    ensures { λ r. ⌜ r ≡ controlRead packet ⌝ }
+{
+    sent::read_control(Packet { bits: packet })
+}
+
+// Reads an all frame mode packet.
+#[no_mangle]
+pub extern "C" fn mortisevane_read_all_frame_mode(packet: u32) -> AllFrameModeRead
+    ensures { λ r. ⌜ r ≡ allFrameModeRead packet ⌝ }
+{
+    sent::read_all_frame_mode(Packet { bits: packet })
+}
+
+// Reads a receiver line control packet.
+#[no_mangle]
+pub extern "C" fn mortisevane_read_receiver_lines(packet: u32) -> ReceiverLinesRead
+    ensures { λ r. ⌜ r ≡ receiverLinesRead packet ⌝ }
+{
+    sent::read_receiver_lines(Packet { bits: packet })
+}
+
+// Reads a receiver shut-down packet.
+#[no_mangle]
+pub extern "C" fn mortisevane_read_shut_down(packet: u32) -> ShutDownRead
+    ensures { λ r. ⌜ r ≡ shutDownRead packet ⌝ }
+{
+    sent::read_shut_down(Packet { bits: packet })
+}
+
+// Reads a frame assignment packet.
+#[no_mangle]
+pub extern "C" fn mortisevane_read_frame_assignment(packet: u32) -> FrameAssignmentRead
+    ensures { λ r. ⌜ r ≡ frameAssignmentRead packet ⌝ }
+{
+    sent::read_frame_assignment(Packet { bits: packet })
+}
+
+// Reads a user address assignment packet.
+#[no_mangle]
+pub extern "C" fn mortisevane_read_user_address(packet: u32) -> UserAddressRead
+    ensures { λ r. ⌜ r ≡ userAddressRead packet ⌝ }
+{
+    sent::read_user_address(Packet { bits: packet })
+}
+
+// Reads a user address enable packet.
+#[no_mangle]
+pub extern "C" fn mortisevane_read_address_enable(packet: u32) -> AddressEnableRead
+    ensures { λ r. ⌜ r ≡ addressEnableRead packet ⌝ }
+{
+    sent::read_address_enable(Packet { bits: packet })
+}
+
+// Reads a part ID packet.
+#[no_mangle]
+pub extern "C" fn mortisevane_read_part_id(packet: u32) -> PartIdRead
+    ensures { λ r. ⌜ r ≡ partIdRead packet ⌝ }
+{
+    heard::read_part_id(Packet { bits: packet })
+}
+
+// Reads a status packet.
+#[no_mangle]
+pub extern "C" fn mortisevane_read_status(packet: u32) -> StatusRead
+    ensures { λ r. ⌜ r ≡ statusRead packet ⌝ }
+{
+    heard::read_status(Packet { bits: packet })
+}
+
+// Reads an address packet.
+#[no_mangle]
+pub extern "C" fn mortisevane_read_address(packet: u32) -> AddressRead
+    ensures { λ r. ⌜ r ≡ addressRead packet ⌝ }
+{
+    heard::read_address(Packet { bits: packet })
+}
+
+// Reads a vector packet.
+#[no_mangle]
+pub extern "C" fn mortisevane_read_vector(packet: u32) -> VectorRead
+    ensures { λ r. ⌜ r ≡ vectorRead packet ⌝ }
+{
+    heard::read_vector(Packet { bits: packet })
+}
+
+// Reads a message packet.
+#[no_mangle]
+pub extern "C" fn mortisevane_read_message(packet: u32) -> MessageRead
+    ensures { λ r. ⌜ r ≡ messageRead packet ⌝ }
+{
+    heard::read_message(Packet { bits: packet })
+}
+
+// Whether the host may send a packet: 0 if so, else 7.
+#[no_mangle]
+pub extern "C" fn mortisevane_may_send(packet: u32) -> u32
+    ensures { λ r. ⌜ r ≡ sendOf packet ⌝ }
+{
+    sent::may_send(Packet { bits: packet })
+}

@@ -1,0 +1,33 @@
+-- The laws of xor, for all numbers. What the library has of them is passed on, so that all stand in one place.
+use Prim.Native.Nat.{ℕ, _/_, _%_}
+use mathlib.Core.Bool.{Bool}
+use mathlib.Core.Path.{_≡_, refl, sym, _∙_}
+use native.Mathlib.Omega.{arith}
+use lib.Arith.{bin-ind}
+use lib.Bits.{bitXor, differ, xor-step, xor-shr, xor-mod}
+use lib.Dec.{eqb, eqb→eq}
+use Rattle.laws.proofs.Counting.{allBelow, of-all-below}
+pub use lib.Bits.{xor-comm, xor-self, xor-zero-l, xor-zero-r, xor-lt}
+
+-- whether three bits may be taken together either way
+abbrev either-way : ℕ → ℕ → ℕ → Bool
+either-way x y z = eqb (differ (bitXor x y) z) (differ x (bitXor y z))
+
+-- .. computed for all bits
+bits-assoc : (x y z : ℕ) → differ (bitXor (x % 2) (y % 2)) (z % 2) ≡ differ (x % 2) (bitXor (y % 2) (z % 2))
+bits-assoc x y z =
+    let at-x = of-all-below (λ a. allBelow (λ b. allBelow (either-way a b) 2) 2) 2 tt (x % 2) (omega arith) in
+    let at-y = of-all-below (λ b. allBelow (either-way (x % 2) b) 2) 2 at-x (y % 2) (omega arith) in
+    eqb→eq _ _ (of-all-below (either-way (x % 2) (y % 2)) 2 at-y (z % 2) (omega arith))
+
+-- three numbers may be taken together either way
+pub xor-assoc : (a b c : ℕ) → bitXor (bitXor a b) c ≡ bitXor a (bitXor b c)
+xor-assoc =
+    bin-ind (λ (n : ℕ). (b c : ℕ) → bitXor (bitXor n b) c ≡ bitXor n (bitXor b c)) (λ b c. refl)
+    (λ n rest b c. xor-step (bitXor n b) c
+    ∙ rw (xor-shr n b 1, xor-mod n b 1, rest (b / 2) (c / 2), bits-assoc n b c, ← xor-shr b c 1, ← xor-mod b c 1)
+    (sym (xor-step n (bitXor b c))))
+
+-- what is put in twice is out again
+pub xor-cancel : (a b : ℕ) → bitXor (bitXor a b) b ≡ a
+xor-cancel a b = xor-assoc a b b ∙ rw xor-self (xor-zero-r a)

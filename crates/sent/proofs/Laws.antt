@@ -1,0 +1,395 @@
+-- What document 01 promises of the packets that the host sends: fields and packets lead to each other, and which packets may be sent.
+use Prim.Native.Nat.{ℕ, zero, suc, _-_, _^_, _≤_, _<_}
+use mathlib.Core.Bool.{Bool, true, false, not, _&&_, Bool·beq, and-false, true≢false}
+use mathlib.Core.List.{List, [], _∷_}
+use mathlib.Core.Path.{_≡_, refl, ap, ap₂, _∙_}
+use native.Mathlib.Omega.{arith}
+use borrow.Author.Tests.{eq-eqb, le-leb, lt-leb, ltb-false, ltb-true, ne-eqb}
+use lib.Dec.{T, eqb, leb, ltb}
+use lib.ListN.{getD}
+use mir.Facts.{and-yes}
+use Rattle.laws.specs.Choice.{every, everyAfter, implies}
+use Rattle.laws.specs.Layouts.{Layout, size, fieldsOf, maskOf, isRead, shows, fit, packed}
+use Rattle.laws.proofs.Counting.{allBelow, of-all-below}
+use Rattle.laws.proofs.Layouts.{laid, fit-read, packed-read-whole, read-packed, shown-bits, shows-packed}
+use Rattle.packet.specs.Names.{idOf, checksumID, configurationID, controlID, allFrameModeID, receiverLinesID, firstSettingID, lastSettingID, shutDown1ID, shutDown2ID, firstSpecialID, lastSpecialID, firstFramesID, lastFramesID, addressEnableID, firstUserAddressID, lastUserAddressID}
+use Rattle.packet.specs.Tables.{checksum, configuration, control, allFrameMode, receiverLines, shutDown, frameAssignment, userAddress, addressEnable}
+use Rattle.packet.specs.Fields.{builtOf, builtBy, ofChecksum, asChecksum, ofConfiguration, asConfiguration, ofControl, asControl, ofAllFrameMode, asAllFrameMode, ofReceiverLines, asReceiverLines, ofShutDown, asShutDown, ofFrameAssignment, asFrameAssignment, ofUserAddress, asUserAddress, ofAddressEnable, asAddressEnable}
+use Rattle.packet.specs.declared.Checksum.{Checksum}
+use Rattle.packet.specs.declared.Configuration.{Configuration}
+use Rattle.packet.specs.declared.Control.{Control}
+use Rattle.packet.specs.declared.AllFrameMode.{AllFrameMode}
+use Rattle.packet.specs.declared.ReceiverLines.{ReceiverLines}
+use Rattle.packet.specs.declared.ShutDown.{ShutDown}
+use Rattle.packet.specs.declared.FrameAssignment.{FrameAssignment}
+use Rattle.packet.specs.declared.AddressEnable.{AddressEnable}
+use Rattle.packet.specs.declared.UserAddress.{UserAddress}
+use Rattle.sent.specs.declared.ChecksumRead.{ChecksumRead}
+use Rattle.sent.specs.declared.ConfigurationRead.{ConfigurationRead}
+use Rattle.sent.specs.declared.ControlRead.{ControlRead}
+use Rattle.sent.specs.declared.AllFrameModeRead.{AllFrameModeRead}
+use Rattle.sent.specs.declared.ReceiverLinesRead.{ReceiverLinesRead}
+use Rattle.sent.specs.declared.ShutDownRead.{ShutDownRead}
+use Rattle.sent.specs.declared.FrameAssignmentRead.{FrameAssignmentRead}
+use Rattle.sent.specs.declared.AddressEnableRead.{AddressEnableRead}
+use Rattle.sent.specs.declared.UserAddressRead.{UserAddressRead}
+use Rattle.refusal.specs.Told.{numberUnless}
+use Rattle.refusal.specs.declared.Refusal.the-variants as refusals
+use Rattle.sent.specs.Reads.{numberBy, fieldsBy, checksumRead, configurationRead, controlRead, allFrameModeRead, receiverLinesRead, shutDownRead, frameAssignmentRead, userAddressRead, addressEnableRead, among, neverSent, maySend, sendOf}
+
+-- fields that fit are built
+fitting-built : (row : Layout) (values : List ℕ) → fit row values ≡ true → builtBy row values ≡ record { number = 0; packet = record { bits = packed row values } }
+unfolding builtOf
+fitting-built row values e = rw e
+
+-- 01's table, 7: "a field too large"
+pub refused-built : (row : Layout) (values : List ℕ) → fit row values ≡ false → builtBy row values ≡ record { number = 7; packet = record { bits = 0 } }
+unfolding builtOf
+refused-built row values e = rw e
+
+-- 01's table, 7: "not of that kind" or "a 0 bit set"
+pub refused-read : (row : Layout) (n : ℕ) → shows row n ≡ false → numberBy row n ≡ 7
+refused-read row n e = rw e
+
+-- whatever is told of number and fields, a packet that was built is told as 0 and its own fields
+read-built : {Answer : Type 0} (tell : ℕ → List ℕ → Answer) (row : Layout) (values : List ℕ) → T (laid row) → fit row values ≡ true → tell (numberBy row ((builtBy row values) .packet .bits)) (fieldsBy row ((builtBy row values) .packet .bits)) ≡ tell 0 values
+read-built tell row values t e = rw (fitting-built row values e, shows-packed row values t e, read-packed row values t e)
+
+-- the fields that were read are built into the same packet
+built-read : (row : Layout) (n : ℕ) → T (laid row) → n < 2 ^ size row → shows row n ≡ true → maskOf isRead row ≡ 2 ^ size row - 1 → builtBy row (fieldsBy row n) ≡ record { number = 0; packet = record { bits = n } }
+built-read row n t h e whole =
+    rw (e, fitting-built row (fieldsOf row n) (fit-read row n), packed-read-whole row n t h e whole)
+
+-- There and back: what was built from fields that fit is read as these fields.
+
+-- the checksum packet (Table 9)
+pub checksum-there-and-back : (f : Checksum) → fit checksum (ofChecksum f) ≡ true → checksumRead ((builtBy checksum (ofChecksum f)) .packet .bits) ≡ record { number = 0; fields = f }
+checksum-there-and-back f = read-built {Answer = ChecksumRead} (λ number v. record { number = number; fields = asChecksum v }) checksum (ofChecksum f) tt
+
+-- the configuration packet (Table 5)
+pub configuration-there-and-back : (f : Configuration) → fit configuration (ofConfiguration f) ≡ true → configurationRead ((builtBy configuration (ofConfiguration f)) .packet .bits) ≡ record { number = 0; fields = f }
+configuration-there-and-back f = read-built {Answer = ConfigurationRead} (λ number v. record { number = number; fields = asConfiguration v }) configuration (ofConfiguration f) tt
+
+-- the control packet (Table 11)
+pub control-there-and-back : (f : Control) → fit control (ofControl f) ≡ true → controlRead ((builtBy control (ofControl f)) .packet .bits) ≡ record { number = 0; fields = f }
+control-there-and-back f = read-built {Answer = ControlRead} (λ number v. record { number = number; fields = asControl v }) control (ofControl f) tt
+
+-- the all frame mode packet (Table 56)
+pub all-frame-mode-there-and-back : (f : AllFrameMode) → fit allFrameMode (ofAllFrameMode f) ≡ true → allFrameModeRead ((builtBy allFrameMode (ofAllFrameMode f)) .packet .bits) ≡ record { number = 0; fields = f }
+all-frame-mode-there-and-back f = read-built {Answer = AllFrameModeRead} (λ number v. record { number = number; fields = asAllFrameMode v }) allFrameMode (ofAllFrameMode f) tt
+
+-- the receiver line control packet (Table 19)
+pub receiver-lines-there-and-back : (f : ReceiverLines) → fit receiverLines (ofReceiverLines f) ≡ true → receiverLinesRead ((builtBy receiverLines (ofReceiverLines f)) .packet .bits) ≡ record { number = 0; fields = f }
+receiver-lines-there-and-back f = read-built {Answer = ReceiverLinesRead} (λ number v. record { number = number; fields = asReceiverLines v }) receiverLines (ofReceiverLines f) tt
+
+-- the receiver shut-down packets (Table 21)
+pub shut-down-there-and-back : (f : ShutDown) → fit shutDown (ofShutDown f) ≡ true → shutDownRead ((builtBy shutDown (ofShutDown f)) .packet .bits) ≡ record { number = 0; fields = f }
+shut-down-there-and-back f = read-built {Answer = ShutDownRead} (λ number v. record { number = number; fields = asShutDown v }) shutDown (ofShutDown f) tt
+
+-- the frame assignment packets (Table 29)
+pub frame-assignment-there-and-back : (f : FrameAssignment) → fit frameAssignment (ofFrameAssignment f) ≡ true → frameAssignmentRead ((builtBy frameAssignment (ofFrameAssignment f)) .packet .bits) ≡ record { number = 0; fields = f }
+frame-assignment-there-and-back f = read-built {Answer = FrameAssignmentRead} (λ number v. record { number = number; fields = asFrameAssignment v }) frameAssignment (ofFrameAssignment f) tt
+
+-- the user address enable packet (Table 27)
+pub address-enable-there-and-back : (f : AddressEnable) → fit addressEnable (ofAddressEnable f) ≡ true → addressEnableRead ((builtBy addressEnable (ofAddressEnable f)) .packet .bits) ≡ record { number = 0; fields = f }
+address-enable-there-and-back f = read-built {Answer = AddressEnableRead} (λ number v. record { number = number; fields = asAddressEnable v }) addressEnable (ofAddressEnable f) tt
+
+-- the user address assignment packets (Table 26)
+pub user-address-there-and-back : (f : UserAddress) → fit userAddress (ofUserAddress f) ≡ true → userAddressRead ((builtBy userAddress (ofUserAddress f)) .packet .bits) ≡ record { number = 0; fields = f }
+user-address-there-and-back f = read-built {Answer = UserAddressRead} (λ number v. record { number = number; fields = asUserAddress v }) userAddress (ofUserAddress f) tt
+
+-- Back and there: the fields that were read are built into the packet that they were read from.
+
+-- the checksum packet (Table 9)
+pub checksum-back-and-there : (n : ℕ) → n < 2 ^ 32 → shows checksum n ≡ true → builtBy checksum (ofChecksum (checksumRead n .fields)) ≡ record { number = 0; packet = record { bits = n } }
+checksum-back-and-there n h e = built-read checksum n tt h e refl
+
+-- the configuration packet (Table 5)
+pub configuration-back-and-there : (n : ℕ) → n < 2 ^ 32 → shows configuration n ≡ true → builtBy configuration (ofConfiguration (configurationRead n .fields)) ≡ record { number = 0; packet = record { bits = n } }
+configuration-back-and-there n h e = built-read configuration n tt h e refl
+
+-- the control packet (Table 11)
+pub control-back-and-there : (n : ℕ) → n < 2 ^ 32 → shows control n ≡ true → builtBy control (ofControl (controlRead n .fields)) ≡ record { number = 0; packet = record { bits = n } }
+control-back-and-there n h e = built-read control n tt h e refl
+
+-- the all frame mode packet (Table 56)
+pub all-frame-mode-back-and-there : (n : ℕ) → n < 2 ^ 32 → shows allFrameMode n ≡ true → builtBy allFrameMode (ofAllFrameMode (allFrameModeRead n .fields)) ≡ record { number = 0; packet = record { bits = n } }
+all-frame-mode-back-and-there n h e = built-read allFrameMode n tt h e refl
+
+-- the receiver line control packet (Table 19)
+pub receiver-lines-back-and-there : (n : ℕ) → n < 2 ^ 32 → shows receiverLines n ≡ true → builtBy receiverLines (ofReceiverLines (receiverLinesRead n .fields)) ≡ record { number = 0; packet = record { bits = n } }
+receiver-lines-back-and-there n h e = built-read receiverLines n tt h e refl
+
+-- the receiver shut-down packets (Table 21)
+pub shut-down-back-and-there : (n : ℕ) → n < 2 ^ 32 → shows shutDown n ≡ true → builtBy shutDown (ofShutDown (shutDownRead n .fields)) ≡ record { number = 0; packet = record { bits = n } }
+shut-down-back-and-there n h e = built-read shutDown n tt h e refl
+
+-- the frame assignment packets (Table 29)
+pub frame-assignment-back-and-there : (n : ℕ) → n < 2 ^ 32 → shows frameAssignment n ≡ true → builtBy frameAssignment (ofFrameAssignment (frameAssignmentRead n .fields)) ≡ record { number = 0; packet = record { bits = n } }
+frame-assignment-back-and-there n h e = built-read frameAssignment n tt h e refl
+
+-- the user address enable packet (Table 27)
+pub address-enable-back-and-there : (n : ℕ) → n < 2 ^ 32 → shows addressEnable n ≡ true → builtBy addressEnable (ofAddressEnable (addressEnableRead n .fields)) ≡ record { number = 0; packet = record { bits = n } }
+address-enable-back-and-there n h e = built-read addressEnable n tt h e refl
+
+-- the user address assignment packets (Table 26)
+pub user-address-back-and-there : (n : ℕ) → n < 2 ^ 32 → shows userAddress n ≡ true → builtBy userAddress (ofUserAddress (userAddressRead n .fields)) ≡ record { number = 0; packet = record { bits = n } }
+user-address-back-and-there n h e = built-read userAddress n tt h e refl
+
+-- which of the tables with a 0 an ID asks for, in the order in which the send rule names them
+abbrev asks : ℕ → List Bool
+asks id =
+    eqb id configurationID
+    ∷ eqb id controlID
+    ∷ eqb id allFrameModeID
+    ∷ eqb id receiverLinesID
+    ∷ among shutDown1ID shutDown2ID id
+    ∷ among firstFramesID lastFramesID id
+    ∷ eqb id addressEnableID
+    ∷ among firstUserAddressID lastUserAddressID id
+    ∷ []
+
+-- which of these tables' bits a packet has
+abbrev shown : ℕ → List Bool
+shown n =
+    shows configuration n
+    ∷ shows control n
+    ∷ shows allFrameMode n
+    ∷ shows receiverLines n
+    ∷ shows shutDown n
+    ∷ shows frameAssignment n
+    ∷ shows addressEnable n
+    ∷ shows userAddress n
+    ∷ []
+
+-- each table that is asked for, met or not
+abbrev met : List Bool → List Bool → List Bool
+met [] seen = []
+met (ask ∷ asked) [] = []
+met (ask ∷ asked) (see ∷ seen) = implies ask see ∷ met asked seen
+
+-- a packet may be sent where its ID is not one that is never sent and the tables that it asks for are met
+sent-where : (n : ℕ) (asked : List Bool) → neverSent (idOf n) ∷ asks (idOf n) ≡ false ∷ asked → every (met asked (shown n)) ≡ true → maySend n ≡ true
+sent-where n asked e m = ap (λ (tests : List Bool). byTests tests (shown n)) e ∙ m
+  where
+    byTests : List Bool → List Bool → Bool
+    byTests [] seen = true
+    byTests (never ∷ asked) seen = not never && every (met asked seen)
+
+-- no table is asked for
+abbrev noTable : List Bool
+noTable = false ∷ false ∷ false ∷ false ∷ false ∷ false ∷ false ∷ false ∷ []
+
+-- whether two rows of tests answer alike
+abbrev alike : List Bool → List Bool → Bool
+alike [] [] = true
+alike [] (y ∷ ys) = false
+alike (x ∷ xs) [] = false
+alike (x ∷ xs) (y ∷ ys) = Bool·beq x y && alike xs ys
+
+same-test : (x y : Bool) → T (Bool·beq x y) → x ≡ y
+same-test true true t = refl
+same-test true false t = absurd t
+same-test false true t = absurd t
+same-test false false t = refl
+
+same-tests : (xs ys : List Bool) → T (alike xs ys) → xs ≡ ys
+same-tests [] [] t = refl
+same-tests [] (y ∷ ys) t = absurd t
+same-tests (x ∷ xs) [] t = absurd t
+same-tests (x ∷ xs) (y ∷ ys) t =
+    let both = and-yes (Bool·beq x y) (alike xs ys) t in
+    ap₂ _∷_ (same-test x y (both .0)) (same-tests xs ys (both .1))
+
+-- an ID above the last of a row of IDs is none of them
+above-last : (first last id : ℕ) → last < id → among first last id ≡ false
+above-last first last id h = rw (lt-leb id last h) (and-false (leb first id))
+
+-- a number of more than 32 bits is no packet: its ID is none of those that the rule names
+beyond : (id : ℕ) → 256 ≤ id → neverSent id ∷ asks id ≡ false ∷ noTable
+beyond id h =
+    rw (
+      above-last 0x04 0x0E id (omega arith),
+      above-last firstSpecialID lastSpecialID id (omega arith),
+      above-last 0x28 0x77 id (omega arith),
+      above-last 0x79 0x7F id (omega arith),
+      above-last 0x90 0xFF id (omega arith),
+      ne-eqb id configurationID (λ e. omega arith),
+      ne-eqb id controlID (λ e. omega arith),
+      ne-eqb id allFrameModeID (λ e. omega arith),
+      ne-eqb id receiverLinesID (λ e. omega arith),
+      above-last shutDown1ID shutDown2ID id (omega arith),
+      above-last firstFramesID lastFramesID id (omega arith),
+      ne-eqb id addressEnableID (λ e. omega arith),
+      above-last firstUserAddressID lastUserAddressID id (omega arith),
+    )
+
+-- whether each ID of 8 bits that passes a test asks for just these tables, and is not one that is never sent
+abbrev justAsks : (ℕ → Bool) → List Bool → Bool
+justAsks test asked = allBelow (λ id. implies (test id) (alike (neverSent id ∷ asks id) (false ∷ asked))) 256
+
+-- a packet may be sent where each ID that passes a test asks for just these tables, its own ID passes, and the tables are met
+sent-by-id : (test : ℕ → Bool) (asked : List Bool) → T (justAsks test asked) → (n : ℕ) → (idOf n < 256 → test (idOf n) ≡ true) → every (met asked (shown n)) ≡ true → maySend n ≡ true
+sent-by-id test asked t n passes m = by-size (ltb (idOf n) 256) refl
+  where
+    asked-of : idOf n < 256 → T (implies true (alike (neverSent (idOf n) ∷ asks (idOf n)) (false ∷ asked)))
+    asked-of h =
+        rw (passes h) at (of-all-below (λ id. implies (test id) (alike (neverSent id ∷ asks id) (false ∷ asked))) 256 t (idOf n) h)
+
+    by-size : (small : Bool) → ltb (idOf n) 256 ≡ small → maySend n ≡ true
+    by-size true e = sent-where n asked (same-tests _ _ (asked-of (ltb-true (idOf n) 256 e))) m
+    by-size false e = sent-where n noTable (beyond (idOf n) (ltb-false (idOf n) 256 e)) refl
+
+-- 01: "10H to 19H are sent with any data bits"
+pub settings-sent : (n : ℕ) → among firstSettingID lastSettingID (idOf n) ≡ true → maySend n ≡ true
+settings-sent n e = sent-by-id (among firstSettingID lastSettingID) noTable tt n (λ h. e) refl
+
+-- 01: "The host refuses to send IDs 04H to 0EH, .."
+pub named-never : (n : ℕ) → neverSent (idOf n) ≡ true → sendOf n ≡ 7
+named-never n e = rw e
+
+-- an ID between the first and the last of a row of IDs is one of them
+between : (first last id : ℕ) → first ≤ id → id ≤ last → among first last id ≡ true
+between first last id h k = rw (le-leb first id h, le-leb id last k)
+
+-- What can be read may be sent.
+
+-- the checksum packet (Table 9)
+pub checksum-read-sent : (n : ℕ) → shows checksum n ≡ true → maySend n ≡ true
+checksum-read-sent n e =
+    sent-by-id (λ id. eqb id checksumID) (asks checksumID) tt n (λ h. eq-eqb (idOf n) checksumID (omega (arith, shown-bits checksum n tt e .0))) refl
+
+-- the configuration packet (Table 5)
+pub configuration-read-sent : (n : ℕ) → shows configuration n ≡ true → maySend n ≡ true
+configuration-read-sent n e =
+    sent-by-id (λ id. eqb id configurationID) (asks configurationID) tt n (λ h. eq-eqb (idOf n) configurationID (omega (arith, shown-bits configuration n tt e .0))) (rw e)
+
+-- the control packet (Table 11)
+pub control-read-sent : (n : ℕ) → shows control n ≡ true → maySend n ≡ true
+control-read-sent n e =
+    sent-by-id (λ id. eqb id controlID) (asks controlID) tt n (λ h. eq-eqb (idOf n) controlID (omega (arith, shown-bits control n tt e .0))) (rw e)
+
+-- the all frame mode packet (Table 56)
+pub all-frame-mode-read-sent : (n : ℕ) → shows allFrameMode n ≡ true → maySend n ≡ true
+all-frame-mode-read-sent n e =
+    sent-by-id (λ id. eqb id allFrameModeID) (asks allFrameModeID) tt n (λ h. eq-eqb (idOf n) allFrameModeID (omega (arith, shown-bits allFrameMode n tt e .0))) (rw e)
+
+-- the receiver line control packet (Table 19)
+pub receiver-lines-read-sent : (n : ℕ) → shows receiverLines n ≡ true → maySend n ≡ true
+receiver-lines-read-sent n e =
+    sent-by-id (λ id. eqb id receiverLinesID) (asks receiverLinesID) tt n (λ h. eq-eqb (idOf n) receiverLinesID (omega (arith, shown-bits receiverLines n tt e .0))) (rw e)
+
+-- the receiver shut-down packets (Table 21)
+pub shut-down-read-sent : (n : ℕ) → shows shutDown n ≡ true → maySend n ≡ true
+shut-down-read-sent n e =
+    sent-by-id (among shutDown1ID shutDown2ID) (asks shutDown1ID) tt n (λ h. between shutDown1ID shutDown2ID (idOf n) (omega (arith, shown-bits shutDown n tt e .0)) (omega (arith, shown-bits shutDown n tt e .0))) (rw e)
+
+-- the frame assignment packets (Table 29)
+pub frame-assignment-read-sent : (n : ℕ) → shows frameAssignment n ≡ true → maySend n ≡ true
+frame-assignment-read-sent n e =
+    sent-by-id (among firstFramesID lastFramesID) (asks firstFramesID) tt n (λ h. between firstFramesID lastFramesID (idOf n) (omega (arith, shown-bits frameAssignment n tt e .0)) (omega (arith, shown-bits frameAssignment n tt e .0))) (rw e)
+
+-- the user address enable packet (Table 27)
+pub address-enable-read-sent : (n : ℕ) → shows addressEnable n ≡ true → maySend n ≡ true
+address-enable-read-sent n e =
+    sent-by-id (λ id. eqb id addressEnableID) (asks addressEnableID) tt n (λ h. eq-eqb (idOf n) addressEnableID (omega (arith, shown-bits addressEnable n tt e .0))) (rw e)
+
+-- the user address assignment packets (Table 26)
+pub user-address-read-sent : (n : ℕ) → shows userAddress n ≡ true → maySend n ≡ true
+user-address-read-sent n e =
+    sent-by-id (among firstUserAddressID lastUserAddressID) (asks firstUserAddressID) tt n (λ h. between firstUserAddressID lastUserAddressID (idOf n) (omega (arith, shown-bits userAddress n tt e .0)) (omega (arith, shown-bits userAddress n tt e .0))) (rw e)
+
+-- What was built may be sent.
+
+-- .. where what can be read may be
+built-sent : (row : Layout) → T (laid row) → ((n : ℕ) → shows row n ≡ true → maySend n ≡ true) → (values : List ℕ) → fit row values ≡ true → maySend ((builtBy row values) .packet .bits) ≡ true
+built-sent row t read-sent values e = rw (fitting-built row values e) (read-sent (packed row values) (shows-packed row values t e))
+
+-- the checksum packet (Table 9)
+pub checksum-built-sent : (f : Checksum) → fit checksum (ofChecksum f) ≡ true → maySend ((builtBy checksum (ofChecksum f)) .packet .bits) ≡ true
+checksum-built-sent f = built-sent checksum tt checksum-read-sent (ofChecksum f)
+
+-- the configuration packet (Table 5)
+pub configuration-built-sent : (f : Configuration) → fit configuration (ofConfiguration f) ≡ true → maySend ((builtBy configuration (ofConfiguration f)) .packet .bits) ≡ true
+configuration-built-sent f = built-sent configuration tt configuration-read-sent (ofConfiguration f)
+
+-- the control packet (Table 11)
+pub control-built-sent : (f : Control) → fit control (ofControl f) ≡ true → maySend ((builtBy control (ofControl f)) .packet .bits) ≡ true
+control-built-sent f = built-sent control tt control-read-sent (ofControl f)
+
+-- the all frame mode packet (Table 56)
+pub all-frame-mode-built-sent : (f : AllFrameMode) → fit allFrameMode (ofAllFrameMode f) ≡ true → maySend ((builtBy allFrameMode (ofAllFrameMode f)) .packet .bits) ≡ true
+all-frame-mode-built-sent f = built-sent allFrameMode tt all-frame-mode-read-sent (ofAllFrameMode f)
+
+-- the receiver line control packet (Table 19)
+pub receiver-lines-built-sent : (f : ReceiverLines) → fit receiverLines (ofReceiverLines f) ≡ true → maySend ((builtBy receiverLines (ofReceiverLines f)) .packet .bits) ≡ true
+receiver-lines-built-sent f = built-sent receiverLines tt receiver-lines-read-sent (ofReceiverLines f)
+
+-- the receiver shut-down packets (Table 21)
+pub shut-down-built-sent : (f : ShutDown) → fit shutDown (ofShutDown f) ≡ true → maySend ((builtBy shutDown (ofShutDown f)) .packet .bits) ≡ true
+shut-down-built-sent f = built-sent shutDown tt shut-down-read-sent (ofShutDown f)
+
+-- the frame assignment packets (Table 29)
+pub frame-assignment-built-sent : (f : FrameAssignment) → fit frameAssignment (ofFrameAssignment f) ≡ true → maySend ((builtBy frameAssignment (ofFrameAssignment f)) .packet .bits) ≡ true
+frame-assignment-built-sent f = built-sent frameAssignment tt frame-assignment-read-sent (ofFrameAssignment f)
+
+-- the user address enable packet (Table 27)
+pub address-enable-built-sent : (f : AddressEnable) → fit addressEnable (ofAddressEnable f) ≡ true → maySend ((builtBy addressEnable (ofAddressEnable f)) .packet .bits) ≡ true
+address-enable-built-sent f = built-sent addressEnable tt address-enable-read-sent (ofAddressEnable f)
+
+-- the user address assignment packets (Table 26)
+pub user-address-built-sent : (f : UserAddress) → fit userAddress (ofUserAddress f) ≡ true → maySend ((builtBy userAddress (ofUserAddress f)) .packet .bits) ≡ true
+user-address-built-sent f = built-sent userAddress tt user-address-read-sent (ofUserAddress f)
+
+-- A 0 bit set: a packet with the ID of a table, and without the bits that the table prints, is not sent.
+
+-- where one test fails, not every test holds
+failed-stays : (tests : List Bool) → everyAfter false tests ≡ false
+failed-stays [] = refl
+failed-stays (test ∷ tests) = failed-stays tests
+
+one-failed : (so : Bool) (tests : List Bool) (place : ℕ) → getD tests place true ≡ false → everyAfter so tests ≡ false
+one-failed so [] place e = absurd (true≢false e)
+one-failed so (test ∷ tests) zero e = rw (e, and-false so) (failed-stays tests)
+one-failed so (test ∷ tests) (suc place) e = one-failed (so && test) tests place e
+
+-- a packet is not sent where the table at a place is asked for and not met
+not-met : (n place : ℕ) → getD (met (asks (idOf n)) (shown n)) place true ≡ false → sendOf n ≡ 7
+not-met n place e =
+    ap (λ (right : Bool). numberUnless refusals.Packet (not (neverSent (idOf n)) && right)) (one-failed true (met (asks (idOf n)) (shown n)) place e)
+    ∙ rw (and-false (not (neverSent (idOf n))))
+
+asked-not-met : (ask see : Bool) → ask ≡ true → see ≡ false → implies ask see ≡ false
+asked-not-met ask see a s = rw (a, s)
+
+-- the configuration packet (Table 5)
+pub configuration-zero-bit-refused : (n : ℕ) → idOf n ≡ configurationID → shows configuration n ≡ false → sendOf n ≡ 7
+configuration-zero-bit-refused n i e = not-met n 0 (asked-not-met (eqb (idOf n) configurationID) (shows configuration n) (eq-eqb (idOf n) configurationID i) e)
+
+-- the control packet (Table 11)
+pub control-zero-bit-refused : (n : ℕ) → idOf n ≡ controlID → shows control n ≡ false → sendOf n ≡ 7
+control-zero-bit-refused n i e = not-met n 1 (asked-not-met (eqb (idOf n) controlID) (shows control n) (eq-eqb (idOf n) controlID i) e)
+
+-- the all frame mode packet (Table 56)
+pub all-frame-mode-zero-bit-refused : (n : ℕ) → idOf n ≡ allFrameModeID → shows allFrameMode n ≡ false → sendOf n ≡ 7
+all-frame-mode-zero-bit-refused n i e = not-met n 2 (asked-not-met (eqb (idOf n) allFrameModeID) (shows allFrameMode n) (eq-eqb (idOf n) allFrameModeID i) e)
+
+-- the receiver line control packet (Table 19)
+pub receiver-lines-zero-bit-refused : (n : ℕ) → idOf n ≡ receiverLinesID → shows receiverLines n ≡ false → sendOf n ≡ 7
+receiver-lines-zero-bit-refused n i e = not-met n 3 (asked-not-met (eqb (idOf n) receiverLinesID) (shows receiverLines n) (eq-eqb (idOf n) receiverLinesID i) e)
+
+-- the receiver shut-down packets (Table 21)
+pub shut-down-zero-bit-refused : (n : ℕ) → among shutDown1ID shutDown2ID (idOf n) ≡ true → shows shutDown n ≡ false → sendOf n ≡ 7
+shut-down-zero-bit-refused n i e = not-met n 4 (asked-not-met (among shutDown1ID shutDown2ID (idOf n)) (shows shutDown n) i e)
+
+-- the frame assignment packets (Table 29)
+pub frame-assignment-zero-bit-refused : (n : ℕ) → among firstFramesID lastFramesID (idOf n) ≡ true → shows frameAssignment n ≡ false → sendOf n ≡ 7
+frame-assignment-zero-bit-refused n i e = not-met n 5 (asked-not-met (among firstFramesID lastFramesID (idOf n)) (shows frameAssignment n) i e)
+
+-- the user address enable packet (Table 27)
+pub address-enable-zero-bit-refused : (n : ℕ) → idOf n ≡ addressEnableID → shows addressEnable n ≡ false → sendOf n ≡ 7
+address-enable-zero-bit-refused n i e = not-met n 6 (asked-not-met (eqb (idOf n) addressEnableID) (shows addressEnable n) (eq-eqb (idOf n) addressEnableID i) e)
+
+-- the user address assignment packets (Table 26)
+pub user-address-zero-bit-refused : (n : ℕ) → among firstUserAddressID lastUserAddressID (idOf n) ≡ true → shows userAddress n ≡ false → sendOf n ≡ 7
+user-address-zero-bit-refused n i e = not-met n 7 (asked-not-met (among firstUserAddressID lastUserAddressID (idOf n)) (shows userAddress n) i e)
