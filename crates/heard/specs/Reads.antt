@@ -10,7 +10,7 @@ use Rattle.refusal.specs.Told.{numberOf, numberUnless, kept}
 use Rattle.refusal.specs.declared.Refusal.the-variants as refusals
 use Rattle.packet.specs.Names.{idOf, among, firstVectorID, firstMessageID, lastWordID}
 use Rattle.packet.specs.Tables.{partId}
-use Rattle.packet.specs.Fields.{asPartId}
+use Rattle.packet.specs.Fields.{numberBy, fieldsBy, asPartId}
 use Rattle.heard.specs.Tables.{status, address, message, numericVector, textVector, shortVector, charactersVector, sourceVector, numberedVector, instructionVector, temporaryVector, secureType, instructionType, shortType, standardType, specialType, alphanumericType, hexType, numberedType}
 use Rattle.heard.specs.declared.PartIdRead.{PartIdRead}
 use Rattle.heard.specs.declared.Status.{Status}
@@ -25,9 +25,9 @@ use Rattle.heard.specs.declared.Instruction.{Instruction}
 use Rattle.heard.specs.declared.Vector.{Vector}
 use Rattle.heard.specs.declared.VectorRead.{VectorRead}
 
--- 01's table, 7: "not of that kind". In every reader here the fields are 0 after a refusal
+-- Table 8. In every reader here the fields are 0 after a refusal
 abbrev pub partIdRead : ℕ → PartIdRead
-partIdRead n = record { number = numberUnless refusals.Packet (shows partId n); fields = asPartId (fieldsOf partId (kept (shows partId n) n)) }
+partIdRead n = record { number = numberBy partId n; fields = asPartId (fieldsBy partId n) }
 
 -- Table 12
 abbrev pub asStatus : List ℕ → Status
@@ -46,7 +46,7 @@ asStatus v =
     }
 
 abbrev pub statusRead : ℕ → StatusRead
-statusRead n = record { number = numberUnless refusals.Packet (shows status n); fields = asStatus (fieldsOf status (kept (shows status n) n)) }
+statusRead n = record { number = numberBy status n; fields = asStatus (fieldsBy status n) }
 
 -- S8.7.2: an address index is 00H to 0FH, or 80H to 8FH for a temporary address
 abbrev pub isIndex : ℕ → Bool

@@ -2,7 +2,7 @@
 use Prim.Native.Nat.{ℕ}
 use mathlib.Core.List.{List, [], _∷_}
 use lib.ListN.{getD}
-use Rattle.laws.specs.Layouts.{Layout, fit, packed}
+use Rattle.laws.specs.Layouts.{Layout, fieldsOf, shows, fit, packed}
 use Rattle.refusal.specs.Told.{numberUnless, kept}
 use Rattle.refusal.specs.declared.Refusal.the-variants as refusals
 use Rattle.packet.specs.declared.Packet.{Packet}
@@ -30,6 +30,14 @@ builtOf draft = record { number = numberUnless refusals.Packet (draft .fits); pa
 -- a packet as its table lays it out
 abbrev pub builtBy : Layout → List ℕ → Built
 builtBy row values = builtOf (draftBy row values)
+
+-- 01's table, 7: "not of that kind" or "a 0 bit set", so a bit that the packet's table prints is another
+abbrev pub numberBy : Layout → ℕ → ℕ
+numberBy row n = numberUnless refusals.Packet (shows row n)
+
+-- the numbers in the packet's fields; after a refusal each is 0
+abbrev pub fieldsBy : Layout → ℕ → List ℕ
+fieldsBy row n = fieldsOf row (kept (shows row n) n)
 
 -- Table 9
 abbrev pub ofChecksum : Checksum → List ℕ

@@ -62,10 +62,10 @@ pub address-enable-example : addressEnableRead 0x78008001 ≡ record { number = 
 address-enable-example = refl
 
 -- Table 26: a word of a long address in the first location, and a tone-only one in the last
-pub user-address-example : userAddressRead 0x80400001 ≡ record { number = 0; fields = record { location = 0; long = 1; «tone_only» = 0; word = 1 } }
+pub user-address-example : userAddressRead 0x80400001 ≡ record { number = 0; fields = record { location = 0; «long_address» = 1; «tone_only» = 0; word = 1 } }
 user-address-example = refl
 
-pub tone-only-example : userAddressRead 0x8F208001 ≡ record { number = 0; fields = record { location = 15; long = 0; «tone_only» = 1; word = 0x8001 } }
+pub tone-only-example : userAddressRead 0x8F208001 ≡ record { number = 0; fields = record { location = 15; «long_address» = 0; «tone_only» = 1; word = 0x8001 } }
 tone-only-example = refl
 
 -- packets, each with 0 where the host may send it and 7 where it refuses

@@ -12,7 +12,8 @@ use Rattle.laws.specs.Choice.{every, everyAfter, implies}
 use Rattle.laws.specs.Layouts.{Layout, size, fieldsOf, maskOf, isRead, shows, fit, packed}
 use Rattle.laws.proofs.Counting.{allBelow, of-all-below}
 use Rattle.laws.proofs.Layouts.{laid, fit-read, packed-read-whole, read-packed, shown-bits, shows-packed}
-use Rattle.packet.specs.Names.{idOf, checksumID, configurationID, controlID, allFrameModeID, receiverLinesID, firstSettingID, lastSettingID, shutDown1ID, shutDown2ID, firstSpecialID, lastSpecialID, firstFramesID, lastFramesID, addressEnableID, firstUserAddressID, lastUserAddressID}
+use Rattle.packet.proofs.Laws.{fitting-built, read-built, built-read}
+use Rattle.packet.specs.Names.{idOf, among, checksumID, configurationID, controlID, allFrameModeID, receiverLinesID, firstSettingID, lastSettingID, shutDown1ID, shutDown2ID, firstSpecialID, lastSpecialID, firstFramesID, lastFramesID, addressEnableID, firstUserAddressID, lastUserAddressID}
 use Rattle.packet.specs.Tables.{checksum, configuration, control, allFrameMode, receiverLines, shutDown, frameAssignment, userAddress, addressEnable}
 use Rattle.packet.specs.Fields.{builtOf, builtBy, ofChecksum, asChecksum, ofConfiguration, asConfiguration, ofControl, asControl, ofAllFrameMode, asAllFrameMode, ofReceiverLines, asReceiverLines, ofShutDown, asShutDown, ofFrameAssignment, asFrameAssignment, ofUserAddress, asUserAddress, ofAddressEnable, asAddressEnable}
 use Rattle.packet.specs.declared.Checksum.{Checksum}
@@ -35,30 +36,7 @@ use Rattle.sent.specs.declared.AddressEnableRead.{AddressEnableRead}
 use Rattle.sent.specs.declared.UserAddressRead.{UserAddressRead}
 use Rattle.refusal.specs.Told.{numberUnless}
 use Rattle.refusal.specs.declared.Refusal.the-variants as refusals
-use Rattle.sent.specs.Reads.{numberBy, fieldsBy, checksumRead, configurationRead, controlRead, allFrameModeRead, receiverLinesRead, shutDownRead, frameAssignmentRead, userAddressRead, addressEnableRead, among, neverSent, maySend, sendOf}
-
--- fields that fit are built
-fitting-built : (row : Layout) (values : List ℕ) → fit row values ≡ true → builtBy row values ≡ record { number = 0; packet = record { bits = packed row values } }
-unfolding builtOf
-fitting-built row values e = rw e
-
--- 01's table, 7: "a field too large"
-pub refused-built : (row : Layout) (values : List ℕ) → fit row values ≡ false → builtBy row values ≡ record { number = 7; packet = record { bits = 0 } }
-unfolding builtOf
-refused-built row values e = rw e
-
--- 01's table, 7: "not of that kind" or "a 0 bit set"
-pub refused-read : (row : Layout) (n : ℕ) → shows row n ≡ false → numberBy row n ≡ 7
-refused-read row n e = rw e
-
--- whatever is told of number and fields, a packet that was built is told as 0 and its own fields
-read-built : {Answer : Type 0} (tell : ℕ → List ℕ → Answer) (row : Layout) (values : List ℕ) → T (laid row) → fit row values ≡ true → tell (numberBy row ((builtBy row values) .packet .bits)) (fieldsBy row ((builtBy row values) .packet .bits)) ≡ tell 0 values
-read-built tell row values t e = rw (fitting-built row values e, shows-packed row values t e, read-packed row values t e)
-
--- the fields that were read are built into the same packet
-built-read : (row : Layout) (n : ℕ) → T (laid row) → n < 2 ^ size row → shows row n ≡ true → maskOf isRead row ≡ 2 ^ size row - 1 → builtBy row (fieldsBy row n) ≡ record { number = 0; packet = record { bits = n } }
-built-read row n t h e whole =
-    rw (e, fitting-built row (fieldsOf row n) (fit-read row n), packed-read-whole row n t h e whole)
+use Rattle.sent.specs.Reads.{checksumRead, configurationRead, controlRead, allFrameModeRead, receiverLinesRead, shutDownRead, frameAssignmentRead, userAddressRead, addressEnableRead, neverSent, maySend, sendOf}
 
 -- There and back: what was built from fields that fit is read as these fields.
 

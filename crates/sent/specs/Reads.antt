@@ -1,15 +1,15 @@
 -- Reading back what the host sends, and what it may send at all (document 01, "Packets and the handshake").
 use Prim.Native.Nat.{ℕ}
 use mathlib.Core.Bool.{Bool, not, _&&_}
-use mathlib.Core.List.{List, [], _∷_}
+use mathlib.Core.List.{[], _∷_}
 use lib.Dec.{eqb}
 use Rattle.laws.specs.Choice.{some, every, implies}
-use Rattle.laws.specs.Layouts.{Layout, shows, fieldsOf}
-use Rattle.refusal.specs.Told.{numberUnless, kept}
+use Rattle.laws.specs.Layouts.{shows}
+use Rattle.refusal.specs.Told.{numberUnless}
 use Rattle.refusal.specs.declared.Refusal.the-variants as refusals
 use Rattle.packet.specs.Names.{idOf, among, configurationID, controlID, allFrameModeID, receiverLinesID, shutDown1ID, shutDown2ID, firstSpecialID, lastSpecialID, firstFramesID, lastFramesID, addressEnableID, firstUserAddressID, lastUserAddressID}
 use Rattle.packet.specs.Tables.{checksum, configuration, control, allFrameMode, receiverLines, shutDown, frameAssignment, userAddress, addressEnable}
-use Rattle.packet.specs.Fields.{asChecksum, asConfiguration, asControl, asAllFrameMode, asReceiverLines, asShutDown, asFrameAssignment, asUserAddress, asAddressEnable}
+use Rattle.packet.specs.Fields.{numberBy, fieldsBy, asChecksum, asConfiguration, asControl, asAllFrameMode, asReceiverLines, asShutDown, asFrameAssignment, asUserAddress, asAddressEnable}
 use Rattle.sent.specs.declared.ChecksumRead.{ChecksumRead}
 use Rattle.sent.specs.declared.ConfigurationRead.{ConfigurationRead}
 use Rattle.sent.specs.declared.ControlRead.{ControlRead}
@@ -20,14 +20,7 @@ use Rattle.sent.specs.declared.FrameAssignmentRead.{FrameAssignmentRead}
 use Rattle.sent.specs.declared.UserAddressRead.{UserAddressRead}
 use Rattle.sent.specs.declared.AddressEnableRead.{AddressEnableRead}
 
--- 01's table, 7: "not of that kind" or "a 0 bit set", so a bit that the packet's table prints is another
-abbrev pub numberBy : Layout → ℕ → ℕ
-numberBy row n = numberUnless refusals.Packet (shows row n)
-
--- the numbers in the packet's fields; after a refusal each is 0
-abbrev pub fieldsBy : Layout → ℕ → List ℕ
-fieldsBy row n = fieldsOf row (kept (shows row n) n)
-
+-- each packet by its own table
 abbrev pub checksumRead : ℕ → ChecksumRead
 checksumRead n = record { number = numberBy checksum n; fields = asChecksum (fieldsBy checksum n) }
 
