@@ -49,8 +49,8 @@
  *
  * Requests may be sent without waiting for answers. All answers so far are
  * written out before the program waits for more requests. The end of input
- * between two requests ends the program with status 0; a request that is cut or
- * unknown ends it with status 1 and a line on standard error.
+ * between two requests ends the program with status 0; a request that is cut,
+ * unknown or too long ends it with status 1 and a line on standard error.
  */
 
 /* The compiler comes without headers, but it knows the types. */

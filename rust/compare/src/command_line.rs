@@ -60,22 +60,8 @@ pub fn read(words: &[String]) -> Option<Task> {
             let seed = seed.unwrap_or(DEFAULT_SEED);
             Some(Task::Exports { exchange, seed })
         }
-        "packets" => {
-            let (words, extent) = words_and_extent(rest);
-            let (exchange, [seed]) = command_and_numbers(words, ["--seed"])?;
-            let seed = seed.unwrap_or(DEFAULT_SEED);
-            Some(Task::Packets {
-                exchange,
-                seed,
-                extent,
-            })
-        }
-        "start-up" => {
-            let (file, rest) = rest.split_first()?;
-            let (exchange, []) = command_and_numbers(rest, [])?;
-            let file = file.clone();
-            Some(Task::StartUp { file, exchange })
-        }
+        "packets" => read_packets(rest),
+        "start-up" => read_start_up(rest),
         "lines" => {
             let (listing, [count, seed]) = command_and_numbers(rest, ["--count", "--seed"])?;
             Some(Task::Lines {
@@ -101,19 +87,34 @@ pub fn read(words: &[String]) -> Option<Task> {
     }
 }
 
+/// The word that asks for the full extent comes last of all.
+fn read_packets(words: &[String]) -> Option<Task> {
+    let (words, extent) = match words {
+        [rest @ .., last] if last == "--full" => (rest, Extent::Full),
+        _ => (words, Extent::Usual),
+    };
+    let (exchange, [seed]) = command_and_numbers(words, ["--seed"])?;
+    Some(Task::Packets {
+        exchange,
+        seed: seed.unwrap_or(DEFAULT_SEED),
+        extent,
+    })
+}
+
+fn read_start_up(words: &[String]) -> Option<Task> {
+    let (file, command) = words.split_first()?;
+    let (exchange, []) = command_and_numbers(command, [])?;
+    Some(Task::StartUp {
+        file: file.clone(),
+        exchange,
+    })
+}
+
 fn count_and_seed(words: &[String]) -> Option<(u64, u64)> {
     match words {
         [count] => Some((count.parse().ok()?, DEFAULT_SEED)),
         [count, seed] => Some((count.parse().ok()?, seed.parse().ok()?)),
         _ => None,
-    }
-}
-
-/// The word that asks for the full extent comes last of all.
-fn words_and_extent(words: &[String]) -> (&[String], Extent) {
-    match words {
-        [rest @ .., last] if last == "--full" => (rest, Extent::Full),
-        _ => (words, Extent::Usual),
     }
 }
 

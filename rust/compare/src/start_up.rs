@@ -32,7 +32,7 @@ pub fn compare(path: &str, exchange: &[String]) -> Result<String, String> {
     let steps = rows.len() - 1;
     Ok(format!(
         "start-up: a reset, {steps} steps, the run of them and the closing checksum \
-         are as {path} has them"
+         are as {path} has them, and the {steps} packets may be sent"
     ))
 }
 
