@@ -1,8 +1,9 @@
 /*
- * The exchange: serves the exports of libhost.a over standard input and output,
- * so that a program of any machine can ask the proved library for its answers.
- * The library is built for x86-64 Linux alone; this program is linked with it,
- * needs nothing else, and runs under an emulator where the machine is another.
+ * The exchange: serves the exports of libhost.a, libhost_packet.a and
+ * libhost_mirror.a over standard input and output, so that a program of any
+ * machine can ask the proved library for its answers. The library is built for
+ * x86-64 Linux alone; this program is linked with it, needs nothing else, and
+ * runs under an emulator where the machine is another.
  *
  * A request is one byte, which names the export, and the arguments in their
  * order. The answer is the fields of the result in their order; document 01
@@ -21,10 +22,35 @@
  *   8  frames_wait       u8 from, u8 to
  *   9  frames_listened   16 times u8 frame, u8 collapse; then u32 count
  *
+ * From here on every number is a u32. A builder takes the fields of its packet
+ * in the order of its struct below; a reader takes a packet and answers the
+ * number and those fields, the fields of a struct within a struct in its place.
+ *
+ *  10  build_checksum            20  read_checksum
+ *  11  build_configuration       21  read_configuration
+ *  12  build_control             22  read_control
+ *  13  build_all_frame_mode      23  read_all_frame_mode
+ *  14  build_receiver_lines      24  read_receiver_lines
+ *  15  build_shut_down           25  read_shut_down
+ *  16  build_frame_assignment    26  read_frame_assignment
+ *  17  build_user_address        27  read_user_address
+ *  18  build_address_enable      28  read_address_enable
+ *  19  build_part_id             29  read_part_id
+ *
+ *  30  read_status       31  read_address
+ *  32  read_vector       33  read_message
+ *
+ *  34  may_send          packet; the answer is the number alone
+ *  35  mirror_reset      packet
+ *  36  mirror_step       register, talking; packet
+ *  37  mirror_run        register, talking; count, at most 4096, and that many
+ *                        packets
+ *  38  mirror_closing    register, talking
+ *
  * Requests may be sent without waiting for answers. All answers so far are
  * written out before the program waits for more requests. The end of input
- * between two requests ends the program with status 0; a request that is cut or
- * unknown ends it with status 1 and a line on standard error.
+ * between two requests ends the program with status 0; a request that is cut,
+ * unknown or too long ends it with status 1 and a line on standard error.
  */
 
 /* The compiler comes without headers, but it knows the types. */
@@ -108,6 +134,209 @@ struct length_answer mortisevane_capcode_print(uint8_t letter, uint8_t frame, ui
                                                uint64_t address, uint8_t *out, size_t out_length);
 struct wait_answer mortisevane_frames_wait(uint8_t from, uint8_t to);
 struct frames_answer mortisevane_frames_listened(struct listeners listeners);
+
+/* ---- The exports of libhost_packet.a ---- */
+
+struct checksum {
+    uint32_t value;
+};
+
+struct configuration {
+    uint32_t oscillator;
+    uint32_t polarity;
+    uint32_t synchronous_mode;
+    uint32_t maximum_off_time;
+    uint32_t clock_output_disable;
+    uint32_t minute_timer;
+    uint32_t low_battery_polarity;
+};
+
+struct control {
+    uint32_t forced_frames;
+    uint32_t single_phase;
+    uint32_t phase;
+    uint32_t block_information;
+    uint32_t minute_timer_clear;
+    uint32_t on;
+};
+
+struct all_frame_mode {
+    uint32_t decrement;
+    uint32_t force;
+    uint32_t decrement_temporary;
+};
+
+struct receiver_lines {
+    uint32_t forced;
+    uint32_t settings;
+};
+
+struct shut_down {
+    uint32_t setting;
+    uint32_t enable;
+    uint32_t low_battery_check;
+    uint32_t lines;
+    uint32_t time;
+};
+
+struct frame_assignment {
+    uint32_t range;
+    uint32_t frames;
+};
+
+struct user_address {
+    uint32_t location;
+    uint32_t long_address;
+    uint32_t tone_only;
+    uint32_t word;
+};
+
+struct address_enable {
+    uint32_t enabled;
+};
+
+struct part_id {
+    uint32_t model;
+    uint32_t compatibility;
+    uint32_t revision;
+};
+
+struct status {
+    uint32_t frame_valid;
+    uint32_t frame;
+    uint32_t synchronous;
+    uint32_t low_battery;
+    uint32_t cycle;
+    uint32_t synchronous_update;
+    uint32_t low_battery_update;
+    uint32_t minute;
+    uint32_t end_of_frame;
+    uint32_t overflow;
+};
+
+struct address {
+    uint32_t priority;
+    uint32_t phase;
+    uint32_t long_address;
+    uint32_t address;
+    uint32_t tone_only;
+    uint32_t vector;
+};
+
+struct span {
+    uint32_t check;
+    uint32_t words;
+    uint32_t start;
+};
+
+struct short_message {
+    uint32_t kind;
+    uint32_t first;
+    uint32_t second;
+    uint32_t third;
+    uint32_t source;
+    uint32_t retrieval;
+    uint32_t message;
+    uint32_t unread;
+};
+
+struct instruction {
+    uint32_t kind;
+    uint32_t address;
+    uint32_t frame;
+    uint32_t unread;
+};
+
+struct vector {
+    uint32_t word;
+    uint32_t damaged;
+    uint32_t phase;
+    uint32_t kind;
+    struct span span;
+    struct short_message short_message;
+    struct instruction instruction;
+};
+
+struct message {
+    uint32_t word;
+    uint32_t damaged;
+    uint32_t phase;
+    uint32_t bits;
+};
+
+struct built {
+    uint32_t number;
+    uint32_t packet;
+};
+
+/* What a reader answers has one form: the number, and the fields of its kind. */
+#define READ_ANSWER(kind)   \
+    struct kind##_read {    \
+        uint32_t number;    \
+        struct kind fields; \
+    }
+
+READ_ANSWER(checksum);
+READ_ANSWER(configuration);
+READ_ANSWER(control);
+READ_ANSWER(all_frame_mode);
+READ_ANSWER(receiver_lines);
+READ_ANSWER(shut_down);
+READ_ANSWER(frame_assignment);
+READ_ANSWER(user_address);
+READ_ANSWER(address_enable);
+READ_ANSWER(part_id);
+READ_ANSWER(status);
+READ_ANSWER(address);
+READ_ANSWER(vector);
+READ_ANSWER(message);
+
+struct built mortisevane_build_checksum(struct checksum fields);
+struct built mortisevane_build_configuration(struct configuration fields);
+struct built mortisevane_build_control(struct control fields);
+struct built mortisevane_build_all_frame_mode(struct all_frame_mode fields);
+struct built mortisevane_build_receiver_lines(struct receiver_lines fields);
+struct built mortisevane_build_shut_down(struct shut_down fields);
+struct built mortisevane_build_frame_assignment(struct frame_assignment fields);
+struct built mortisevane_build_user_address(struct user_address fields);
+struct built mortisevane_build_address_enable(struct address_enable fields);
+struct built mortisevane_build_part_id(struct part_id fields);
+
+struct checksum_read mortisevane_read_checksum(uint32_t packet);
+struct configuration_read mortisevane_read_configuration(uint32_t packet);
+struct control_read mortisevane_read_control(uint32_t packet);
+struct all_frame_mode_read mortisevane_read_all_frame_mode(uint32_t packet);
+struct receiver_lines_read mortisevane_read_receiver_lines(uint32_t packet);
+struct shut_down_read mortisevane_read_shut_down(uint32_t packet);
+struct frame_assignment_read mortisevane_read_frame_assignment(uint32_t packet);
+struct user_address_read mortisevane_read_user_address(uint32_t packet);
+struct address_enable_read mortisevane_read_address_enable(uint32_t packet);
+struct part_id_read mortisevane_read_part_id(uint32_t packet);
+struct status_read mortisevane_read_status(uint32_t packet);
+struct address_read mortisevane_read_address(uint32_t packet);
+struct vector_read mortisevane_read_vector(uint32_t packet);
+struct message_read mortisevane_read_message(uint32_t packet);
+
+uint32_t mortisevane_may_send(uint32_t packet);
+
+/* ---- The exports of libhost_mirror.a ---- */
+
+/* `register` is a word of C's own. */
+struct mirror {
+    uint32_t sum_register;
+    uint32_t talking;
+};
+
+struct mirrored {
+    uint32_t number;
+    struct mirror mirror;
+};
+
+struct mirrored mortisevane_mirror_reset(uint32_t packet);
+struct mirrored mortisevane_mirror_step(struct mirror mirror, uint32_t packet);
+struct mirrored mortisevane_mirror_run(struct mirror mirror, const uint32_t *packets,
+                                       size_t count);
+struct built mortisevane_mirror_closing(struct mirror mirror);
 
 /* ---- What a compiler may call by itself, and no C library is here to give ---- */
 
@@ -276,15 +505,37 @@ static void give_bytes(const uint8_t *from, size_t length)
         give_u8(from[place]);
 }
 
+/*
+ * The structs of packets and of the mirror hold numbers of 32 bits and nothing
+ * else, so they go through number by number, without naming the fields again.
+ */
+static void take_numbers(void *to, size_t size)
+{
+    for (size_t place = 0; place < size; place += sizeof(uint32_t)) {
+        uint32_t number = take_u32();
+        memcpy((uint8_t *)to + place, &number, sizeof number);
+    }
+}
+
+static void give_numbers(const void *from, size_t size)
+{
+    for (size_t place = 0; place < size; place += sizeof(uint32_t)) {
+        uint32_t number;
+        memcpy(&number, (const uint8_t *)from + place, sizeof number);
+        give_u32(number);
+    }
+}
+
 /* ---- Lent buffers ---- */
 
 /*
  * A lent buffer stands between guards, and the library may touch neither: 01
  * has each function state all that lent memory holds after it.
  */
-enum { LONGEST_LENT = 255, GUARD_LENGTH = 16, GUARD_BYTE = 0xA5 };
+enum { MOST_PACKETS = 4096, LONGEST_LENT = MOST_PACKETS * sizeof(uint32_t) };
+enum { GUARD_LENGTH = 16, GUARD_BYTE = 0xA5 };
 
-static uint8_t lent_memory[GUARD_LENGTH + LONGEST_LENT + GUARD_LENGTH];
+static _Alignas(GUARD_LENGTH) uint8_t lent_memory[GUARD_LENGTH + LONGEST_LENT + GUARD_LENGTH];
 static uint8_t *const lent_buffer = lent_memory + GUARD_LENGTH;
 
 /* Takes what stands in the buffer before the call. */
@@ -301,6 +552,18 @@ static void check_guards(size_t length)
     for (size_t place = 0; place < GUARD_LENGTH; place++)
         if (lent_memory[place] != GUARD_BYTE || lent_buffer[length + place] != GUARD_BYTE)
             fail("exchange: the library wrote outside the buffer it was lent\n");
+}
+
+/* Of what is lent for reading only, nothing may be changed either. */
+static uint8_t lent_before[LONGEST_LENT];
+
+static void remember_lent_buffer(size_t length) { memcpy(lent_before, lent_buffer, length); }
+
+static void check_unchanged(size_t length)
+{
+    for (size_t place = 0; place < length; place++)
+        if (lent_buffer[place] != lent_before[place])
+            fail("exchange: the library wrote into a buffer it was lent for reading\n");
 }
 
 /* ---- One function for each export ---- */
@@ -407,6 +670,93 @@ static void serve_frames_listened(void)
         give_u16(answer.masks[packet]);
 }
 
+/* A builder: the fields in, the packet out. */
+#define SERVE_BUILD(kind)                                          \
+    static void serve_build_##kind(void)                           \
+    {                                                              \
+        struct kind fields;                                        \
+        take_numbers(&fields, sizeof fields);                      \
+        struct built answer = mortisevane_build_##kind(fields);    \
+        give_numbers(&answer, sizeof answer);                      \
+    }
+
+SERVE_BUILD(checksum)
+SERVE_BUILD(configuration)
+SERVE_BUILD(control)
+SERVE_BUILD(all_frame_mode)
+SERVE_BUILD(receiver_lines)
+SERVE_BUILD(shut_down)
+SERVE_BUILD(frame_assignment)
+SERVE_BUILD(user_address)
+SERVE_BUILD(address_enable)
+SERVE_BUILD(part_id)
+
+/* A reader: the packet in, the number and the fields out. */
+#define SERVE_READ(kind)                                                  \
+    static void serve_read_##kind(void)                                   \
+    {                                                                     \
+        struct kind##_read answer = mortisevane_read_##kind(take_u32());  \
+        give_numbers(&answer, sizeof answer);                             \
+    }
+
+SERVE_READ(checksum)
+SERVE_READ(configuration)
+SERVE_READ(control)
+SERVE_READ(all_frame_mode)
+SERVE_READ(receiver_lines)
+SERVE_READ(shut_down)
+SERVE_READ(frame_assignment)
+SERVE_READ(user_address)
+SERVE_READ(address_enable)
+SERVE_READ(part_id)
+SERVE_READ(status)
+SERVE_READ(address)
+SERVE_READ(vector)
+SERVE_READ(message)
+
+static void serve_may_send(void) { give_u32(mortisevane_may_send(take_u32())); }
+
+static void give_mirrored(struct mirrored answer) { give_numbers(&answer, sizeof answer); }
+
+static struct mirror take_mirror(void)
+{
+    struct mirror mirror;
+    take_numbers(&mirror, sizeof mirror);
+    return mirror;
+}
+
+static void serve_mirror_reset(void) { give_mirrored(mortisevane_mirror_reset(take_u32())); }
+
+static void serve_mirror_step(void)
+{
+    struct mirror mirror = take_mirror();
+    uint32_t packet = take_u32();
+    give_mirrored(mortisevane_mirror_step(mirror, packet));
+}
+
+static void serve_mirror_run(void)
+{
+    struct mirror mirror = take_mirror();
+    uint32_t count = take_u32();
+    if (count > MOST_PACKETS)
+        fail("exchange: a request has more packets than can be lent\n");
+    /* A request's bytes are those of the numbers in memory: both are little-endian. */
+    size_t length = count * sizeof(uint32_t);
+    take_lent_buffer(length);
+    remember_lent_buffer(length);
+    const void *packets = lent_buffer;
+    struct mirrored answer = mortisevane_mirror_run(mirror, packets, count);
+    check_guards(length);
+    check_unchanged(length);
+    give_mirrored(answer);
+}
+
+static void serve_mirror_closing(void)
+{
+    struct built answer = mortisevane_mirror_closing(take_mirror());
+    give_numbers(&answer, sizeof answer);
+}
+
 /* ---- Which byte names which export ---- */
 
 static void (*const exports[])(void) = {
@@ -419,6 +769,35 @@ static void (*const exports[])(void) = {
     [7] = serve_capcode_print,
     [8] = serve_frames_wait,
     [9] = serve_frames_listened,
+    [10] = serve_build_checksum,
+    [11] = serve_build_configuration,
+    [12] = serve_build_control,
+    [13] = serve_build_all_frame_mode,
+    [14] = serve_build_receiver_lines,
+    [15] = serve_build_shut_down,
+    [16] = serve_build_frame_assignment,
+    [17] = serve_build_user_address,
+    [18] = serve_build_address_enable,
+    [19] = serve_build_part_id,
+    [20] = serve_read_checksum,
+    [21] = serve_read_configuration,
+    [22] = serve_read_control,
+    [23] = serve_read_all_frame_mode,
+    [24] = serve_read_receiver_lines,
+    [25] = serve_read_shut_down,
+    [26] = serve_read_frame_assignment,
+    [27] = serve_read_user_address,
+    [28] = serve_read_address_enable,
+    [29] = serve_read_part_id,
+    [30] = serve_read_status,
+    [31] = serve_read_address,
+    [32] = serve_read_vector,
+    [33] = serve_read_message,
+    [34] = serve_may_send,
+    [35] = serve_mirror_reset,
+    [36] = serve_mirror_step,
+    [37] = serve_mirror_run,
+    [38] = serve_mirror_closing,
 };
 
 static void serve_request(uint8_t export)

@@ -1,9 +1,13 @@
 //! What the command line asks for.
 
+use crate::packets::Extent;
+
 const DEFAULT_LINES: u64 = 200_000;
 const DEFAULT_SEED: u64 = 5008;
 
 pub const USAGE: &str = "usage: compare exports EXCHANGE_COMMAND.. [--seed NUMBER]
+       compare packets EXCHANGE_COMMAND.. [--seed NUMBER] [--full]
+       compare start-up FILE EXCHANGE_COMMAND..
        compare lines LISTING_COMMAND.. [--count NUMBER] [--seed NUMBER]
        compare edges LISTING_COMMAND..
        compare write-lines COUNT [SEED]
@@ -18,6 +22,15 @@ pub enum Task {
     Exports {
         exchange: Vec<String>,
         seed: u64,
+    },
+    Packets {
+        exchange: Vec<String>,
+        seed: u64,
+        extent: Extent,
+    },
+    StartUp {
+        file: String,
+        exchange: Vec<String>,
     },
     Lines {
         listing: Vec<String>,
@@ -47,6 +60,8 @@ pub fn read(words: &[String]) -> Option<Task> {
             let seed = seed.unwrap_or(DEFAULT_SEED);
             Some(Task::Exports { exchange, seed })
         }
+        "packets" => read_packets(rest),
+        "start-up" => read_start_up(rest),
         "lines" => {
             let (listing, [count, seed]) = command_and_numbers(rest, ["--count", "--seed"])?;
             Some(Task::Lines {
@@ -70,6 +85,29 @@ pub fn read(words: &[String]) -> Option<Task> {
         "copy-lines" if rest.is_empty() => Some(Task::CopyLines),
         _ => None,
     }
+}
+
+/// The word that asks for the full extent comes last of all.
+fn read_packets(words: &[String]) -> Option<Task> {
+    let (words, extent) = match words {
+        [rest @ .., last] if last == "--full" => (rest, Extent::Full),
+        _ => (words, Extent::Usual),
+    };
+    let (exchange, [seed]) = command_and_numbers(words, ["--seed"])?;
+    Some(Task::Packets {
+        exchange,
+        seed: seed.unwrap_or(DEFAULT_SEED),
+        extent,
+    })
+}
+
+fn read_start_up(words: &[String]) -> Option<Task> {
+    let (file, command) = words.split_first()?;
+    let (exchange, []) = command_and_numbers(command, [])?;
+    Some(Task::StartUp {
+        file: file.clone(),
+        exchange,
+    })
 }
 
 fn count_and_seed(words: &[String]) -> Option<(u64, u64)> {
@@ -134,6 +172,33 @@ mod tests {
     }
 
     #[test]
+    fn packets_to_either_extent() {
+        for (line, seed, extent) in [
+            ("packets run exchange", DEFAULT_SEED, Extent::Usual),
+            ("packets run exchange --seed 7", 7, Extent::Usual),
+            ("packets run exchange --full", DEFAULT_SEED, Extent::Full),
+            ("packets run exchange --seed 7 --full", 7, Extent::Full),
+        ] {
+            let exchange = words("run exchange");
+            let task = Task::Packets {
+                exchange,
+                seed,
+                extent,
+            };
+            assert_eq!(read(&words(line)), Some(task), "{line}");
+        }
+    }
+
+    #[test]
+    fn a_start_up_has_a_file_and_a_command() {
+        let task = Task::StartUp {
+            file: "table.md".to_string(),
+            exchange: words("run exchange"),
+        };
+        assert_eq!(read(&words("start-up table.md run exchange")), Some(task));
+    }
+
+    #[test]
     fn slips_are_no_task() {
         for line in [
             "",
@@ -142,6 +207,12 @@ mod tests {
             "exports --seed 1",
             "exports run --seed",
             "exports run --seed one",
+            "packets",
+            "packets --full",
+            "packets --seed 1",
+            "packets run --seed --full",
+            "start-up",
+            "start-up table.md",
             "lines --count 5",
             "edges",
             "write-lines",

@@ -9,6 +9,8 @@ use std::sync::mpsc::{channel, Receiver, Sender};
 use std::thread;
 use std::time::Duration;
 
+use second::numbers::Numbers;
+
 use crate::child::start;
 
 /// Requests that are written in one piece.
@@ -68,6 +70,15 @@ impl Fields {
         Ok(bytes)
     }
 
+    /// A struct whose numbers are all u32.
+    pub fn numbers<N: Numbers>(&mut self) -> io::Result<N> {
+        let bytes = self.bytes(N::COUNT * size_of::<u32>())?;
+        let numbers = bytes.chunks_exact(size_of::<u32>());
+        Ok(N::from_numbers(&mut numbers.map(|number| {
+            u32::from_le_bytes(number.try_into().expect("the chunks are that large"))
+        })))
+    }
+
     fn are_over(&mut self) -> io::Result<bool> {
         Ok(self.output.read(&mut [0])? == 0)
     }
@@ -87,6 +98,15 @@ pub fn compare<R: Request>(
     command: &[String],
     requests: impl Iterator<Item = R> + Send,
 ) -> Result<usize, String> {
+    compare_and_show(command, requests, |_| {})
+}
+
+/// As `compare`, and shows each answer on which both agree.
+pub fn compare_and_show<R: Request>(
+    command: &[String],
+    requests: impl Iterator<Item = R> + Send,
+    show: impl FnMut(&R::Answer),
+) -> Result<usize, String> {
     let name = command.join(" ");
     let mut child = start(command).map_err(|error| format!("{name}: cannot start: {error}"))?;
     let stdin = child.stdin.take().expect("the input is a pipe");
@@ -97,7 +117,7 @@ pub fn compare<R: Request>(
     let (sender, pieces) = channel();
     let (compared, ending) = thread::scope(|scope| {
         scope.spawn(move || ask(requests, stdin, sender));
-        let compared = compare_answers(pieces, output);
+        let compared = compare_answers(pieces, output, show);
         (compared, end(&mut child))
     });
     let ending = ending.map_err(|error| format!("{name}: {error}"))?;
@@ -138,13 +158,14 @@ fn ask<R: Request>(
 fn compare_answers<R: Request>(
     pieces: Receiver<Vec<R>>,
     output: ChildStdout,
+    mut show: impl FnMut(&R::Answer),
 ) -> Result<usize, Break> {
     let output = BufReader::with_capacity(READ_BYTES, output);
     let mut fields = Fields { output };
     let mut count = 0;
     for piece in pieces {
         for request in piece {
-            compare_answer(&request, &mut fields, count)?;
+            show(&compare_answer(&request, &mut fields, count)?);
             count += 1;
         }
     }
@@ -161,13 +182,13 @@ fn compare_answer<R: Request>(
     request: &R,
     fields: &mut Fields,
     answered: usize,
-) -> Result<(), Break> {
+) -> Result<R::Answer, Break> {
     let library = request
         .library(fields)
         .map_err(|error| missing_answer(request, answered, &error))?;
     let second = request.second();
     if library == second {
-        return Ok(());
+        return Ok(library);
     }
     Err(Break::Difference(format!(
         "{}\n  library {library:?}\n  second  {second:?}",
@@ -246,6 +267,16 @@ mod tests {
         assert_eq!(compare_with("cat", 0), Ok(0));
         assert_eq!(compare_with("cat", 1), Ok(1));
         assert_eq!(compare_with("cat", 300_000), Ok(300_000));
+    }
+
+    #[test]
+    fn answers_are_shown_in_their_order() {
+        let mut shown = Vec::new();
+        let command = ["cat".to_string()];
+        let requests = (0..5_000).map(|number| Echo { number });
+        let compared = compare_and_show(&command, requests, |answer| shown.push(answer.1));
+        assert_eq!(compared, Ok(5_000));
+        assert!(shown.into_iter().eq(0..5_000));
     }
 
     /// Far more than the pipes hold is asked before the first answer comes;

@@ -4,6 +4,8 @@
 
 use std::io;
 
+use second::numbers::Numbers;
+
 use crate::exchange::Fields;
 
 /// How many listeners the library takes at most.
@@ -159,6 +161,23 @@ impl MortisevaneWait {
         Ok(MortisevaneWait {
             number: fields.u32()?,
             frames: fields.u32()?,
+        })
+    }
+}
+
+/// An answer of packets and of the mirror, all of which have one form: the
+/// number, and the fields that are told with it.
+#[derive(Clone, Copy, Debug, Default, PartialEq, Eq)]
+pub struct Told<F> {
+    pub number: u32,
+    pub fields: F,
+}
+
+impl<F: Numbers> Told<F> {
+    pub fn read(fields: &mut Fields) -> io::Result<Self> {
+        Ok(Told {
+            number: fields.u32()?,
+            fields: fields.numbers()?,
         })
     }
 }

@@ -10,7 +10,10 @@ mod exports;
 mod host;
 mod lines;
 mod listing_program;
+mod packets;
 mod random;
+mod start_up;
+mod tally;
 mod texts;
 mod yardstick;
 
@@ -38,6 +41,12 @@ fn main() -> ExitCode {
 fn carry_out(task: &Task) -> Result<(), String> {
     let compared = match task {
         Task::Exports { exchange, seed } => exports::compare(exchange, *seed)?,
+        Task::Packets {
+            exchange,
+            seed,
+            extent,
+        } => packets::compare(exchange, *seed, *extent)?,
+        Task::StartUp { file, exchange } => start_up::compare(file, exchange)?,
         Task::Lines {
             listing,
             count,

@@ -3,10 +3,13 @@
 use second::address::{self, Words};
 use second::capcode::{self, Capcode};
 use second::frames::{self, Listener};
+use second::mirror::Mirror;
+use second::refusal::Refusal;
 
 use crate::host::{
     MortisevaneAddress, MortisevaneAssignment, MortisevaneCapcode, MortisevaneClass,
     MortisevaneFrames, MortisevaneLength, MortisevaneListeners, MortisevaneWait, MortisevaneWords,
+    Told,
 };
 
 /// An answer of no: its number, and 0 in every other field.
@@ -112,5 +115,21 @@ pub fn frames_wait(from: u8, to: u8) -> MortisevaneWait {
     match frames::frames_wait(from, to) {
         Ok(frames) => MortisevaneWait { number: 0, frames },
         Err(refusal) => refused!(MortisevaneWait, refusal),
+    }
+}
+
+/// The answer of a builder, a reader or a reset, and whether a packet may be sent.
+pub fn told<F: Default>(answer: Result<F, Refusal>) -> Told<F> {
+    answer.map_or_else(
+        |refusal| refused!(Told, refusal),
+        |fields| Told { number: 0, fields },
+    )
+}
+
+/// The answer of a mirror that goes on; refused, it comes back as it was.
+pub fn mirrored(before: Mirror, after: Result<Mirror, Refusal>) -> Told<Mirror> {
+    Told {
+        fields: after.unwrap_or(before),
+        ..told(after)
     }
 }

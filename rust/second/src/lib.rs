@@ -6,5 +6,11 @@
 pub mod address;
 pub mod capcode;
 pub mod frames;
+pub mod heard;
+pub mod layout;
 pub mod listing;
+pub mod mirror;
+pub mod numbers;
+pub mod packet;
 pub mod refusal;
+pub mod vector;

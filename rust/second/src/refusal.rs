@@ -5,6 +5,8 @@
 pub enum Refusal {
     /// A lent buffer is shorter than the answer needs.
     Room = 1,
+    /// The mirror's register has over 24 bits.
+    State = 2,
     /// A CAPCODE text is not in the form.
     Text = 3,
     /// The form is right, but the letter is I to L or Z.
@@ -13,8 +15,11 @@ pub enum Refusal {
     Range = 5,
     /// The address is below its letter's offset.
     Offset = 6,
-    /// A field is too large: frame over 127, collapse over 5.
+    /// A packet that is not to be sent or not of that kind, or with a 0 bit
+    /// set; a field too large, such as a frame over 127 or a collapse over 5.
     Packet = 7,
+    /// The address number is not 0 to 31.
+    Address = 8,
     /// Over 16 addresses.
     Size = 9,
 }
