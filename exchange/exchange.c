@@ -1,9 +1,9 @@
 /*
- * The exchange: serves the exports of libhost.a, libhost_packet.a and
- * libhost_mirror.a over standard input and output, so that a program of any
- * machine can ask the proved library for its answers. The library is built for
- * x86-64 Linux alone; this program is linked with it, needs nothing else, and
- * runs under an emulator where the machine is another.
+ * The exchange: serves the exports of the archives libhost_*.a over standard
+ * input and output, so that a program of any machine can ask the proved library
+ * for its answers. The library is built for x86-64 Linux alone; this program is
+ * linked with it, needs nothing else, and runs under an emulator where the
+ * machine is another.
  *
  * A request is one byte, which names the export, and the arguments in their
  * order. The answer is the fields of the result in their order; document 01
@@ -60,7 +60,7 @@ typedef __UINT32_TYPE__ uint32_t;
 typedef __UINT64_TYPE__ uint64_t;
 typedef __SIZE_TYPE__ size_t;
 
-/* ---- The exports of libhost.a, as crates/host declares them ---- */
+/* ---- The exports of libhost_address.a, libhost_capcode.a and libhost_frames.a ---- */
 
 enum { MOST_LISTENERS = 16, FRAME_PACKETS = 8 };
 

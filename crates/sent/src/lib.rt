@@ -3,7 +3,7 @@
 // prints as 0, is refused (7), and its fields read 0.
 ghost use mathlib.Core.Path.{_≡_};
 ghost use mathlib.Core.Bool.{not};
-ghost use Rattle.laws.specs.Layouts.{shows, fieldsOf};
+ghost use Rattle.laws.specs.Layouts.{fieldsOf};
 ghost use Rattle.packet.specs.Tables.{checksum, configuration, control, allFrameMode, receiverLines, shutDown, frameAssignment, userAddress, addressEnable};
 ghost use Rattle.packet.specs.Fields.{asChecksum, asConfiguration, asControl, asAllFrameMode, asReceiverLines, asShutDown, asFrameAssignment, asUserAddress, asAddressEnable};
 ghost use Rattle.sent.specs.Reads.{checksumRead, configurationRead, controlRead, allFrameModeRead, receiverLinesRead, shutDownRead, frameAssignmentRead, userAddressRead, addressEnableRead, neverSent, zerosRight, sendOf};
@@ -83,11 +83,24 @@ pub struct AddressEnableRead {
     pub fields: AddressEnable,
 }
 
-fn is_checksum(bits: u32) -> bool
-    ensures { λ r. ⌜ r ≡ shows checksum bits ⌝ }
-{
-    bits & 0xFF00_0000 == Packet::CHECKSUM << 24
-}
+// The bits that each packet's table prints, its ID and every 0: the table as a mask.
+const CHECKSUM_PRINTED: u32 = 0xFF00_0000; // Table 9
+
+const CONFIGURATION_PRINTED: u32 = 0xFFFC_FC07; // Table 5
+
+const CONTROL_PRINTED: u32 = 0xFF00_8FAE; // Table 11
+
+const ALL_FRAME_MODE_PRINTED: u32 = 0xFF3F_0000; // Table 56
+
+const RECEIVER_LINES_PRINTED: u32 = 0xFFFF_0000; // Table 19
+
+const SHUT_DOWN_PRINTED: u32 = 0xFE77_00C0; // Table 21
+
+const FRAME_ASSIGNMENT_PRINTED: u32 = 0xF8FF_0000; // Table 29
+
+const USER_ADDRESS_PRINTED: u32 = 0xF080_0000; // Table 26
+
+const ADDRESS_ENABLE_PRINTED: u32 = 0xFFFF_0000; // Table 27
 
 fn checksum_of(bits: u32) -> Checksum
     ensures { λ r. ⌜ r ≡ asChecksum (fieldsOf checksum bits) ⌝ }
@@ -102,17 +115,11 @@ pub fn read_checksum(packet: Packet) -> ChecksumRead
     ensures { λ r. ⌜ r ≡ checksumRead (packet .bits) ⌝ }
 {
     let bits = packet.bits;
-    let good = is_checksum(bits);
+    let good = bits & CHECKSUM_PRINTED == Packet::CHECKSUM << 24;
     ChecksumRead {
         number: Refusal::Packet.unless(good),
         fields: checksum_of(kept(good, bits)),
     }
-}
-
-fn is_configuration(bits: u32) -> bool
-    ensures { λ r. ⌜ r ≡ shows configuration bits ⌝ }
-{
-    bits & 0xFFFC_FC07 == Packet::CONFIGURATION << 24
 }
 
 fn configuration_of(bits: u32) -> Configuration
@@ -134,17 +141,11 @@ pub fn read_configuration(packet: Packet) -> ConfigurationRead
     ensures { λ r. ⌜ r ≡ configurationRead (packet .bits) ⌝ }
 {
     let bits = packet.bits;
-    let good = is_configuration(bits);
+    let good = bits & CONFIGURATION_PRINTED == Packet::CONFIGURATION << 24;
     ConfigurationRead {
         number: Refusal::Packet.unless(good),
         fields: configuration_of(kept(good, bits)),
     }
-}
-
-fn is_control(bits: u32) -> bool
-    ensures { λ r. ⌜ r ≡ shows control bits ⌝ }
-{
-    bits & 0xFF00_8FAE == Packet::CONTROL << 24
 }
 
 fn control_of(bits: u32) -> Control
@@ -165,17 +166,11 @@ pub fn read_control(packet: Packet) -> ControlRead
     ensures { λ r. ⌜ r ≡ controlRead (packet .bits) ⌝ }
 {
     let bits = packet.bits;
-    let good = is_control(bits);
+    let good = bits & CONTROL_PRINTED == Packet::CONTROL << 24;
     ControlRead {
         number: Refusal::Packet.unless(good),
         fields: control_of(kept(good, bits)),
     }
-}
-
-fn is_all_frame_mode(bits: u32) -> bool
-    ensures { λ r. ⌜ r ≡ shows allFrameMode bits ⌝ }
-{
-    bits & 0xFF3F_0000 == Packet::ALL_FRAME_MODE << 24
 }
 
 fn all_frame_mode_of(bits: u32) -> AllFrameMode
@@ -193,17 +188,11 @@ pub fn read_all_frame_mode(packet: Packet) -> AllFrameModeRead
     ensures { λ r. ⌜ r ≡ allFrameModeRead (packet .bits) ⌝ }
 {
     let bits = packet.bits;
-    let good = is_all_frame_mode(bits);
+    let good = bits & ALL_FRAME_MODE_PRINTED == Packet::ALL_FRAME_MODE << 24;
     AllFrameModeRead {
         number: Refusal::Packet.unless(good),
         fields: all_frame_mode_of(kept(good, bits)),
     }
-}
-
-fn is_receiver_lines(bits: u32) -> bool
-    ensures { λ r. ⌜ r ≡ shows receiverLines bits ⌝ }
-{
-    bits & 0xFFFF_0000 == Packet::RECEIVER_LINES << 24
 }
 
 fn receiver_lines_of(bits: u32) -> ReceiverLines
@@ -220,17 +209,11 @@ pub fn read_receiver_lines(packet: Packet) -> ReceiverLinesRead
     ensures { λ r. ⌜ r ≡ receiverLinesRead (packet .bits) ⌝ }
 {
     let bits = packet.bits;
-    let good = is_receiver_lines(bits);
+    let good = bits & RECEIVER_LINES_PRINTED == Packet::RECEIVER_LINES << 24;
     ReceiverLinesRead {
         number: Refusal::Packet.unless(good),
         fields: receiver_lines_of(kept(good, bits)),
     }
-}
-
-fn is_shut_down(bits: u32) -> bool
-    ensures { λ r. ⌜ r ≡ shows shutDown bits ⌝ }
-{
-    bits & 0xFE77_00C0 == Packet::SHUT_DOWN_1 << 24
 }
 
 fn shut_down_of(bits: u32) -> ShutDown
@@ -250,17 +233,11 @@ pub fn read_shut_down(packet: Packet) -> ShutDownRead
     ensures { λ r. ⌜ r ≡ shutDownRead (packet .bits) ⌝ }
 {
     let bits = packet.bits;
-    let good = is_shut_down(bits);
+    let good = bits & SHUT_DOWN_PRINTED == Packet::SHUT_DOWN_1 << 24;
     ShutDownRead {
         number: Refusal::Packet.unless(good),
         fields: shut_down_of(kept(good, bits)),
     }
-}
-
-fn is_frame_assignment(bits: u32) -> bool
-    ensures { λ r. ⌜ r ≡ shows frameAssignment bits ⌝ }
-{
-    bits & 0xF8FF_0000 == Packet::FIRST_FRAMES << 24
 }
 
 fn frame_assignment_of(bits: u32) -> FrameAssignment
@@ -277,17 +254,11 @@ pub fn read_frame_assignment(packet: Packet) -> FrameAssignmentRead
     ensures { λ r. ⌜ r ≡ frameAssignmentRead (packet .bits) ⌝ }
 {
     let bits = packet.bits;
-    let good = is_frame_assignment(bits);
+    let good = bits & FRAME_ASSIGNMENT_PRINTED == Packet::FIRST_FRAMES << 24;
     FrameAssignmentRead {
         number: Refusal::Packet.unless(good),
         fields: frame_assignment_of(kept(good, bits)),
     }
-}
-
-fn is_user_address(bits: u32) -> bool
-    ensures { λ r. ⌜ r ≡ shows userAddress bits ⌝ }
-{
-    bits & 0xF080_0000 == Packet::FIRST_USER_ADDRESS << 24
 }
 
 fn user_address_of(bits: u32) -> UserAddress
@@ -306,17 +277,11 @@ pub fn read_user_address(packet: Packet) -> UserAddressRead
     ensures { λ r. ⌜ r ≡ userAddressRead (packet .bits) ⌝ }
 {
     let bits = packet.bits;
-    let good = is_user_address(bits);
+    let good = bits & USER_ADDRESS_PRINTED == Packet::FIRST_USER_ADDRESS << 24;
     UserAddressRead {
         number: Refusal::Packet.unless(good),
         fields: user_address_of(kept(good, bits)),
     }
-}
-
-fn is_address_enable(bits: u32) -> bool
-    ensures { λ r. ⌜ r ≡ shows addressEnable bits ⌝ }
-{
-    bits & 0xFFFF_0000 == Packet::ADDRESS_ENABLE << 24
 }
 
 fn address_enable_of(bits: u32) -> AddressEnable
@@ -332,7 +297,7 @@ pub fn read_address_enable(packet: Packet) -> AddressEnableRead
     ensures { λ r. ⌜ r ≡ addressEnableRead (packet .bits) ⌝ }
 {
     let bits = packet.bits;
-    let good = is_address_enable(bits);
+    let good = bits & ADDRESS_ENABLE_PRINTED == Packet::ADDRESS_ENABLE << 24;
     AddressEnableRead {
         number: Refusal::Packet.unless(good),
         fields: address_enable_of(kept(good, bits)),
@@ -356,16 +321,20 @@ fn zeros_right(bits: u32) -> bool
     ensures { λ r. ⌜ r ≡ zerosRight bits ⌝ }
 {
     let id = bits >> 24;
-    ((id != Packet::CONFIGURATION) | is_configuration(bits))
-        & ((id != Packet::CONTROL) | is_control(bits))
-        & ((id != Packet::ALL_FRAME_MODE) | is_all_frame_mode(bits))
-        & ((id != Packet::RECEIVER_LINES) | is_receiver_lines(bits))
-        & (!((Packet::SHUT_DOWN_1 <= id) & (id <= Packet::SHUT_DOWN_2)) | is_shut_down(bits))
+    ((id != Packet::CONFIGURATION) | (bits & CONFIGURATION_PRINTED == Packet::CONFIGURATION << 24))
+        & ((id != Packet::CONTROL) | (bits & CONTROL_PRINTED == Packet::CONTROL << 24))
+        & ((id != Packet::ALL_FRAME_MODE)
+            | (bits & ALL_FRAME_MODE_PRINTED == Packet::ALL_FRAME_MODE << 24))
+        & ((id != Packet::RECEIVER_LINES)
+            | (bits & RECEIVER_LINES_PRINTED == Packet::RECEIVER_LINES << 24))
+        & (!((Packet::SHUT_DOWN_1 <= id) & (id <= Packet::SHUT_DOWN_2))
+            | (bits & SHUT_DOWN_PRINTED == Packet::SHUT_DOWN_1 << 24))
         & (!((Packet::FIRST_FRAMES <= id) & (id <= Packet::LAST_FRAMES))
-            | is_frame_assignment(bits))
-        & ((id != Packet::ADDRESS_ENABLE) | is_address_enable(bits))
+            | (bits & FRAME_ASSIGNMENT_PRINTED == Packet::FIRST_FRAMES << 24))
+        & ((id != Packet::ADDRESS_ENABLE)
+            | (bits & ADDRESS_ENABLE_PRINTED == Packet::ADDRESS_ENABLE << 24))
         & (!((Packet::FIRST_USER_ADDRESS <= id) & (id <= Packet::LAST_USER_ADDRESS))
-            | is_user_address(bits))
+            | (bits & USER_ADDRESS_PRINTED == Packet::FIRST_USER_ADDRESS << 24))
 }
 
 // Whether the host may send a packet: 0 if so, else 7.

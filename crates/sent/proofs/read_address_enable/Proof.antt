@@ -4,9 +4,6 @@ use borrow.Author.Needs.{needs}
 use Rattle.sent.proofs.read_address_enable.Statement.{statement}
 use Rattle.sent.proofs.read_address_enable.Tie as tie
 
-is-address-enable-requires : tie.Need-is-address-enable-requires
-is-address-enable-requires c κs = search needs
-
 unless-requires : tie.Need-unless-requires
 unless-requires c κs = search needs
 
@@ -17,13 +14,12 @@ address-enable-of-requires : tie.Need-address-enable-of-requires
 address-enable-of-requires c κs = search needs
 
 returns : tie.Need-returns
-returns c = rw (c .address-enable-of .ensures, c .before .kept .ensures, c .before .before .unless .ensures, c .before .before .before .is-address-enable .ensures) refl
+returns c = rw (c .address-enable-of .ensures, c .before .kept .ensures, c .before .before .unless .ensures) refl
 
 pub read-address-enable-spec : {M : Type 1} → statement M
 read-address-enable-spec =
     tie.close
     (tie.spec
-    is-address-enable-requires
     unless-requires
     kept-requires
     address-enable-of-requires

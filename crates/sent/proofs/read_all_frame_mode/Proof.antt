@@ -4,9 +4,6 @@ use borrow.Author.Needs.{needs}
 use Rattle.sent.proofs.read_all_frame_mode.Statement.{statement}
 use Rattle.sent.proofs.read_all_frame_mode.Tie as tie
 
-is-all-frame-mode-requires : tie.Need-is-all-frame-mode-requires
-is-all-frame-mode-requires c κs = search needs
-
 unless-requires : tie.Need-unless-requires
 unless-requires c κs = search needs
 
@@ -17,13 +14,12 @@ all-frame-mode-of-requires : tie.Need-all-frame-mode-of-requires
 all-frame-mode-of-requires c κs = search needs
 
 returns : tie.Need-returns
-returns c = rw (c .all-frame-mode-of .ensures, c .before .kept .ensures, c .before .before .unless .ensures, c .before .before .before .is-all-frame-mode .ensures) refl
+returns c = rw (c .all-frame-mode-of .ensures, c .before .kept .ensures, c .before .before .unless .ensures) refl
 
 pub read-all-frame-mode-spec : {M : Type 1} → statement M
 read-all-frame-mode-spec =
     tie.close
     (tie.spec
-    is-all-frame-mode-requires
     unless-requires
     kept-requires
     all-frame-mode-of-requires

@@ -4,9 +4,6 @@ use borrow.Author.Needs.{needs}
 use Rattle.sent.proofs.read_checksum.Statement.{statement}
 use Rattle.sent.proofs.read_checksum.Tie as tie
 
-is-checksum-requires : tie.Need-is-checksum-requires
-is-checksum-requires c κs = search needs
-
 unless-requires : tie.Need-unless-requires
 unless-requires c κs = search needs
 
@@ -17,9 +14,9 @@ checksum-of-requires : tie.Need-checksum-of-requires
 checksum-of-requires c κs = search needs
 
 returns : tie.Need-returns
-returns c = rw (c .checksum-of .ensures, c .before .kept .ensures, c .before .before .unless .ensures, c .before .before .before .is-checksum .ensures) refl
+returns c = rw (c .checksum-of .ensures, c .before .kept .ensures, c .before .before .unless .ensures) refl
 
 pub read-checksum-spec : {M : Type 1} → statement M
 read-checksum-spec =
     tie.close
-    (tie.spec is-checksum-requires unless-requires kept-requires checksum-of-requires returns)
+    (tie.spec unless-requires kept-requires checksum-of-requires returns)

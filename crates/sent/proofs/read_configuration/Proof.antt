@@ -4,9 +4,6 @@ use borrow.Author.Needs.{needs}
 use Rattle.sent.proofs.read_configuration.Statement.{statement}
 use Rattle.sent.proofs.read_configuration.Tie as tie
 
-is-configuration-requires : tie.Need-is-configuration-requires
-is-configuration-requires c κs = search needs
-
 unless-requires : tie.Need-unless-requires
 unless-requires c κs = search needs
 
@@ -17,13 +14,12 @@ configuration-of-requires : tie.Need-configuration-of-requires
 configuration-of-requires c κs = search needs
 
 returns : tie.Need-returns
-returns c = rw (c .configuration-of .ensures, c .before .kept .ensures, c .before .before .unless .ensures, c .before .before .before .is-configuration .ensures) refl
+returns c = rw (c .configuration-of .ensures, c .before .kept .ensures, c .before .before .unless .ensures) refl
 
 pub read-configuration-spec : {M : Type 1} → statement M
 read-configuration-spec =
     tie.close
     (tie.spec
-    is-configuration-requires
     unless-requires
     kept-requires
     configuration-of-requires

@@ -4,9 +4,6 @@ use borrow.Author.Needs.{needs}
 use Rattle.sent.proofs.read_control.Statement.{statement}
 use Rattle.sent.proofs.read_control.Tie as tie
 
-is-control-requires : tie.Need-is-control-requires
-is-control-requires c κs = search needs
-
 unless-requires : tie.Need-unless-requires
 unless-requires c κs = search needs
 
@@ -17,9 +14,9 @@ control-of-requires : tie.Need-control-of-requires
 control-of-requires c κs = search needs
 
 returns : tie.Need-returns
-returns c = rw (c .control-of .ensures, c .before .kept .ensures, c .before .before .unless .ensures, c .before .before .before .is-control .ensures) refl
+returns c = rw (c .control-of .ensures, c .before .kept .ensures, c .before .before .unless .ensures) refl
 
 pub read-control-spec : {M : Type 1} → statement M
 read-control-spec =
     tie.close
-    (tie.spec is-control-requires unless-requires kept-requires control-of-requires returns)
+    (tie.spec unless-requires kept-requires control-of-requires returns)

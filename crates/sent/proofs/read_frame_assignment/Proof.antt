@@ -4,9 +4,6 @@ use borrow.Author.Needs.{needs}
 use Rattle.sent.proofs.read_frame_assignment.Statement.{statement}
 use Rattle.sent.proofs.read_frame_assignment.Tie as tie
 
-is-frame-assignment-requires : tie.Need-is-frame-assignment-requires
-is-frame-assignment-requires c κs = search needs
-
 unless-requires : tie.Need-unless-requires
 unless-requires c κs = search needs
 
@@ -17,13 +14,12 @@ frame-assignment-of-requires : tie.Need-frame-assignment-of-requires
 frame-assignment-of-requires c κs = search needs
 
 returns : tie.Need-returns
-returns c = rw (c .frame-assignment-of .ensures, c .before .kept .ensures, c .before .before .unless .ensures, c .before .before .before .is-frame-assignment .ensures) refl
+returns c = rw (c .frame-assignment-of .ensures, c .before .kept .ensures, c .before .before .unless .ensures) refl
 
 pub read-frame-assignment-spec : {M : Type 1} → statement M
 read-frame-assignment-spec =
     tie.close
     (tie.spec
-    is-frame-assignment-requires
     unless-requires
     kept-requires
     frame-assignment-of-requires

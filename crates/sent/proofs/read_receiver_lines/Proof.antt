@@ -4,9 +4,6 @@ use borrow.Author.Needs.{needs}
 use Rattle.sent.proofs.read_receiver_lines.Statement.{statement}
 use Rattle.sent.proofs.read_receiver_lines.Tie as tie
 
-is-receiver-lines-requires : tie.Need-is-receiver-lines-requires
-is-receiver-lines-requires c κs = search needs
-
 unless-requires : tie.Need-unless-requires
 unless-requires c κs = search needs
 
@@ -17,13 +14,12 @@ receiver-lines-of-requires : tie.Need-receiver-lines-of-requires
 receiver-lines-of-requires c κs = search needs
 
 returns : tie.Need-returns
-returns c = rw (c .receiver-lines-of .ensures, c .before .kept .ensures, c .before .before .unless .ensures, c .before .before .before .is-receiver-lines .ensures) refl
+returns c = rw (c .receiver-lines-of .ensures, c .before .kept .ensures, c .before .before .unless .ensures) refl
 
 pub read-receiver-lines-spec : {M : Type 1} → statement M
 read-receiver-lines-spec =
     tie.close
     (tie.spec
-    is-receiver-lines-requires
     unless-requires
     kept-requires
     receiver-lines-of-requires

@@ -4,9 +4,6 @@ use borrow.Author.Needs.{needs}
 use Rattle.sent.proofs.read_shut_down.Statement.{statement}
 use Rattle.sent.proofs.read_shut_down.Tie as tie
 
-is-shut-down-requires : tie.Need-is-shut-down-requires
-is-shut-down-requires c κs = search needs
-
 unless-requires : tie.Need-unless-requires
 unless-requires c κs = search needs
 
@@ -17,9 +14,9 @@ shut-down-of-requires : tie.Need-shut-down-of-requires
 shut-down-of-requires c κs = search needs
 
 returns : tie.Need-returns
-returns c = rw (c .shut-down-of .ensures, c .before .kept .ensures, c .before .before .unless .ensures, c .before .before .before .is-shut-down .ensures) refl
+returns c = rw (c .shut-down-of .ensures, c .before .kept .ensures, c .before .before .unless .ensures) refl
 
 pub read-shut-down-spec : {M : Type 1} → statement M
 read-shut-down-spec =
     tie.close
-    (tie.spec is-shut-down-requires unless-requires kept-requires shut-down-of-requires returns)
+    (tie.spec unless-requires kept-requires shut-down-of-requires returns)

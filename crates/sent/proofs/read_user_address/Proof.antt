@@ -4,9 +4,6 @@ use borrow.Author.Needs.{needs}
 use Rattle.sent.proofs.read_user_address.Statement.{statement}
 use Rattle.sent.proofs.read_user_address.Tie as tie
 
-is-user-address-requires : tie.Need-is-user-address-requires
-is-user-address-requires c κs = search needs
-
 unless-requires : tie.Need-unless-requires
 unless-requires c κs = search needs
 
@@ -17,13 +14,12 @@ user-address-of-requires : tie.Need-user-address-of-requires
 user-address-of-requires c κs = search needs
 
 returns : tie.Need-returns
-returns c = rw (c .user-address-of .ensures, c .before .kept .ensures, c .before .before .unless .ensures, c .before .before .before .is-user-address .ensures) refl
+returns c = rw (c .user-address-of .ensures, c .before .kept .ensures, c .before .before .unless .ensures) refl
 
 pub read-user-address-spec : {M : Type 1} → statement M
 read-user-address-spec =
     tie.close
     (tie.spec
-    is-user-address-requires
     unless-requires
     kept-requires
     user-address-of-requires

@@ -1,0 +1,16 @@
+-- `mortisevane_address_words` meets its contract: what the core answers, told.
+use borrow.Author.Needs.{needs}
+use Rattle.host_address.proofs.mortisevane_address_words.Statement.{statement}
+use Rattle.host_address.proofs.mortisevane_address_words.Tie as tie
+
+words-of-requires : tie.Need-words-of-requires
+words-of-requires c κs = search needs
+
+words-told-requires : tie.Need-words-told-requires
+words-told-requires c κs = search needs
+
+returns : tie.Need-returns
+returns c = cc
+
+pub mortisevane-address-words-spec : {M : Type 1} → statement M
+mortisevane-address-words-spec = tie.close (tie.spec words-of-requires words-told-requires returns)

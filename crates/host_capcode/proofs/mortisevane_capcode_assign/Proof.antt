@@ -1,0 +1,17 @@
+-- `mortisevane_capcode_assign` meets its contract: what the core answers, told.
+use borrow.Author.Needs.{needs}
+use Rattle.host_capcode.proofs.mortisevane_capcode_assign.Statement.{statement}
+use Rattle.host_capcode.proofs.mortisevane_capcode_assign.Tie as tie
+
+assign-requires : tie.Need-assign-requires
+assign-requires c κs = search needs
+
+assignment-told-requires : tie.Need-assignment-told-requires
+assignment-told-requires c κs = search needs
+
+returns : tie.Need-returns
+returns c = cc
+
+pub mortisevane-capcode-assign-spec : {M : Type 1} → statement M
+mortisevane-capcode-assign-spec =
+    tie.close (tie.spec assign-requires assignment-told-requires returns)

@@ -1,0 +1,16 @@
+-- `mortisevane_capcode_read` meets its contract: what the core answers, told.
+use borrow.Author.Needs.{needs}
+use Rattle.host_capcode.proofs.mortisevane_capcode_read.Statement.{statement}
+use Rattle.host_capcode.proofs.mortisevane_capcode_read.Tie as tie
+
+read-requires : tie.Need-read-requires
+read-requires c κs = search needs
+
+capcode-told-requires : tie.Need-capcode-told-requires
+capcode-told-requires c κs = search needs
+
+returns : tie.Need-returns
+returns c = cc
+
+pub mortisevane-capcode-read-spec : {M : Type 1} → statement M
+mortisevane-capcode-read-spec = tie.close (tie.spec read-requires capcode-told-requires returns)

@@ -1,0 +1,16 @@
+-- `mortisevane_frames_wait` meets its contract: what the core answers, told.
+use borrow.Author.Needs.{needs}
+use Rattle.host_frames.proofs.mortisevane_frames_wait.Statement.{statement}
+use Rattle.host_frames.proofs.mortisevane_frames_wait.Tie as tie
+
+wait-requires : tie.Need-wait-requires
+wait-requires c κs = search needs
+
+wait-told-requires : tie.Need-wait-told-requires
+wait-told-requires c κs = search needs
+
+returns : tie.Need-returns
+returns c = cc
+
+pub mortisevane-frames-wait-spec : {M : Type 1} → statement M
+mortisevane-frames-wait-spec = tie.close (tie.spec wait-requires wait-told-requires returns)
