@@ -7,9 +7,8 @@ use mathlib.Core.List.{List, [], _∷_, _++_}
 use lib.Dec.{leb, ltb, eqb}
 use lib.ListN.{length}
 use Rattle.laws.specs.Choice.{pick}
-use Rattle.laws.specs.Lists.{put}
 use Rattle.refusal.specs.declared.Refusal.the-variants.{Room}
-use Rattle.refusal.specs.Told.{Told, told, refused, given, ask}
+use Rattle.refusal.specs.Told.{Told, refused, given, ask, writtenBy}
 use Rattle.capcode.specs.declared.Capcode.{Capcode}
 use Rattle.capcode.specs.declared.PrintAnswer.{PrintAnswer}
 use Rattle.capcode.specs.Assigned.{standard, framed, fieldsFit, asked}
@@ -51,10 +50,6 @@ pub record Sayable (c : Capcode) : Type 0 where
 -- what is answered when a CAPCODE is printed into a buffer of `room` bytes: the text's length, and last of all refusals 1
 abbrev pub printOf : Capcode → ℕ → Told
 printOf c room = asked c (ask (ltb room (length (textOf c))) Room (given (length (textOf c) ∷ [])))
-
--- what the buffer holds then: the text at its start, or after a refusal what it held
-abbrev pub writtenBy : Told → List ℕ → List ℕ → List ℕ
-writtenBy (told n values) buffer text = pick (eqb n 0) (put buffer 0 text) buffer
 
 -- what a buffer holds after a CAPCODE was printed into it
 abbrev pub bufferAfter : Capcode → List ℕ → List ℕ

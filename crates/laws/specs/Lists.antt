@@ -1,8 +1,26 @@
--- What lent memory holds after a write.
-use Prim.Native.Nat.{ℕ, _+_}
-use mathlib.Core.List.{List, _++_}
+-- Rows: what lent memory holds after a write, a search, a test of all, a sum.
+use Prim.Native.Nat.{ℕ, suc, _+_}
+use mathlib.Core.Bool.{Bool, true, _&&_}
+use mathlib.Core.List.{List, [], _∷_, _++_}
+use lib.Dec.{eqb}
 use lib.ListN.{length, take, drop}
+use Rattle.laws.specs.Choice.{pick}
 
 -- a buffer with a text written at a place: all before and behind is as it was
 abbrev pub put {ℓ} : {A : Type ℓ} → List A → ℕ → List A → List A
 put buffer place text = take place buffer ++ text ++ drop (place + length text) buffer
+
+-- the first place of a number in a row; the row's length where it has no place
+unfoldable pub placeIn : List ℕ → ℕ → ℕ
+placeIn [] n = 0
+placeIn (x ∷ row) n = pick (eqb n x) 0 (suc (placeIn row n))
+
+-- whether every number of a row passes a test
+unfoldable pub all : (ℕ → Bool) → List ℕ → Bool
+all test [] = true
+all test (x ∷ row) = test x && all test row
+
+-- the sum of a row, each number taken by a rule
+unfoldable pub sumBy : (ℕ → ℕ) → List ℕ → ℕ
+sumBy rule [] = 0
+sumBy rule (x ∷ row) = rule x + sumBy rule row

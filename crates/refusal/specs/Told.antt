@@ -2,7 +2,10 @@
 use Prim.Native.Nat.{ℕ}
 use mathlib.Core.List.{List, [], _∷_}
 use mathlib.Core.Bool.{Bool, true, false}
+use lib.Dec.{eqb}
+use lib.ListN.{getD}
 use Rattle.laws.specs.Choice.{pick}
+use Rattle.laws.specs.Lists.{put}
 use Rattle.refusal.specs.declared.Refusal.{Refusal}
 use Rattle.refusal.specs.declared.Refusal.the-variants.{Room, State, Text, «Type», Range, Offset, Packet, Address, Size, Damaged, Checksum, Full, NoChain, OutOfTurn, TooLong, Signature, NoCall, Character}
 
@@ -56,3 +59,15 @@ kept good n = pick good n 0
 pub order : List Refusal
 order =
     Room ∷ State ∷ Text ∷ «Type» ∷ Range ∷ Offset ∷ Packet ∷ Address ∷ Size ∷ Damaged ∷ Checksum ∷ NoChain ∷ OutOfTurn ∷ TooLong ∷ Character ∷ Signature ∷ Full ∷ NoCall ∷ Room ∷ []
+
+-- the number that is told
+abbrev pub numberTold : Told → ℕ
+numberTold (told n values) = n
+
+-- one of the values that are told, 0 where it is not told
+abbrev pub valueTold : Told → ℕ → ℕ
+valueTold (told n values) place = getD values place 0
+
+-- what a lent buffer holds after an answer: the text at its start, or after a refusal what it held
+abbrev pub writtenBy : Told → List ℕ → List ℕ → List ℕ
+writtenBy (told n values) buffer text = pick (eqb n 0) (put buffer 0 text) buffer

@@ -1,0 +1,59 @@
+-- What is answered when a numeric page is written or read, a line a refusal, in the order of 01's table.
+use Prim.Native.Nat.{ℕ}
+use mathlib.Core.Bool.{not, _&&_}
+use mathlib.Core.List.{List, [], _∷_}
+use lib.Dec.{leb, ltb}
+use lib.ListN.{length, getD}
+use Rattle.heard.specs.Reads.{isNumeric}
+use Rattle.refusal.specs.declared.Refusal.the-variants.{Room, Packet, Size, Damaged, Checksum, TooLong, Character}
+use Rattle.refusal.specs.Told.{Told, given, ask, numberTold, valueTold, writtenBy}
+use Rattle.numeric.specs.declared.Numbering.{Numbering}
+use Rattle.numeric.specs.declared.Written.{Written}
+use Rattle.numeric.specs.declared.PageRead.{PageRead}
+use Rattle.numeric.specs.Pages.{Set, mostWords, roomOf, checkOf, inVector, pageOf, headIn, textIn, isNumbered, inSet, headed, undamaged, checked}
+
+-- the numbers S, R and N, as the head has them
+abbrev pub flagsOf : Numbering → List ℕ
+flagsOf n = n .«special_format» ∷ n .retrieval ∷ n .«message_number» ∷ []
+
+-- a page written for a vector's type: 7, 15, 18, and last of all 1 for a buffer of `lent` words; else the vector's K, and how many words
+unfoldable pub writtenOf : Set → ℕ → ℕ → Numbering → List ℕ → Told
+writtenOf set lent kind numbering text =
+    ask (not (headed kind (flagsOf numbering))) Packet
+    (ask (ltb (roomOf (isNumbered kind) mostWords) (length text)) TooLong
+    (ask (not (inSet set text)) Character
+    (ask (ltb lent (length (pageOf set (isNumbered kind) (flagsOf numbering) text))) Room
+    (given (inVector (checkOf set (isNumbered kind) (flagsOf numbering) text) ∷ length (pageOf set (isNumbered kind) (flagsOf numbering) text) ∷ [])))))
+
+-- what the lent words are then
+abbrev pub wordsAfter : Set → ℕ → Numbering → List ℕ → List ℕ → List ℕ
+wordsAfter set kind numbering text lent =
+    writtenBy (writtenOf set (length lent) kind numbering text) lent (pageOf set (isNumbered kind) (flagsOf numbering) text)
+
+-- the answer: 01's number, the vector's K, how many words were written
+abbrev pub asWritten : Told → Written
+asWritten t = record { number = numberTold t; check = valueTold t 0; words = valueTold t 1 }
+
+-- a page read with its vector's type and K: 7, 9, 10, 11, and last of all 1 for a buffer of `lent` bytes; else S, R, N, and how many characters
+unfoldable pub readOf : Set → ℕ → ℕ → ℕ → List ℕ → Told
+readOf set lent kind check words =
+    ask (not (isNumeric kind && ltb check 16)) Packet
+    (ask (not (leb 1 (length words) && leb (length words) mostWords)) Size
+    (ask (not (undamaged words)) Damaged
+    (ask (not (checked check words)) Checksum
+    (ask (ltb lent (roomOf (isNumbered kind) (length words))) Room
+    (given (getD (headIn (isNumbered kind) words) 0 0 ∷ getD (headIn (isNumbered kind) words) 1 0 ∷ getD (headIn (isNumbered kind) words) 2 0 ∷ roomOf (isNumbered kind) (length words) ∷ []))))))
+
+-- what the lent bytes are then
+abbrev pub textAfter : Set → ℕ → ℕ → List ℕ → List ℕ → List ℕ
+textAfter set kind check words lent =
+    writtenBy (readOf set (length lent) kind check words) lent (textIn set (isNumbered kind) words)
+
+-- the answer: 01's number, what the head says of a numbered page, how many characters were written
+abbrev pub asRead : Told → PageRead
+asRead t =
+    record {
+      number = numberTold t;
+      numbering = record { «message_number» = valueTold t 2; retrieval = valueTold t 1; «special_format» = valueTold t 0 };
+      characters = valueTold t 3;
+    }
