@@ -316,12 +316,12 @@ fn code_in(words: &[u32], at: usize, place: usize) -> u32
     requires { ⌜ place < 21 ⌝ }
     ensures { λ r. ⌜ r ≡ number (2 ^ 21) (now (words .entry)) / 2 ^ (21 * at + place) % 16 ⌝ }
 {
-    let low = words[at] >> place;
+    let low = (words[at] >> place) % 16;
     if place < 18 {
-        return low % 16;
+        return low;
     }
     if at + 1 == words.len() {
-        return low % 16;
+        return low;
     }
     (low + (words[at + 1] << (21 - place)) % 16) % 16
 }
