@@ -11,7 +11,8 @@ use Rattle.laws.specs.Lists.{put}
 use Rattle.laws.specs.Numerals.{number, digits}
 use Rattle.laws.proofs.Writing.{put-nothing}
 use Rattle.numeric.specs.Pages.{standardSet, headOf, textIn}
-use Rattle.numeric.proofs.Reading.{head-small, behind-characters, spelled-turn}
+use Rattle.numeric.proofs.Heads.{head-small}
+use Rattle.numeric.proofs.Reading.{behind-characters, spelled-turn}
 use borrow.Author.Needs.{needs}
 use Rattle.numeric.proofs.write_characters.Statement.{statement}
 use Rattle.numeric.proofs.write_characters.Tie as tie
