@@ -37,6 +37,13 @@ number-digits b (suc n) x h =
     rw (number-digits b n (x / b) h, mul-comm b _, add-comm (x % b) _, pow-suc b n)
     (sym (mod-mul x (one-le-pow n b h) h))
 
+-- a digit of a number
+pub digits-at : (b n x k : ℕ) → k < n → getD (digits b n x) k 0 ≡ x / b ^ k % b
+unfolding digits
+digits-at b zero x k h = absurd (omega arith)
+digits-at b (suc n) x zero h = rw (pow-zero b, div-one x)
+digits-at b (suc n) x (suc k) h = digits-at b n (x / b) k (omega arith) ∙ rw (div-div-eq-div-mul x b (b ^ k), ← pow-succ' b k)
+
 -- of a row of digits the first is one
 first-digit : (b d : ℕ) (row : List ℕ) → areDigits b (d ∷ row) ≡ true → d < b
 unfolding all
