@@ -10,11 +10,11 @@ use borrow.Author.Tests.{lt-ltb, ltb-true}
 use lib.Arith.{digits-lt, mod-mul}
 use lib.Dec.{ltb}
 use lib.ListN.{length, drop, getD}
-use lib.Pow.{field, mod-mod-pow, pow-add, shr-shr}
+use lib.Pow.{field, mod-mod-pow, pow-add}
 use Rattle.laws.specs.Layouts.{bitsAt}
 use Rattle.laws.specs.Lists.{all}
 use Rattle.laws.specs.Numerals.{number, digits, areDigits}
-use Rattle.laws.proofs.Layouts.{bits-are}
+use Rattle.laws.proofs.Layouts.{bits-above, bits-are}
 use Rattle.laws.proofs.Tests.{first-of, second-of}
 
 -- as many digits as were asked for
@@ -117,10 +117,9 @@ pub digit-bits : (size : ℕ) (row : List ℕ) (k place wide : ℕ) → areDigit
 digit-bits size row k place wide e h =
     let n = number (2 ^ size) row in
     let parts : size - (wide + place) + wide + place ≡ size = omega arith in
-    bits-are (size * k + place) wide n
-    ∙ rw (← shr-shr n (size * k) place, ← pow-mul 2 size k)
-    (sym (bits-are place wide (n / (2 ^ size) ^ k))
-    ∙ sym (low-bits place wide (size - (wide + place)) (n / (2 ^ size) ^ k))
+    bits-above (size * k) place wide n
+    ∙ rw (← pow-mul 2 size k)
+    (sym (low-bits place wide (size - (wide + place)) (n / (2 ^ size) ^ k))
     ∙ rw (parts, digit-at (2 ^ size) row k e))
 
 -- so many numbers of a row from a place on, 0 behind its end

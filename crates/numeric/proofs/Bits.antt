@@ -176,16 +176,18 @@ module _ (set : Set) (numbered : Bool) (flags text : List ℕ) (e : fit (headOf 
       rw (← pow-mul 2 4 (roomOf numbered (wordsFor numbered (length text))))
       (rw codes-length at (number-below 16 (map (placeIn set) (filled numbered text)) codes-digits))
 
-  -- the page's bits are no more than those of its words
+  -- the page's bits are those of the head and the room
+  pub row-below : rowOf set numbered (headSent set numbered flags text) text < 2 ^ (4 * roomOf numbered (wordsFor numbered (length text)) + size (headOf numbered))
+  row-below =
+      rw (pow-add 2 (4 * roomOf numbered (wordsFor numbered (length text))) (size (headOf numbered)), add-comm (packed (headOf numbered) (headSent set numbered flags text)) _, mul-comm (2 ^ size (headOf numbered)) _)
+      (digits-lt codes-lt (head-lt set numbered flags text e))
+
+  -- .. no more than those of the words
   row-lt : rowOf set numbered (headSent set numbered flags text) text < (2 ^ wordBits) ^ wordsFor numbered (length text)
-  row-lt =
-      rw (pow-mul 2 wordBits (wordsFor numbered (length text)), add-comm (packed (headOf numbered) (headSent set numbered flags text)) _, mul-comm (2 ^ size (headOf numbered)) _)
-      (lt-of-lt-of-le
-      (rw (← pow-add 2 (4 * roomOf numbered (wordsFor numbered (length text))) (size (headOf numbered))) at (digits-lt codes-lt (head-lt set numbered flags text e)))
-      (pow-mono (row-within numbered (length text))))
+  row-lt = rw (pow-mul 2 wordBits (wordsFor numbered (length text))) (lt-of-lt-of-le row-below (pow-mono (row-within numbered (length text))))
 
   -- .. so that the words make them again
-  number-page : number (2 ^ wordBits) (pageOf set numbered flags text) ≡ rowOf set numbered (headSent set numbered flags text) text
+  pub number-page : number (2 ^ wordBits) (pageOf set numbered flags text) ≡ rowOf set numbered (headSent set numbered flags text) text
   unfolding pageOf wordsWith
   number-page =
       number-digits (2 ^ wordBits) (wordsFor numbered (length text)) (rowOf set numbered (headSent set numbered flags text) text) (omega arith)

@@ -5,23 +5,28 @@ use mathlib.Core.Bool.{Bool, true, false, not, _&&_}
 use mathlib.Core.List.{List, [], _∷_, _++_, map}
 use mathlib.Core.Logic.{_↔_}
 use mathlib.Core.Path.{_≡_, refl, sym, ap, _∙_}
+use native.Mathlib.Nat.{add-assoc, div-add-mod, div-eq-of-lt, lt-of-lt-of-le}
 use native.Mathlib.Omega.{arith}
 use borrow.Author.Tests.{eq-eqb, le-leb, le-ltb, lt-ltb, ltb-false, not-false}
 use lib.Dec.{ltb}
-use lib.ListN.{length, getD, replicate}
+use lib.ListN.{length, getD, take, drop, replicate}
+use lib.Pow.{pow-mono}
+use lib.Seq.{take-append-seam}
 use Rattle.laws.specs.Layouts.{size, bitsAt, fit}
-use Rattle.laws.specs.Lists.{placeIn, all}
-use Rattle.laws.proofs.Numerals.{digits-are}
-use Rattle.laws.proofs.Rows.{all-append, all-replicate}
+use Rattle.laws.specs.Lists.{put, placeIn, all}
+use Rattle.laws.specs.Numerals.{number}
+use Rattle.laws.proofs.Layouts.{bits-above, bits-are}
+use Rattle.laws.proofs.Numerals.{digits-are, digit-bits}
+use Rattle.laws.proofs.Rows.{all-append, all-replicate, map-at}
 use Rattle.laws.proofs.Tests.{first-of, second-of}
 use Rattle.heard.specs.Reads.{isNumeric}
 use Rattle.refusal.specs.declared.Refusal.the-variants as refusals
 use Rattle.refusal.specs.Told.{Told, refused, given, ask, numberTold}
 use Rattle.refusal.proofs.Laws.{passed}
 use Rattle.numeric.specs.declared.Numbering.{Numbering}
-use Rattle.numeric.specs.Pages.{Set, standardSet, wordBits, mostWords, headOf, roomOf, wordsFor, filled, wordsWith, checkOf, inVector, pageOf, textIn, isNumbered, inSet, headed, undamaged, checked}
-use Rattle.numeric.specs.Answers.{flagsOf, writtenOf, readOf}
-use Rattle.numeric.proofs.Bits.{some-word, room-enough, page-length, filled-length, head-read, k-of-page, k-in-word, text-read}
+use Rattle.numeric.specs.Pages.{Set, standardSet, wordBits, mostWords, headOf, roomOf, wordsFor, filled, rowOf, wordsWith, checkOf, inVector, pageOf, textIn, isNumbered, inSet, headed, undamaged, checked}
+use Rattle.numeric.specs.Answers.{flagsOf, writtenOf, wordsAfter, asWritten, readOf, textAfter, asRead}
+use Rattle.numeric.proofs.Bits.{some-word, room-enough, page-length, filled-length, head-read, k-of-page, k-in-word, headSent, codes-digits, row-below, number-page, above-head, text-read}
 
 -- a set of sixteen characters, the space among them
 pub record Usable (set : Set) : Type 0 where
@@ -170,6 +175,60 @@ read-written set lent lentBytes kind numbering text usable e enough =
       text-back usable (a .fits),
     )
 
+-- the words that were lent, as many as were told, and K as it was told, give back the numbering, and in the lent bytes the text and its spaces
+pub there-and-back : (set : Set) (kind : ℕ) (numbering : Numbering) (text words bytes : List ℕ) → Usable set
+    → let written = asWritten (writtenOf set (length words) kind numbering text) in
+    let page = take (written .words) (wordsAfter set kind numbering text words) in
+    written .number ≡ 0 → roomOf (isNumbered kind) (written .words) ≤ length bytes
+    → (asRead (readOf set (length bytes) kind (written .check) page) ≡ record { number = 0; numbering = numbering; characters = length (filled (isNumbered kind) text) })
+    × (textAfter set kind (written .check) page bytes ≡ put bytes 0 (filled (isNumbered kind) text))
+there-and-back set kind numbering text words bytes usable e room =
+    let page = pageFor set kind numbering text in
+    let told = accepted-told set (length words) kind numbering text (accepted set (length words) kind numbering text .0 e) in
+    let back = read-written set (length words) (length bytes) kind numbering text usable e (rw told at room) in
+    rw (told, take-append-seam page (drop (0 + length page) words), back .0, back .1) (refl, refl)
+
 -- two pages of the same words have the same text and spaces
 pub same-words : {set : Set} {numbered : Bool} {flags flags′ text text′ : List ℕ} → Usable set → Fits set numbered flags text → Fits set numbered flags′ text′ → pageOf set numbered flags text ≡ pageOf set numbered flags′ text′ → filled numbered text ≡ filled numbered text′
 same-words {set} {numbered} usable fits fits′ same = sym (text-back usable fits) ∙ ap (textIn set numbered) same ∙ text-back usable fits′
+
+-- a character before a text that ends in others is not lost
+first-kept : (c fill : ℕ) (text : List ℕ) (m n : ℕ) → (c ≡ fill → ⊥) → (c ∷ text) ++ replicate m fill ≡ text ++ replicate n fill → ⊥
+first-kept c fill [] m zero other same = let none : suc (length (replicate m fill)) ≡ 0 = ap length same in omega arith
+first-kept c fill [] m (suc n) other same = other (ap (λ (row : List ℕ). getD row 0 0) same)
+first-kept c fill (d ∷ text) m n other same =
+    let first : c ≡ d = ap (λ (row : List ℕ). getD row 0 0) same in
+    first-kept c fill text m n other (ap (λ (x : ℕ). (x ∷ text) ++ replicate m fill) first ∙ ap (drop 1) same)
+
+-- a text and the same text with a zero before it are never the same words
+pub leading-zero : {set : Set} {numbered : Bool} {flags flags′ text : List ℕ} → Usable set → Fits set numbered flags (code "0" ∷ text) → Fits set numbered flags′ text → pageOf set numbered flags (code "0" ∷ text) ≡ pageOf set numbered flags′ text → ⊥
+leading-zero {numbered} {text} usable fits fits′ same =
+    let spaces : ℕ → ℕ = λ n. roomOf numbered (wordsFor numbered n) - n in
+    first-kept (code "0") (code " ") text (spaces (suc (length text))) (spaces (length text)) (λ e. omega arith) (same-words usable fits fits′ same)
+
+-- ---- Tables 41 and 42
+
+module _ {set : Set} {numbered : Bool} {flags text : List ℕ} (usable : Usable set) (fits : Fits set numbered flags text) where
+  -- the bits of the page, word by word
+  word-bits : (place : ℕ) → bitsAt (place % wordBits) 1 (getD (pageOf set numbered flags text) (place / wordBits) 0) ≡ bitsAt place 1 (number (2 ^ wordBits) (pageOf set numbered flags text))
+  word-bits place =
+      sym (digit-bits wordBits (pageOf set numbered flags text) (place / wordBits) (place % wordBits) 1 (words-small set numbered flags text) (omega arith))
+      ∙ rw (div-add-mod place wordBits)
+
+  -- bit k of character j stands behind the head and the characters before it, 21 bits in a word
+  pub cell : (j k : ℕ) → j < length (filled numbered text) → k < 4
+      → bitsAt ((size (headOf numbered) + 4 * j + k) % wordBits) 1 (getD (pageOf set numbered flags text) ((size (headOf numbered) + 4 * j + k) / wordBits) 0)
+      ≡ bitsAt k 1 (placeIn set (getD (filled numbered text) j 0))
+  cell j k within four =
+      word-bits (size (headOf numbered) + 4 * j + k)
+      ∙ rw (add-assoc (size (headOf numbered)) (4 * j) k, bits-above (size (headOf numbered)) (4 * j + k) 1 _, above-head set numbered flags text (fits .head) (usable .sixteen) (filled-known usable fits))
+      (digit-bits 4 (map (placeIn set) (filled numbered text)) j k 1 (codes-digits set numbered flags text (fits .head) (usable .sixteen) (filled-known usable fits)) (omega arith)
+      ∙ rw (map-at (placeIn set) (filled numbered text) j within))
+
+  -- every bit behind the room is 0
+  pub left-over : (place : ℕ) → size (headOf numbered) + 4 * length (filled numbered text) ≤ place → bitsAt (place % wordBits) 1 (getD (pageOf set numbered flags text) (place / wordBits) 0) ≡ 0
+  left-over place behind =
+      let known = filled-known usable fits in
+      let small = lt-of-lt-of-le (row-below set numbered flags text (fits .head) (usable .sixteen) known) (pow-mono {j = place} (omega (arith, filled-length numbered text))) in
+      word-bits place
+      ∙ rw (number-page set numbered flags text (fits .head) (usable .sixteen) known, bits-are place 1 (rowOf set numbered (headSent set numbered flags text) text), div-eq-of-lt small)
