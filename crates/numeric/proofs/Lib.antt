@@ -3,4 +3,5 @@ pub mod Bits
 pub mod Codes
 pub mod Heads
 pub mod Laws
+pub mod Readable
 pub mod Reading
