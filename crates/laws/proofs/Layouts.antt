@@ -9,7 +9,7 @@ use borrow.Author.Tests.{lt-ltb, ltb-true, eqb-true, eqb-false, eq-eqb, ne-eqb}
 use lib.Arith.{digits-lt, digits-div, digits-mod}
 use lib.Bits.{bitAnd, bitOr, and-block, and-le-r, and-mask, and-mod, and-zero-r, or-shifted}
 use lib.Dec.{T, leb, ltb, eqb, leb→le, ltb→lt}
-use lib.Pow.{pow-add, pow-pos, shl-exact, shl-lt, split, ones-lt}
+use lib.Pow.{pow-add, pow-pos, shl-exact, shl-lt, shr-shr, split, ones-lt}
 use mir.Facts.{and-yes}
 use Rattle.laws.specs.Choice.{pick}
 use Rattle.laws.specs.Layouts.{Part, printed, zeros, field, unused, Layout, width, size, above, bitsAt, moved, fieldsOf, onesAt, maskOf, isPrinted, isRead, printedBits, shows, fitAfter, fit, packedAfter, packed}
@@ -186,6 +186,11 @@ above-is (suc place) n = refl
 -- .. so that the bits at a place are what is left over a power, up to another
 pub bits-are : (place wide n : ℕ) → bitsAt place wide n ≡ n / 2 ^ place % 2 ^ wide
 bits-are place wide n = ap (λ (x : ℕ). x % 2 ^ wide) (above-is place n)
+
+-- .. and those above a place are those of the number above it
+pub bits-above : (below place wide n : ℕ) → bitsAt (below + place) wide n ≡ bitsAt place wide (n / 2 ^ below)
+bits-above below place wide n =
+    bits-are (below + place) wide n ∙ rw (← shr-shr n below place) (sym (bits-are place wide (n / 2 ^ below)))
 
 -- the number at a part's place, between what stands above it and the rest
 at-place : (w s v rest q n : ℕ) → v < 2 ^ w → rest < 2 ^ s → n ≡ q * 2 ^ (w + s) + (v * 2 ^ s + rest) → bitsAt s w n ≡ v

@@ -10,11 +10,11 @@ use borrow.Author.Tests.{lt-ltb, ltb-true}
 use lib.Arith.{digits-lt, mod-mul}
 use lib.Dec.{ltb}
 use lib.ListN.{length, drop, getD}
-use lib.Pow.{field, mod-mod-pow, pow-add, shr-shr}
+use lib.Pow.{field, mod-mod-pow, pow-add}
 use Rattle.laws.specs.Layouts.{bitsAt}
 use Rattle.laws.specs.Lists.{all}
 use Rattle.laws.specs.Numerals.{number, digits, areDigits}
-use Rattle.laws.proofs.Layouts.{bits-are}
+use Rattle.laws.proofs.Layouts.{bits-above, bits-are}
 use Rattle.laws.proofs.Tests.{first-of, second-of}
 
 -- as many digits as were asked for
@@ -36,6 +36,13 @@ number-digits b zero x h = sym (rw (pow-zero b) (mod-one x))
 number-digits b (suc n) x h =
     rw (number-digits b n (x / b) h, mul-comm b _, add-comm (x % b) _, pow-suc b n)
     (sym (mod-mul x (one-le-pow n b h) h))
+
+-- a digit of a number
+pub digits-at : (b n x k : ℕ) → k < n → getD (digits b n x) k 0 ≡ x / b ^ k % b
+unfolding digits
+digits-at b zero x k h = absurd (omega arith)
+digits-at b (suc n) x zero h = rw (pow-zero b, div-one x)
+digits-at b (suc n) x (suc k) h = digits-at b n (x / b) k (omega arith) ∙ rw (div-div-eq-div-mul x b (b ^ k), ← pow-succ' b k)
 
 -- of a row of digits the first is one
 first-digit : (b d : ℕ) (row : List ℕ) → areDigits b (d ∷ row) ≡ true → d < b
@@ -110,10 +117,9 @@ pub digit-bits : (size : ℕ) (row : List ℕ) (k place wide : ℕ) → areDigit
 digit-bits size row k place wide e h =
     let n = number (2 ^ size) row in
     let parts : size - (wide + place) + wide + place ≡ size = omega arith in
-    bits-are (size * k + place) wide n
-    ∙ rw (← shr-shr n (size * k) place, ← pow-mul 2 size k)
-    (sym (bits-are place wide (n / (2 ^ size) ^ k))
-    ∙ sym (low-bits place wide (size - (wide + place)) (n / (2 ^ size) ^ k))
+    bits-above (size * k) place wide n
+    ∙ rw (← pow-mul 2 size k)
+    (sym (low-bits place wide (size - (wide + place)) (n / (2 ^ size) ^ k))
     ∙ rw (parts, digit-at (2 ^ size) row k e))
 
 -- so many numbers of a row from a place on, 0 behind its end

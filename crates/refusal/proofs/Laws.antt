@@ -7,7 +7,7 @@ use lib.ListN.{getD}
 use native.Mathlib.Omega.{arith}
 use Rattle.refusal.specs.declared.Refusal.{Refusal}
 use Rattle.refusal.specs.declared.Refusal.the-variants.{Room, State, Text, «Type», Range, Offset, Packet, Address, Size, Damaged, Checksum, Full, NoChain, OutOfTurn, TooLong, Signature, NoCall, Character}
-use Rattle.refusal.specs.Told.{numberOf, numberUnless, Told, told, refused, given}
+use Rattle.refusal.specs.Told.{numberOf, numberUnless, Told, told, refused, given, ask, numberTold}
 
 -- the refusal of a number
 abbrev ofNumber : ℕ → Refusal
@@ -78,6 +78,11 @@ given-not-refused values r e =
 -- two refusals told alike are the same
 pub refused-tells : (a b : Refusal) → refused a ≡ refused b → a ≡ b
 refused-tells a b e = number-tells a b (ap toldNumber e)
+
+-- an answer that is no refusal was not refused by the first question, nor by what follows
+pub passed : (test : Bool) (r : Refusal) (rest : Told) → numberTold (ask test r rest) ≡ 0 → (test ≡ false) × (numberTold rest ≡ 0)
+passed true r rest e = absurd (omega (arith, number-positive r))
+passed false r rest e = (refl, e)
 
 -- the number told is 0 exactly if the test holds
 pub unless-good : (r : Refusal) (good : Bool) → good ≡ true → numberUnless r good ≡ 0
