@@ -149,7 +149,7 @@ module _ (set : Set) (numbered : Bool) (flags text : List ℕ) (e : fit (headOf 
 -- ---- the characters
 
 -- the codes of characters of the set are digits
-codes-are : (set : Set) (text : List ℕ) → length set ≡ 16 → inSet set text ≡ true → areDigits 16 (map (placeIn set) text) ≡ true
+pub codes-are : (set : Set) (text : List ℕ) → length set ≡ 16 → inSet set text ≡ true → areDigits 16 (map (placeIn set) text) ≡ true
 unfolding inSet
 codes-are set text sixteen known = all-map (λ d. ltb d 16) (placeIn set) text ∙ (rw sixteen at known)
 

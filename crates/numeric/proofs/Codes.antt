@@ -11,6 +11,7 @@ use lib.Seq.{getD-append-add}
 use Rattle.laws.specs.Choice.{pick}
 use Rattle.laws.specs.Lists.{placeIn}
 use Rattle.laws.proofs.Counting.{allBelow, of-all-below}
+use Rattle.laws.proofs.Rows.{map-at}
 use Rattle.numeric.specs.Pages.{standardSet, spaced}
 
 -- the digits' codes are their values
@@ -71,12 +72,6 @@ pub in-no-place : (n code : ℕ) → code ≡ placeIn standardSet n → 15 < cod
 unfolding standardSet
 in-no-place n code is large = rw (← is) (le-ltb code 16 large)
 
--- what a rule makes of a row, at a place within it
-mapped-at : (rule : ℕ → ℕ) (row : List ℕ) (i : ℕ) → i < length row → getD (map rule row) i 0 ≡ rule (getD row i 0)
-mapped-at rule [] i within = absurd (omega arith)
-mapped-at rule (x ∷ row) zero within = refl
-mapped-at rule (x ∷ row) (suc i) within = mapped-at rule row i (omega arith)
-
 module _ (text : List ℕ) (room i : ℕ) where
   -- a text and its spaces have the room's length
   length-spaced : length text ≤ room → length (spaced room text) ≡ room
@@ -86,7 +81,7 @@ module _ (text : List ℕ) (room i : ℕ) where
   pub text-code : i < length text → placeIn standardSet (getD text i 0) ≡ getD (map (placeIn standardSet) (spaced room text)) i 0
   text-code within =
       let here : i < length (spaced room text) = simp length-append (omega arith) in
-      sym (mapped-at (placeIn standardSet) (spaced room text) i here ∙ ap (placeIn standardSet) (List·getD-append text _ 0 i within))
+      sym (map-at (placeIn standardSet) (spaced room text) i here ∙ ap (placeIn standardSet) (List·getD-append text _ 0 i within))
 
   -- .. of a space behind the text
   pub space-code : length text ≤ room → length text ≤ i → i < room → 12 ≡ getD (map (placeIn standardSet) (spaced room text)) i 0
@@ -97,7 +92,7 @@ module _ (text : List ℕ) (room i : ℕ) where
       let here : i < length (spaced room text) = rw (length-spaced fits) within in
       let space : getD (spaced room text) i 0 ≡ 32 =
       ap (λ (j : ℕ). getD (spaced room text) j 0) back ∙ getD-append-add text _ there 0 ∙ getD-replicate (room - length text) there 32 0 (omega arith) in
-      sym (mapped-at (placeIn standardSet) (spaced room text) i here ∙ ap (placeIn standardSet) space)
+      sym (map-at (placeIn standardSet) (spaced room text) i here ∙ ap (placeIn standardSet) space)
 
   -- .. and none behind the room
   pub no-more : length text ≤ room → room ≤ i → 0 ≡ getD (map (placeIn standardSet) (spaced room text)) i 0

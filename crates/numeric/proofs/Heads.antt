@@ -16,6 +16,11 @@ pub head-small : (numbered : Bool) → size (headOf numbered) ≤ 10
 head-small true = omega arith
 head-small false = omega arith
 
+-- .. so that it is below 1024
+pub head-power : (numbered : Bool) → 2 ^ size (headOf numbered) ≤ 1024
+head-power true = omega arith
+head-power false = omega arith
+
 -- of three tests that hold, each does
 three-of : (a b c : Bool) → (a && b && c && true) ≡ true → (a ≡ true) × (b ≡ true) × (c ≡ true)
 three-of true true true e = (refl, refl, refl)

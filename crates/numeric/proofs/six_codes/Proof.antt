@@ -4,7 +4,7 @@ use mathlib.Core.List.{map}
 use mathlib.Core.Path.{ap₂, _∙_}
 use Rattle.laws.specs.Lists.{placeIn}
 use Rattle.numeric.specs.Pages.{standardSet, spaced}
-use Rattle.numeric.proofs.Writing.{codes-are, six-row}
+use Rattle.numeric.proofs.Writing.{six-row, spaced-codes}
 use borrow.Author.Needs.{needs}
 use Rattle.numeric.proofs.six_codes.Statement.{statement}
 use Rattle.numeric.proofs.six_codes.Tie as tie
@@ -29,7 +29,7 @@ returns c =
     let start = c .before .before .before in
     let codes = map (placeIn standardSet) (spaced (start .args .room) (start .args .text .now)) in
     ap₂ (λ (x y : ℕ). x + 4096 * y) (c .before .three-codes .ensures .0) (c .three-codes2 .ensures .0)
-    ∙ six-row codes (start .args .place) (codes-are (start .args .room) (start .args .text .now) (start .pre .0))
+    ∙ six-row codes (start .args .place) (spaced-codes (start .args .room) (start .args .text .now) (start .pre .0))
 
 pub six-codes-spec : {M : Type 1} → statement M
 six-codes-spec =
