@@ -3,7 +3,8 @@ use Prim.Native.Nat.{ℕ}
 use Prim.Native.Char.{code}
 use mathlib.Core.Bool.{true, false}
 use mathlib.Core.List.{List, [], _∷_, map}
-use mathlib.Core.Path.{_≡_, refl}
+use mathlib.Core.Path.{_≡_, refl, ap}
+use native.Mathlib.Omega.{arith}
 use lib.ListN.{replicate}
 use Rattle.laws.specs.Lists.{placeIn, all, sumBy}
 use Rattle.laws.specs.Numerals.{number, digits}
@@ -12,7 +13,8 @@ use Rattle.refusal.specs.declared.Refusal.the-variants as refusals
 use Rattle.refusal.specs.Told.{Told, refused, given, numberTold}
 use Rattle.numeric.specs.declared.Numbering.{Numbering}
 use Rattle.numeric.specs.Pages.{Set, standardSet, roomOf, filled, wordsWith, checkOf, pageOf, textIn, inSet}
-use Rattle.numeric.specs.Answers.{writtenOf, readOf}
+use Rattle.numeric.specs.Answers.{writtenOf, wordsAfter, readOf, textAfter}
+use Rattle.numeric.proofs.Laws.{usable-standard, pageFor, checkFor, read-written}
 
 -- ---- 01's cases, and the tables' captions
 
@@ -87,6 +89,24 @@ pub numbered-text : textIn standardSet true (0x050316 ∷ 0x19998E ∷ []) ≡ b
 unfolding standardSet textIn number digits
 numbered-text = refl
 
+-- .. as the law says, whose premises hold here
+pub numbered-back : textIn standardSet true (pageFor standardSet 7 (numbers 1 1 5) (bytesOf "0417")) ≡ filled true (bytesOf "0417")
+numbered-back = read-written standardSet 2 8 7 (numbers 1 1 5) (bytesOf "0417") usable-standard (ap numberTold numbered-example) (rw numbered-words (omega arith)) .1
+
+-- lent words behind the page, and lent bytes behind the text, stay as they were
+pub words-behind : wordsAfter standardSet 3 none (bytesOf "0417") (7 ∷ 8 ∷ []) ≡ 0x01C503 ∷ 8 ∷ []
+unfolding standardSet writtenOf pageOf checkOf wordsWith placeIn number digits sumBy inSet all
+words-behind = refl
+
+pub bytes-behind : textAfter standardSet 3 6 (0x01C503 ∷ []) (bytesOf "abcdef") ≡ bytesOf "0417ef"
+unfolding standardSet readOf textIn number digits sumBy all
+bytes-behind = refl
+
+-- .. and a refusal leaves them all
+pub refused-leaves : wordsAfter standardSet 3 none (bytesOf "12345") (7 ∷ []) ≡ 7 ∷ []
+unfolding standardSet writtenOf pageOf checkOf wordsWith placeIn number digits sumBy inSet all
+refused-leaves = refl
+
 -- ---- what is refused
 
 -- pages to write, each with 01's number
@@ -148,3 +168,60 @@ reads =
 pub read-examples : map {A = Told × ℕ} {B = ℕ} (λ row. numberTold (row .0)) reads ≡ map {A = Told × ℕ} {B = ℕ} (λ row. row .1) reads
 unfolding reads readOf sumBy all
 read-examples = refl
+
+-- ---- what each premise of the laws is for; a buffer too short, and a vector's type of another page, stand in `reads`
+
+-- without the space in the set, nine zeros and ten are the same words, and the space behind nine is read as a zero
+abbrev spaceless : Set
+spaceless = bytesOf "0123456789?U_-]["
+
+pub space-needed : map (pageOf spaceless false (0 ∷ 0 ∷ 0 ∷ [])) (bytesOf "000000000" ∷ bytesOf "0000000000" ∷ []) ≡ (3 ∷ 0 ∷ []) ∷ (3 ∷ 0 ∷ []) ∷ []
+unfolding pageOf checkOf wordsWith placeIn number digits sumBy
+space-needed = refl
+
+pub space-misread : textIn spaceless false (3 ∷ 0 ∷ []) ≡ bytesOf "0000000000"
+unfolding textIn number digits
+space-misread = refl
+
+-- a character that is not in the set runs over into those behind it: "A" and "0A" are the same words, and are read as zeros
+abbrev spaceLast : Set
+spaceLast = bytesOf "0123456789?U[-] "
+
+pub character-needed : map (pageOf spaceLast false (0 ∷ 0 ∷ 0 ∷ [])) (bytesOf "A" ∷ bytesOf "0A" ∷ []) ≡ (0x040003 ∷ []) ∷ (0x040003 ∷ []) ∷ []
+unfolding pageOf checkOf wordsWith placeIn number digits sumBy
+character-needed = refl
+
+pub character-misread : textIn spaceLast false (0x040003 ∷ []) ≡ bytesOf "0000"
+unfolding textIn number digits
+character-misread = refl
+
+-- .. and so does the seventeenth character of a set
+abbrev seventeen : Set
+seventeen = bytesOf "0123456789?U[-] A"
+
+pub sixteen-needed : map (pageOf seventeen false (0 ∷ 0 ∷ 0 ∷ [])) (bytesOf "A" ∷ bytesOf "0A" ∷ []) ≡ (0x040003 ∷ []) ∷ (0x040003 ∷ []) ∷ []
+unfolding pageOf checkOf wordsWith placeIn number digits sumBy
+sixteen-needed = refl
+
+pub sixteen-misread : textIn seventeen false (0x040003 ∷ []) ≡ bytesOf "0000"
+unfolding textIn number digits
+sixteen-misread = refl
+
+-- a number too large for its bits runs over into the first character: "0" with S 24 and the empty text with S 0 are the same words
+pub head-needed : pageOf standardSet true (24 ∷ 0 ∷ 0 ∷ []) (bytesOf "0") ∷ pageOf standardSet true (0 ∷ 0 ∷ 0 ∷ []) [] ∷ [] ≡ (0x033000 ∷ []) ∷ (0x033000 ∷ []) ∷ []
+unfolding standardSet pageOf checkOf wordsWith placeIn number digits sumBy
+head-needed = refl
+
+-- .. which are read as the empty text
+pub head-misread : readOf standardSet 2 7 12 (0x033000 ∷ []) ≡ given (0 ∷ 0 ∷ 0 ∷ 2 ∷ [])
+unfolding readOf sumBy all
+head-misread = refl
+
+pub head-misread-text : textIn standardSet true (0x033000 ∷ []) ≡ bytesOf "  "
+unfolding standardSet textIn number digits
+head-misread-text = refl
+
+-- a text too long is nine words, which are not read
+pub short-needed : readOf standardSet 46 3 (checkFor standardSet 3 none (replicate 42 (code "1"))) (pageFor standardSet 3 none (replicate 42 (code "1"))) ≡ refused refusals.Size
+unfolding standardSet readOf pageOf checkOf wordsWith placeIn number digits sumBy
+short-needed = refl

@@ -1,7 +1,7 @@
 -- What document 01 promises of numeric pages, for any set of characters: what is accepted, how many words are used, K, that what was written is read, and that no zero is lost.
 use Prim.Native.Nat.{ℕ, zero, suc, _+_, _-_, _*_, _/_, _%_, _^_, _≤_, _<_}
 use Prim.Native.Char.{code}
-use mathlib.Core.Bool.{Bool, true, false, not, _&&_}
+use mathlib.Core.Bool.{Bool, true, false}
 use mathlib.Core.List.{List, [], _∷_, _++_, map}
 use mathlib.Core.Logic.{_↔_}
 use mathlib.Core.Path.{_≡_, refl, sym, ap, _∙_}
@@ -13,7 +13,7 @@ use lib.ListN.{length, getD, take, drop, replicate}
 use lib.Pow.{field, pow-mono}
 use lib.Seq.{take-append-seam}
 use Rattle.laws.specs.Layouts.{size, bitsAt, fit}
-use Rattle.laws.specs.Lists.{put, placeIn, all}
+use Rattle.laws.specs.Lists.{put, placeIn}
 use Rattle.laws.specs.Numerals.{number, digits}
 use Rattle.laws.proofs.Layouts.{bits-above, bits-are}
 use Rattle.laws.proofs.Numerals.{digits-are, digits-low, digit-bits, pow-mul}
@@ -22,7 +22,7 @@ use Rattle.laws.proofs.Tests.{first-of, second-of}
 use Rattle.sums.specs.Sums.{sixBits}
 use Rattle.heard.specs.Reads.{isNumeric}
 use Rattle.refusal.specs.declared.Refusal.the-variants as refusals
-use Rattle.refusal.specs.Told.{Told, refused, given, ask, numberTold}
+use Rattle.refusal.specs.Told.{refused, given, numberTold}
 use Rattle.refusal.proofs.Laws.{passed}
 use Rattle.numeric.specs.declared.Numbering.{Numbering}
 use Rattle.numeric.specs.Pages.{Set, standardSet, wordBits, mostWords, headOf, roomOf, wordsFor, filled, rowOf, wordsWith, checkOf, inVector, pageOf, textIn, isNumbered, inSet, headed, undamaged, checked}
