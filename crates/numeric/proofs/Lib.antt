@@ -1,3 +1,7 @@
+pub mod Asking
 pub mod Bits
+pub mod Codes
 pub mod Examples
+pub mod Heads
 pub mod Laws
+pub mod Reading

@@ -1,20 +1,23 @@
 -- What is answered when a numeric page is written or read, a line a refusal, in the order of 01's table.
 use Prim.Native.Nat.{ℕ}
-use mathlib.Core.Bool.{not, _&&_}
+use mathlib.Core.Bool.{not}
 use mathlib.Core.List.{List, [], _∷_}
-use lib.Dec.{leb, ltb}
+use lib.Dec.{ltb}
 use lib.ListN.{length, getD}
-use Rattle.heard.specs.Reads.{isNumeric}
 use Rattle.refusal.specs.declared.Refusal.the-variants.{Room, Packet, Size, Damaged, Checksum, TooLong, Character}
 use Rattle.refusal.specs.Told.{Told, given, ask, numberTold, valueTold, writtenBy}
 use Rattle.numeric.specs.declared.Numbering.{Numbering}
 use Rattle.numeric.specs.declared.Written.{Written}
 use Rattle.numeric.specs.declared.PageRead.{PageRead}
-use Rattle.numeric.specs.Pages.{Set, mostWords, roomOf, checkOf, inVector, pageOf, headIn, textIn, isNumbered, inSet, headed, undamaged, checked}
+use Rattle.numeric.specs.Pages.{Set, mostWords, roomOf, checkOf, inVector, pageOf, headIn, textIn, isNumbered, inSet, headed, vectorFits, isSize, undamaged, checked}
 
 -- the numbers S, R and N, as the head has them
 abbrev pub flagsOf : Numbering → List ℕ
 flagsOf n = n .«special_format» ∷ n .retrieval ∷ n .«message_number» ∷ []
+
+-- .. and back
+abbrev pub asNumbering : List ℕ → Numbering
+asNumbering head = record { «message_number» = getD head 2 0; retrieval = getD head 1 0; «special_format» = getD head 0 0 }
 
 -- a page written for a vector's type: 7, 15, 18, and last of all 1 for a buffer of `lent` words; else the vector's K, and how many words
 unfoldable pub writtenOf : Set → ℕ → ℕ → Numbering → List ℕ → Told
@@ -37,8 +40,8 @@ asWritten t = record { number = numberTold t; check = valueTold t 0; words = val
 -- a page read with its vector's type and K: 7, 9, 10, 11, and last of all 1 for a buffer of `lent` bytes; else S, R, N, and how many characters
 unfoldable pub readOf : Set → ℕ → ℕ → ℕ → List ℕ → Told
 readOf set lent kind check words =
-    ask (not (isNumeric kind && ltb check 16)) Packet
-    (ask (not (leb 1 (length words) && leb (length words) mostWords)) Size
+    ask (not (vectorFits kind check)) Packet
+    (ask (not (isSize (length words))) Size
     (ask (not (undamaged words)) Damaged
     (ask (not (checked check words)) Checksum
     (ask (ltb lent (roomOf (isNumbered kind) (length words))) Room
@@ -54,6 +57,6 @@ abbrev pub asRead : Told → PageRead
 asRead t =
     record {
       number = numberTold t;
-      numbering = record { «message_number» = valueTold t 2; retrieval = valueTold t 1; «special_format» = valueTold t 0 };
+      numbering = asNumbering (valueTold t 0 ∷ valueTold t 1 ∷ valueTold t 2 ∷ []);
       characters = valueTold t 3;
     }

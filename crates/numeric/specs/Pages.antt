@@ -54,6 +54,10 @@ filled numbered text = spaced (roomOf numbered (wordsFor numbered (length text))
 abbrev pub codesOf : Set → List ℕ → ℕ
 codesOf set text = number 16 (map (placeIn set) text)
 
+-- three codes from a place on, as a number
+abbrev pub threeFrom : List ℕ → ℕ → ℕ
+threeFrom codes place = getD codes place 0 + 16 * (getD codes (place + 1) 0 + 16 * getD codes (place + 2) 0)
+
 -- the page's bits as one number, i0 of the first word the lowest: the head, then the characters; "left-over bits 0"
 abbrev pub rowOf : Set → Bool → List ℕ → List ℕ → ℕ
 rowOf set numbered head text = packed (headOf numbered) head + 2 ^ size (headOf numbered) * codesOf set (filled numbered text)
@@ -98,6 +102,14 @@ inSet set text = all (λ c. ltb (placeIn set c) (length set)) text
 -- whether the vector's type is that of a numeric page, and the numbers fit its head
 abbrev pub headed : ℕ → List ℕ → Bool
 headed kind flags = isNumeric kind && fit (headOf (isNumbered kind)) (flags ++ 0 ∷ [])
+
+-- whether the vector's type is that of a numeric page, and its K has four bits
+abbrev pub vectorFits : ℕ → ℕ → Bool
+vectorFits kind check = isNumeric kind && ltb check 16
+
+-- whether a page has so many words
+abbrev pub isSize : ℕ → Bool
+isSize words = leb 1 words && leb words mostWords
 
 -- whether no word has more than 21 bits
 abbrev pub undamaged : List ℕ → Bool
