@@ -4,4 +4,5 @@ pub mod Codes
 pub mod Examples
 pub mod Heads
 pub mod Laws
+pub mod Readable
 pub mod Reading

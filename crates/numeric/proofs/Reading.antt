@@ -6,8 +6,6 @@ use mathlib.Core.List.{List, [], _∷_, map}
 use native.Mathlib.Nat.{add-mul-div-left, mul-assoc, mul-comm, mul-zero, add-zero, mul-add, div-div-eq-div-mul, pow-suc}
 use native.Mathlib.Numerals.{add-one}
 use native.Mathlib.Omega.{arith}
-use borrow.Author.Tests.{leb-true, ltb-true}
-use lib.Dec.{leb, ltb}
 use lib.ListN.{length, drop, getD, set, drop-of-length-le}
 use lib.Pow.{pow-add, pow-pos, shr-shr}
 use lib.Seq.{drop-cons}
@@ -15,17 +13,8 @@ use Rattle.laws.specs.Lists.{put}
 use Rattle.laws.specs.Numerals.{number, digits}
 use Rattle.laws.proofs.Bits.{pow-pow}
 use Rattle.laws.proofs.Numerals.{number-drop}
-use Rattle.laws.proofs.Tests.{first-of, second-of}
 use Rattle.laws.proofs.Writing.{put-next}
-use Rattle.heard.specs.Reads.{isNumeric}
-use Rattle.numeric.specs.Pages.{vectorFits, isSize, undamaged}
-
--- what the first two questions say
-pub check-limit : (kind check : ℕ) → vectorFits kind check ≡ true → check < 16
-check-limit kind check e = ltb-true check 16 (second-of (isNumeric kind) (ltb check 16) e)
-
-pub size-limits : (words : ℕ) → isSize words ≡ true → (1 ≤ words) × (words ≤ 8)
-size-limits words e = (leb-true 1 words (first-of (leb 1 words) (leb words 8) e), leb-true words 8 (second-of (leb 1 words) (leb words 8) e))
+use Rattle.numeric.specs.Pages.{undamaged}
 
 -- a word and those behind it, from a bit of the word on
 from-bit : (place word rest : ℕ) → place < 21 → (word + 2 ^ 21 * rest) / 2 ^ place ≡ word / 2 ^ place + 2 ^ (21 - place) * rest

@@ -37,7 +37,13 @@ wordsAfter set kind numbering text lent =
 abbrev pub asWritten : Told → Written
 asWritten t = record { number = numberTold t; check = valueTold t 0; words = valueTold t 1 }
 
--- a page read with its vector's type and K: 7, 9, 10, 11, and last of all 1 for a buffer of `lent` bytes; else S, R, N, and how many characters
+-- what is told of a page that was read: S, R, N, and how many characters
+abbrev pub readTold : ℕ → List ℕ → Told
+readTold kind words =
+    let head = headIn (isNumbered kind) words in
+    given (getD head 0 0 ∷ getD head 1 0 ∷ getD head 2 0 ∷ roomOf (isNumbered kind) (length words) ∷ [])
+
+-- a page read with its vector's type and K: 7, 9, 10, 11, and last of all 1 for a buffer of `lent` bytes; else what the page says
 unfoldable pub readOf : Set → ℕ → ℕ → ℕ → List ℕ → Told
 readOf set lent kind check words =
     ask (not (vectorFits kind check)) Packet
@@ -45,7 +51,7 @@ readOf set lent kind check words =
     (ask (not (undamaged words)) Damaged
     (ask (not (checked check words)) Checksum
     (ask (ltb lent (roomOf (isNumbered kind) (length words))) Room
-    (given (getD (headIn (isNumbered kind) words) 0 0 ∷ getD (headIn (isNumbered kind) words) 1 0 ∷ getD (headIn (isNumbered kind) words) 2 0 ∷ roomOf (isNumbered kind) (length words) ∷ []))))))
+    (readTold kind words)))))
 
 -- what the lent bytes are then
 abbrev pub textAfter : Set → ℕ → ℕ → List ℕ → List ℕ → List ℕ

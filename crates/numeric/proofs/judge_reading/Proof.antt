@@ -6,7 +6,7 @@ use borrow.Author.Tests.{lt-ltb, le-ltb, not-true, not-false}
 use lib.ListN.{length}
 use Rattle.numeric.specs.Pages.{roomOf, isNumbered, vectorFits, isSize, undamaged, checked}
 use Rattle.numeric.specs.Answers.{readOf}
-use Rattle.numeric.proofs.Reading.{check-limit, size-limits}
+use Rattle.numeric.proofs.Readable.{check-limit, size-limits}
 use borrow.Author.Needs.{needs}
 use Rattle.numeric.proofs.judge_reading.Statement.{statement}
 use Rattle.numeric.proofs.judge_reading.Tie as tie
