@@ -3,18 +3,17 @@ use Prim.Native.Nat.{ℕ, zero, suc, _+_, _-_, _*_, _/_, _%_, _^_, _≤_, _<_}
 use mathlib.Core.Bool.{true}
 use mathlib.Core.List.{List, [], _∷_, _++_}
 use mathlib.Core.Path.{_≡_, refl, sym, ap, ap₂, _∙_}
-use native.Mathlib.Nat.{add-assoc, add-comm, add-mul-div-left, add-mul-mod-self-left, div-div-eq-div-mul, div-eq-of-lt, div-one, mod-eq-of-lt, mod-lt, mod-one, mul-add, mul-assoc, mul-comm, one-le-pow, one-mul, pow-suc, pow-succ', pow-zero, zero-add, zero-div, zero-mod}
+use native.Mathlib.Nat.{add-assoc, add-comm, add-mul-div-left, add-mul-mod-self-left, div-div-eq-div-mul, div-eq-of-lt, div-one, mod-eq-of-lt, mod-lt, mod-one, mul-add, mul-assoc, mul-comm, mul-suc, mul-zero, one-le-pow, one-mul, pow-suc, pow-succ', pow-zero, zero-add, zero-div, zero-mod}
 use native.Mathlib.Numerals.{towards-suc}
 use native.Mathlib.Omega.{arith}
 use borrow.Author.Tests.{lt-ltb, ltb-true}
 use lib.Arith.{digits-lt, mod-mul}
 use lib.Dec.{ltb}
 use lib.ListN.{length, drop, getD}
-use lib.Pow.{field, mod-mod-pow}
+use lib.Pow.{field, mod-mod-pow, pow-add}
 use Rattle.laws.specs.Layouts.{bitsAt}
 use Rattle.laws.specs.Lists.{all}
 use Rattle.laws.specs.Numerals.{number, digits, areDigits}
-use Rattle.laws.proofs.Bits.{pow-pow}
 use Rattle.laws.proofs.Layouts.{bits-above, bits-are}
 use Rattle.laws.proofs.Tests.{first-of, second-of}
 
@@ -105,6 +104,11 @@ digit-at b (d ∷ row) (suc k) e =
     rw (a-digit-less b d (number b row) k (first-digit b d row e))
     (digit-at b row k (other-digits b d row e))
 
+-- a power of a power
+pub pow-mul : (b m n : ℕ) → (b ^ m) ^ n ≡ b ^ (m * n)
+pow-mul b m zero = rw (mul-zero m, pow-zero b) (pow-zero (b ^ m))
+pow-mul b m (suc n) = rw (pow-suc (b ^ m) n, pow-mul b m n, mul-suc m n) (sym (pow-add b (m * n) m))
+
 -- the lowest bits of a number are enough to look at
 low-bits : (place wide more n : ℕ) → bitsAt place wide (n % 2 ^ (more + wide + place)) ≡ bitsAt place wide n
 low-bits place wide more n =
@@ -118,7 +122,7 @@ digit-bits size row k place wide e h =
     let n = number (2 ^ size) row in
     let parts : size - (wide + place) + wide + place ≡ size = omega arith in
     bits-above (size * k) place wide n
-    ∙ rw (← pow-pow size k)
+    ∙ rw (← pow-mul 2 size k)
     (sym (low-bits place wide (size - (wide + place)) (n / (2 ^ size) ^ k))
     ∙ rw (parts, digit-at (2 ^ size) row k e))
 

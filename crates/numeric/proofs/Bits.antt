@@ -13,9 +13,8 @@ use lib.Pow.{pow-add, pow-mono}
 use Rattle.laws.specs.Layouts.{Layout, field, size, fit, packed}
 use Rattle.laws.specs.Lists.{placeIn, all}
 use Rattle.laws.specs.Numerals.{number, digits, areDigits}
-use Rattle.laws.proofs.Bits.{pow-pow}
 use Rattle.laws.proofs.Layouts.{laid, fit-last, packed-last, packed-lt, read-ending}
-use Rattle.laws.proofs.Numerals.{length-digits, digits-at, digits-number, number-below, number-digits}
+use Rattle.laws.proofs.Numerals.{length-digits, digits-at, digits-number, number-below, number-digits, pow-mul}
 use Rattle.laws.proofs.Rows.{all-map, place-found}
 use Rattle.laws.proofs.Tests.{first-of, second-of}
 use Rattle.sums.specs.Sums.{binarySum, complement, unkeyed, folded, sixBits}
@@ -174,7 +173,7 @@ module _ (set : Set) (numbered : Bool) (flags text : List ℕ) (e : fit (headOf 
 
   codes-lt : codesOf set (filled numbered text) < 2 ^ (4 * roomOf numbered (wordsFor numbered (length text)))
   codes-lt =
-      rw (← pow-pow 4 (roomOf numbered (wordsFor numbered (length text))))
+      rw (← pow-mul 2 4 (roomOf numbered (wordsFor numbered (length text))))
       (rw codes-length at (number-below 16 (map (placeIn set) (filled numbered text)) codes-digits))
 
   -- the page's bits are those of the head and the room
@@ -185,7 +184,7 @@ module _ (set : Set) (numbered : Bool) (flags text : List ℕ) (e : fit (headOf 
 
   -- .. no more than those of the words
   row-lt : rowOf set numbered (headSent set numbered flags text) text < (2 ^ wordBits) ^ wordsFor numbered (length text)
-  row-lt = rw (pow-pow wordBits (wordsFor numbered (length text))) (lt-of-lt-of-le row-below (pow-mono (row-within numbered (length text))))
+  row-lt = rw (pow-mul 2 wordBits (wordsFor numbered (length text))) (lt-of-lt-of-le row-below (pow-mono (row-within numbered (length text))))
 
   -- .. so that the words make them again
   pub number-page : number (2 ^ wordBits) (pageOf set numbered flags text) ≡ rowOf set numbered (headSent set numbered flags text) text

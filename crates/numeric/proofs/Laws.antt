@@ -15,9 +15,8 @@ use lib.Seq.{take-append-seam}
 use Rattle.laws.specs.Layouts.{size, bitsAt, fit}
 use Rattle.laws.specs.Lists.{put, placeIn}
 use Rattle.laws.specs.Numerals.{number, digits}
-use Rattle.laws.proofs.Bits.{pow-pow}
 use Rattle.laws.proofs.Layouts.{bits-above, bits-are}
-use Rattle.laws.proofs.Numerals.{digits-are, digits-low, digit-bits}
+use Rattle.laws.proofs.Numerals.{digits-are, digits-low, digit-bits, pow-mul}
 use Rattle.laws.proofs.Rows.{all-append, all-replicate, map-at}
 use Rattle.laws.proofs.Tests.{first-of, second-of}
 use Rattle.sums.specs.Sums.{sixBits}
@@ -247,7 +246,7 @@ module _ {set : Set} {numbered : Bool} {flags text : List ℕ} (usable : Usable 
 
 -- so many characters are read from no more bits than theirs, behind the head
 low-characters : (room head row : ℕ) → digits 16 room (row % 2 ^ (4 * room + head) / 2 ^ head) ≡ digits 16 room (row / 2 ^ head)
-low-characters room head row = rw (field row (4 * room) head, ← pow-pow 4 room) (digits-low 16 room (row / 2 ^ head) (omega arith))
+low-characters room head row = rw (field row (4 * room) head, ← pow-mul 2 4 room) (digits-low 16 room (row / 2 ^ head) (omega arith))
 
 -- .. so that the bits behind the last character are not looked at in reading: words that agree in all others have the same text
 pub left-over-unread : (set : Set) (numbered : Bool) (words words′ : List ℕ) → length words ≡ length words′
