@@ -6,17 +6,16 @@ use native.Mathlib.Nat.{add-assoc, add-zero, mod-add-mod, mod-eq-of-lt, lt-of-le
 use native.Mathlib.Numerals.{add-one}
 use native.Mathlib.Omega.{arith}
 use lib.ListN.{length, getD, drop, drop-of-length-le}
-use lib.Seq.{drop-cons}
 use Rattle.laws.specs.Lists.{sumBy}
+use Rattle.laws.proofs.Rows.{sum-from}
 use Rattle.sums.specs.Sums.{groupsOf, binarySum, unkeyed, folded}
 
 module _ (rule : ℕ → ℕ) (row : List ℕ) (m so i : ℕ) where
   -- one turn: what is taken and what is still to come are what was still to come
   pub one-more : i < length row → ((so + rule (getD row i 0)) % m + sumBy rule (drop (i + 1) row)) % m ≡ (so + sumBy rule (drop i row)) % m
-  unfolding sumBy
   one-more within =
       mod-add-mod (so + rule (getD row i 0)) m (sumBy rule (drop (i + 1) row))
-      ∙ rw (add-one, drop-cons row i 0 within, add-assoc)
+      ∙ rw (add-one, sum-from rule row i within, add-assoc)
 
   -- at the end nothing is still to come
   pub none-left : length row ≤ i → so < m → (so + sumBy rule (drop i row)) % m ≡ so
