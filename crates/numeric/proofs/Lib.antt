@@ -6,4 +6,5 @@ pub mod Heads
 pub mod Laws
 pub mod Readable
 pub mod Reading
+pub mod Writable
 pub mod Writing
