@@ -1,22 +1,24 @@
 -- The words of a page, from the codes of its characters.
-use Prim.Native.Nat.{ℕ, suc, _+_, _-_, _*_, _/_, _%_, _^_, _≤_, _<_}
+use Prim.Native.Nat.{ℕ, zero, suc, _+_, _-_, _*_, _/_, _%_, _^_, _≤_, _<_}
 use mathlib.Core.Bool.{Bool, true, false, _&&_}
-use mathlib.Core.List.{List, map}
-use mathlib.Core.Path.{_≡_, refl, sym, ap, _∙_}
+use mathlib.Core.List.{List, [], _∷_, _++_, map}
+use mathlib.Core.Path.{_≡_, refl, sym, ap, ap₂, _∙_}
 use native.Mathlib.Nat.{div-div-eq-div-mul, div-one, pow-suc, pow-zero, sub-zero}
 use native.Mathlib.Numerals.{add-one, towards-suc}
 use native.Mathlib.Omega.{arith}
 use lib.Dec.{ltb}
-use lib.ListN.{length, set}
+use lib.ListN.{length, getD, take, set}
+use lib.Seq.{take-at}
 use lib.Pow.{field, high, mod-mod-pow, shr-shr}
-use Rattle.laws.specs.Layouts.{size}
+use Rattle.laws.specs.Layouts.{size, fit}
 use Rattle.laws.specs.Lists.{put, placeIn, all}
 use Rattle.laws.specs.Numerals.{number, digits, areDigits}
-use Rattle.laws.proofs.Numerals.{pow-mul, six-from}
+use Rattle.laws.proofs.Numerals.{length-digits, pow-mul, six-from}
 use Rattle.laws.proofs.Rows.{all-append, all-replicate}
-use Rattle.laws.proofs.Writing.{put-next, put-nothing}
-use Rattle.numeric.specs.Pages.{standardSet, headOf, spaced, threeFrom, inSet}
-use Rattle.numeric.proofs.Bits.{codes-are}
+use Rattle.laws.proofs.Writing.{length-put, put-next, put-nothing}
+use Rattle.sums.specs.Sums.{sixBits}
+use Rattle.numeric.specs.Pages.{standardSet, headOf, wordsFor, spaced, threeFrom, wordsWith, checkOf, inWord, pageOf, inSet}
+use Rattle.numeric.proofs.Bits.{aboveOf, check-small, codes-are, row-with, some-word}
 
 -- the codes of a text of the set, and of its spaces, are four bits each
 pub spaced-codes : (room : ℕ) (text : List ℕ) → inSet standardSet text ≡ true → areDigits 16 (map (placeIn standardSet) (spaced room text)) ≡ true
@@ -78,3 +80,46 @@ behind-head h start i head codes small e =
     ap (λ (d : ℕ). row / d) (pow-mul 2 21 i ∙ ap (λ (k : ℕ). 2 ^ k) (sym e))
     ∙ sym (shr-shr row h start)
     ∙ ap (λ (n : ℕ). n / 2 ^ start) (ap (λ (n : ℕ). n / 2 ^ h) swap ∙ high codes h small)
+
+-- ---- K
+
+-- a number below 4 is added to the first word where that ends in two bits of 0
+first-more : (n q k : ℕ) (lent : List ℕ) → 1 ≤ n → k < 4
+    → let words = put lent 0 (digits (2 ^ 21) n (q * 4 + 0)) in (getD words 0 0 < 2 ^ 21) × (set words 0 (getD words 0 0 + k) ≡ put lent 0 (digits (2 ^ 21) n (q * 4 + k)))
+unfolding digits
+first-more zero q k lent some small = absurd (omega arith)
+first-more (suc n) q k lent some small =
+    let first : (q * 4 + 0) % 2 ^ 21 + k ≡ (q * 4 + k) % 2 ^ 21 = omega arith in
+    let rest : (q * 4 + 0) / 2 ^ 21 ≡ (q * 4 + k) / 2 ^ 21 = omega arith in
+    (omega arith, ap₂ (λ (f r : ℕ). put lent 0 (f ∷ digits (2 ^ 21) n r)) first rest)
+
+-- the words of a page with K as 0
+abbrev pub zeroed : Bool → List ℕ → List ℕ → List ℕ
+zeroed numbered flags text = wordsWith standardSet numbered (flags ++ 0 ∷ []) text
+
+module _ (numbered : Bool) (flags text lent : List ℕ) where
+  -- as many as the text needs
+  zeroed-length : length (zeroed numbered flags text) ≡ wordsFor numbered (length text)
+  unfolding wordsWith
+  zeroed-length = length-digits (2 ^ 21) (wordsFor numbered (length text)) _
+
+  -- written, they leave the lent words as many as they were
+  pub zeroed-fits : wordsFor numbered (length text) ≤ length lent → length (put lent 0 (zeroed numbered flags text)) ≡ length lent
+  zeroed-fits enough = length-put lent (zeroed numbered flags text) 0 (omega (arith, zeroed-length))
+
+  -- .. and K is taken of them
+  pub k-taken : sixBits (take (wordsFor numbered (length text)) (put lent 0 (zeroed numbered flags text))) ≡ checkOf standardSet numbered flags text
+  unfolding checkOf
+  k-taken = ap sixBits (take-at (zeroed numbered flags text) _ (wordsFor numbered (length text)) zeroed-length)
+
+  module _ (fits : fit (headOf numbered) (flags ++ 0 ∷ []) ≡ true) where
+    keyed : (k : ℕ) → k < 4 → let words = put lent 0 (zeroed numbered flags text) in (getD words 0 0 < 2 ^ 21) × (set words 0 (getD words 0 0 + k) ≡ put lent 0 (wordsWith standardSet numbered (flags ++ k ∷ []) text))
+    unfolding wordsWith
+    keyed k small =
+        rw (row-with standardSet numbered flags text k fits small, row-with standardSet numbered flags text 0 fits (omega arith))
+        (first-more (wordsFor numbered (length text)) (aboveOf standardSet numbered flags text) k lent (some-word numbered (length text)) small)
+
+    -- .. K5 with K4 added to the first makes the page
+    pub k-added : let words = put lent 0 (zeroed numbered flags text) in (getD words 0 0 < 2 ^ 21) × (set words 0 (getD words 0 0 + inWord (checkOf standardSet numbered flags text)) ≡ put lent 0 (pageOf standardSet numbered flags text))
+    unfolding pageOf
+    k-added = keyed (inWord (checkOf standardSet numbered flags text)) (check-small standardSet numbered flags text)
