@@ -74,6 +74,10 @@ digits-number b (d ∷ row) e =
     let h = first-digit b d row e in
     ap₂ _∷_ (lowest b d (number b row) h) (rw (without-lowest b d (number b row) h) (digits-number b row (other-digits b d row e)))
 
+-- .. so that the digits of a number, so many, are not asked for more than their power
+pub digits-low : (b n x : ℕ) → 0 < b → digits b n (x % b ^ n) ≡ digits b n x
+digits-low b n x h = rw (length-digits b n x, number-digits b n x h) at (digits-number b (digits b n x) (digits-are b n x h))
+
 -- a row's number is below the power of its length
 pub number-below : (b : ℕ) (row : List ℕ) → areDigits b row ≡ true → number b row < b ^ length row
 unfolding number

@@ -49,7 +49,7 @@ filled-length numbered text = simp (length-append, length-replicate) (omega (ari
 -- ---- the head
 
 -- Tables 41 and 42: what stands above K5 and K4
-abbrev aboveK : Bool → Layout
+abbrev pub aboveK : Bool → Layout
 aboveK true = field 1 ∷ field 1 ∷ field 6 ∷ []
 aboveK false = field 0 ∷ field 0 ∷ field 0 ∷ []
 
@@ -57,7 +57,7 @@ head-parts : (numbered : Bool) → headOf numbered ≡ aboveK numbered ++ field 
 head-parts true = refl
 head-parts false = refl
 
-laid-head : (numbered : Bool) → T (laid (headOf numbered))
+pub laid-head : (numbered : Bool) → T (laid (headOf numbered))
 laid-head true = tt
 laid-head false = tt
 
@@ -72,11 +72,11 @@ fit-with numbered flags k e h =
     rw (head-parts numbered) (fit-last (aboveK numbered) flags 2 k ∙ rw (flags-fit numbered flags e, lt-ltb k 4 h))
 
 -- the bits of a page above K5 and K4, as one number
-abbrev aboveOf : Set → Bool → List ℕ → List ℕ → ℕ
+abbrev pub aboveOf : Set → Bool → List ℕ → List ℕ → ℕ
 aboveOf set numbered flags text = packed (aboveK numbered) flags + 2 ^ size (aboveK numbered) * codesOf set (filled numbered text)
 
 -- K5 and K4 are the lowest bits
-row-with : (set : Set) (numbered : Bool) (flags text : List ℕ) (k : ℕ) → fit (headOf numbered) (flags ++ 0 ∷ []) ≡ true → k < 4 → rowOf set numbered (flags ++ k ∷ []) text ≡ aboveOf set numbered flags text * 4 + k
+pub row-with : (set : Set) (numbered : Bool) (flags text : List ℕ) (k : ℕ) → fit (headOf numbered) (flags ++ 0 ∷ []) ≡ true → k < 4 → rowOf set numbered (flags ++ k ∷ []) text ≡ aboveOf set numbered flags text * 4 + k
 row-with set true flags text k e h = omega (arith, packed-last (aboveK true) flags 2 k tt tt (flags-fit true flags e) h)
 row-with set false flags text k e h = omega (arith, packed-last (aboveK false) flags 2 k tt tt (flags-fit false flags e) h)
 
@@ -98,7 +98,7 @@ in-first true row = omega arith
 in-first false row = omega arith
 
 -- K has six bits, so K5 with K4 is below 4
-check-small : (set : Set) (numbered : Bool) (flags text : List ℕ) → inWord (checkOf set numbered flags text) < 4
+pub check-small : (set : Set) (numbered : Bool) (flags text : List ℕ) → inWord (checkOf set numbered flags text) < 4
 unfolding checkOf
 check-small set numbered flags text = omega arith
 
@@ -149,7 +149,7 @@ module _ (set : Set) (numbered : Bool) (flags text : List ℕ) (e : fit (headOf 
 -- ---- the characters
 
 -- the codes of characters of the set are digits
-codes-are : (set : Set) (text : List ℕ) → length set ≡ 16 → inSet set text ≡ true → areDigits 16 (map (placeIn set) text) ≡ true
+pub codes-are : (set : Set) (text : List ℕ) → length set ≡ 16 → inSet set text ≡ true → areDigits 16 (map (placeIn set) text) ≡ true
 unfolding inSet
 codes-are set text sixteen known = all-map (λ d. ltb d 16) (placeIn set) text ∙ (rw sixteen at known)
 
