@@ -502,10 +502,15 @@ static int input_goes_on(void)
     return length > 0;
 }
 
-static uint8_t take_u8(void)
+static void need_input(void)
 {
     if (!input_goes_on())
         fail("exchange: a request is cut short\n");
+}
+
+static uint8_t take_u8(void)
+{
+    need_input();
     return input[input_taken++];
 }
 
@@ -521,10 +526,18 @@ static uint16_t take_u16(void) { return (uint16_t)take_number(2); }
 static uint32_t take_u32(void) { return (uint32_t)take_number(4); }
 static uint64_t take_u64(void) { return take_number(8); }
 
+static size_t lesser(size_t one, size_t other) { return one < other ? one : other; }
+
 static void take_bytes(uint8_t *to, size_t length)
 {
-    for (size_t place = 0; place < length; place++)
-        to[place] = take_u8();
+    while (length > 0) {
+        need_input();
+        size_t taken = lesser(length, input_length - input_taken);
+        memcpy(to, input + input_taken, taken);
+        input_taken += taken;
+        to += taken;
+        length -= taken;
+    }
 }
 
 static void give_u8(uint8_t byte)
@@ -546,8 +559,15 @@ static void give_u64(uint64_t number) { give_number(number, 8); }
 
 static void give_bytes(const uint8_t *from, size_t length)
 {
-    for (size_t place = 0; place < length; place++)
-        give_u8(from[place]);
+    while (length > 0) {
+        if (output_length == PIECE)
+            send_answers();
+        size_t given = lesser(length, PIECE - output_length);
+        memcpy(output + output_length, from, given);
+        output_length += given;
+        from += given;
+        length -= given;
+    }
 }
 
 /*
