@@ -2,6 +2,8 @@ pub mod Bits
 pub mod Counting
 pub mod LayoutExamples
 pub mod Layouts
+pub mod Numerals
+pub mod Rows
 pub mod Tests
 pub mod Writing
 pub mod Xor

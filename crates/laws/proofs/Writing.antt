@@ -29,6 +29,11 @@ module _ {ℓ} {A : Type ℓ} where
       ap (λ (n : ℕ). drop (n + length ys) (front ++ back)) (sym here) ∙ drop-append-add front back (length ys) ∙ drop-drop (length ys) (place + length xs) buffer in
       rw (take-at front back (place + length xs) here, rest, length-append xs ys, ← add-assoc place (length xs) (length ys)) (simp append-assoc)
 
+  -- a store, and a text behind it
+  pub put-next : (buffer text : List A) (place : ℕ) (a : A) → place < length buffer → put (set buffer place a) (suc place) text ≡ put buffer place (a ∷ text)
+  put-next buffer text place a within =
+      rw (put-one buffer place a within, ← add-one place) (put-behind buffer (a ∷ []) text place (omega arith))
+
   -- a text is put in front of what was put
   pub put-before : (buffer xs ys : List A) (place : ℕ) → place + length xs + length ys ≤ length buffer → put (put buffer (place + length xs) ys) place xs ≡ put buffer place (xs ++ ys)
   put-before buffer xs ys place within =

@@ -16,6 +16,10 @@ use Rattle.numeric.specs.Pages.{Set, mostWords, roomOf, checkOf, inVecto
 abbrev pub flagsOf : Numbering → List ℕ
 flagsOf n = n .«special_format» ∷ n .retrieval ∷ n .«message_number» ∷ []
 
+-- .. and back
+abbrev pub asNumbering : List ℕ → Numbering
+asNumbering head = record { «message_number» = getD head 2 0; retrieval = getD head 1 0; «special_format» = getD head 0 0 }
+
 -- a page written for a vector's type: 7, 15, 18, and last of all 1 for a buffer of `lent` words; else the vector's K, and how many words
 unfoldable pub writtenOf : Set → ℕ → ℕ → Numbering → List ℕ → Told
 writtenOf set lent kind numbering text =
@@ -54,6 +58,6 @@ abbrev pub asRead : Told → PageRead
 asRead t =
     record {
       number = numberTold t;
-      numbering = record { «message_number» = valueTold t 2; retrieval = valueTold t 1; «special_format» = valueTold t 0 };
+      numbering = asNumbering (valueTold t 0 ∷ valueTold t 1 ∷ valueTold t 2 ∷ []);
       characters = valueTold t 3;
     }

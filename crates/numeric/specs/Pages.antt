@@ -54,6 +54,10 @@ filled numbered text = spaced (roomOf numbered (wordsFor numbered (length text))
 abbrev pub codesOf : Set → List ℕ → ℕ
 codesOf set text = number 16 (map (placeIn set) text)
 
+-- three codes from a place on, as a number
+abbrev pub threeFrom : List ℕ → ℕ → ℕ
+threeFrom codes place = getD codes place 0 + 16 * (getD codes (place + 1) 0 + 16 * getD codes (place + 2) 0)
+
 -- the page's bits as one number, i0 of the first word the lowest: the head, then the characters; "left-over bits 0"
 abbrev pub rowOf : Set → Bool → List ℕ → List ℕ → ℕ
 rowOf set numbered head text = packed (headOf numbered) head + 2 ^ size (headOf numbered) * codesOf set (filled numbered text)

@@ -3,15 +3,15 @@
 ghost use mathlib.Core.Path.{_≡_};
 ghost use Prim.Native.Nat.{_+_, _*_, _/_, _%_, _^_, _≤_, _<_};
 ghost use mathlib.Core.Bool.{true};
-ghost use mathlib.Core.List.{map};
+ghost use mathlib.Core.List.{[], _∷_, _++_, map};
 ghost use lib.ListN.{length, getD};
-ghost use Rattle.laws.specs.Layouts.{size, fit, packed};
+ghost use Rattle.laws.specs.Layouts.{size, fieldsOf, fit, packed};
 ghost use Rattle.laws.specs.Lists.{put, placeIn};
 ghost use Rattle.laws.specs.Numerals.{number, digits};
 ghost use Rattle.refusal.specs.Told.{numberTold};
 ghost use Rattle.heard.specs.Reads.{isNumeric};
-ghost use Rattle.numeric.specs.Pages.{standardSet, mostWords, headOf, roomOf, wordsFor, spaced, codesOf, wordsWith, checkOf, pageOf, textIn, isNumbered, inSet, headed, undamaged, checked};
-ghost use Rattle.numeric.specs.Answers.{flagsOf, writtenOf, wordsAfter, asWritten, readOf, textAfter, asRead};
+ghost use Rattle.numeric.specs.Pages.{standardSet, mostWords, headOf, roomOf, wordsFor, spaced, codesOf, threeFrom, wordsWith, checkOf, pageOf, textIn, isNumbered, inSet, headed, undamaged, checked};
+ghost use Rattle.numeric.specs.Answers.{flagsOf, asNumbering, writtenOf, wordsAfter, asWritten, readOf, textAfter, asRead};
 use heard::Vector;
 use refusal::Refusal;
 
@@ -93,4 +93,314 @@ fn character_of(code: u32) -> u8
         15 => b'[',
         _ => b'0' + code as u8,
     }
+}
+
+// 01's table, 18: whether every character is in the set.
+fn in_set(text: &[u8]) -> bool
+    ensures { λ r. ⌜ r ≡ inSet standardSet (now (text .entry)) ⌝ }
+{
+    let mut i: usize = 0;
+    while i < text.len() {
+        if code_of(text[i]) > 15 {
+            return false;
+        }
+        i += 1;
+    }
+    true
+}
+
+// 01's table, 10: whether no word has more than 21 bits.
+fn undamaged(words: &[u32]) -> bool
+    ensures { λ r. ⌜ r ≡ undamaged (now (words .entry)) ⌝ }
+{
+    let mut i: usize = 0;
+    while i < words.len() {
+        if words[i] >= 0x20_0000 {
+            return false;
+        }
+        i += 1;
+    }
+    true
+}
+
+// Whether the numbers S, R and N fit the head. A page that is not numbered has no bits for them.
+fn fits_head(numbered: bool, n: Numbering) -> bool
+    ensures { λ r. ⌜ r ≡ fit (headOf numbered) (flagsOf n ++ 0 ∷ []) ⌝ }
+{
+    if numbered {
+        return (n.special_format < 2) & (n.retrieval < 2) & (n.message_number < 64);
+    }
+    (n.special_format < 1) & (n.retrieval < 1) & (n.message_number < 1)
+}
+
+// 01's table, 7: whether the vector's type is that of a numeric page, and S, R and N fit its head.
+fn headed(kind: u32, numbering: Numbering) -> bool
+    ensures { λ r. ⌜ r ≡ headed kind (flagsOf numbering) ⌝ }
+{
+    is_numeric(kind) & fits_head(kind == Vector::NUMBERED, numbering)
+}
+
+// How many words so many characters need.
+fn words_for(numbered: bool, characters: usize) -> usize
+    requires { ⌜ characters ≤ 41 ⌝ }
+    ensures { λ r. ⌜ r ≡ wordsFor numbered characters ⌝ }
+{
+    (head_size(numbered) + 4 * characters + 20) / 21
+}
+
+// The first refusal of a page to write, or 0.
+fn judge_writing(text: &[u8], kind: u32, numbering: Numbering, lent: usize) -> u32
+    ensures { λ r. ⌜ r ≡ numberTold (writtenOf standardSet lent kind numbering (now (text .entry))) ⌝ }
+{
+    if !headed(kind, numbering) {
+        return Refusal::Packet.number();
+    }
+    let numbered = kind == Vector::NUMBERED;
+    if text.len() > room_of(numbered, 8) {
+        return Refusal::TooLong.number();
+    }
+    if !in_set(text) {
+        return Refusal::Character.number();
+    }
+    if lent < words_for(numbered, text.len()) {
+        return Refusal::Room.number();
+    }
+    0
+}
+
+// S, R and N at their places in the head, K as 0.
+fn head_of(numbered: bool, n: Numbering) -> u32
+    requires { ⌜ fit (headOf numbered) (flagsOf n ++ 0 ∷ []) ≡ true ⌝ }
+    ensures { λ r. ⌜ r ≡ packed (headOf numbered) (flagsOf n ++ 0 ∷ []) ⌝ }
+{
+    n.special_format * 512 + n.retrieval * 256 + n.message_number * 4
+}
+
+// The code at a place of the page: that of the text, then that of a space, and behind the room 0.
+fn code_at(text: &[u8], place: usize, room: usize) -> u32
+    requires { ⌜ length (now text) ≤ room ⌝ }
+    ensures code { λ r. ⌜ r ≡ getD (map (placeIn standardSet) (spaced room (now (text .entry)))) place 0 ⌝ }
+    ensures small { λ r. ⌜ r ≤ 16 ⌝ }
+{
+    if place < text.len() {
+        return code_of(text[place]);
+    }
+    if place < room { 12 } else { 0 }
+}
+
+// The codes at three places as one number, the first lowest.
+fn three_codes(text: &[u8], place: usize, room: usize) -> u32
+    requires { ⌜ length (now text) ≤ room ⌝ }
+    requires { ⌜ place ≤ 64 ⌝ }
+    ensures codes { λ r. ⌜ r ≡ threeFrom (map (placeIn standardSet) (spaced room (now (text .entry)))) place ⌝ }
+    ensures small { λ r. ⌜ r ≤ 4368 ⌝ }
+{
+    let first = code_at(text, place, room);
+    let second = code_at(text, place + 1, room);
+    let third = code_at(text, place + 2, room);
+    first + 16 * (second + 16 * third)
+}
+
+// The codes at six places as one number: 24 bits of the characters' bits, which hold any 21 that begin in the first.
+fn six_codes(text: &[u8], place: usize, room: usize) -> u32
+    requires { ⌜ inSet standardSet (now text) ≡ true ⌝ }
+    requires { ⌜ length (now text) ≤ room ⌝ }
+    requires { ⌜ place ≤ 61 ⌝ }
+    ensures { λ r. ⌜ r ≡ codesOf standardSet (spaced room (now (text .entry))) / 16 ^ place % 16 ^ 6 ⌝ }
+{
+    three_codes(text, place, room) + 4096 * three_codes(text, place + 3, room)
+}
+
+// The first word: the head, and as many of the characters' bits as stand behind it.
+fn first_word(text: &[u8], numbered: bool, head: u32, room: usize) -> u32
+    requires { ⌜ inSet standardSet (now text) ≡ true ⌝ }
+    requires { ⌜ length (now text) ≤ room ⌝ }
+    requires { ⌜ head < 2 ^ size (headOf numbered) ⌝ }
+    ensures { λ r. ⌜ r ≡ (head + 2 ^ size (headOf numbered) * codesOf standardSet (spaced room (now (text .entry)))) % 2 ^ 21 ⌝ }
+{
+    head + (six_codes(text, 0, room) << head_size(numbered)) % 0x20_0000
+}
+
+// A later word: 21 of the characters' bits from a bit on.
+fn later_word(text: &[u8], start: usize, room: usize) -> u32
+    requires { ⌜ inSet standardSet (now text) ≡ true ⌝ }
+    requires { ⌜ length (now text) ≤ room ⌝ }
+    requires { ⌜ start ≤ 200 ⌝ }
+    ensures { λ r. ⌜ r ≡ codesOf standardSet (spaced room (now (text .entry))) / 2 ^ start % 2 ^ 21 ⌝ }
+{
+    (six_codes(text, start / 4, room) >> (start % 4)) % 0x20_0000
+}
+
+// The words of a page with this head.
+fn write_words(text: &[u8], numbered: bool, head: u32, count: usize, words: &mut [u32])
+    requires { ⌜ inSet standardSet (now text) ≡ true ⌝ }
+    requires { ⌜ length (now text) ≤ roomOf numbered count ⌝ }
+    requires { ⌜ head < 2 ^ size (headOf numbered) ⌝ }
+    requires { ⌜ 1 ≤ count ⌝ }
+    requires { ⌜ count ≤ 8 ⌝ }
+    requires { ⌜ count ≤ length (now words) ⌝ }
+    ensures { λ r. ⌜ now (words .exit) ≡ put (now (words .entry)) 0 (digits (2 ^ 21) count (head + 2 ^ size (headOf numbered) * codesOf standardSet (spaced (roomOf numbered count) (now (text .entry))))) ⌝ }
+{
+    let room = room_of(numbered, count);
+    words[0] = first_word(text, numbered, head, room);
+    let mut start = 21 - head_size(numbered);
+    let mut i: usize = 1;
+    while i < count {
+        words[i] = later_word(text, start, room);
+        start += 21;
+        i += 1;
+    }
+}
+
+// The page of a text that is not refused: first with K as 0, then K4 and K5 in its first word.
+fn write_page(text: &[u8], kind: u32, numbering: Numbering, words: &mut [u32]) -> Written
+    requires { ⌜ numberTold (writtenOf standardSet (length (now words)) kind numbering (now text)) ≡ 0 ⌝ }
+    ensures told { λ r. ⌜ r ≡ asWritten (writtenOf standardSet (length (now (words .entry))) kind numbering (now (text .entry))) ⌝ }
+    ensures buffer { λ r. ⌜ now (words .exit) ≡ wordsAfter standardSet kind numbering (now (text .entry)) (now (words .entry)) ⌝ }
+{
+    let numbered = kind == Vector::NUMBERED;
+    let count = words_for(numbered, text.len());
+    write_words(text, numbered, head_of(numbered, numbering), count, words);
+    let check = sums::six_bit(&words[..count]);
+    words[0] = words[0] + check / 16;
+    Written {
+        number: 0,
+        check: check % 16,
+        words: count,
+    }
+}
+
+// A text as the words of a page, for a vector of this type: K for the vector and the number of words, or the
+// first refusal. What is refused leaves the words as they were.
+pub fn write(text: &[u8], kind: u32, numbering: Numbering, words: &mut [u32]) -> Written
+    ensures told { λ r. ⌜ r ≡ asWritten (writtenOf standardSet (length (now (words .entry))) kind numbering (now (text .entry))) ⌝ }
+    ensures buffer { λ r. ⌜ now (words .exit) ≡ wordsAfter standardSet kind numbering (now (text .entry)) (now (words .entry)) ⌝ }
+{
+    let number = judge_writing(text, kind, numbering, words.len());
+    if number != 0 {
+        return Written {
+            number,
+            check: 0,
+            words: 0,
+        };
+    }
+    write_page(text, kind, numbering, words)
+}
+
+// The first refusal of a page to read, or 0.
+fn judge_reading(kind: u32, check: u32, words: &[u32], lent: usize) -> u32
+    ensures { λ r. ⌜ r ≡ numberTold (readOf standardSet lent kind check (now (words .entry))) ⌝ }
+{
+    if !(is_numeric(kind) & (check < 16)) {
+        return Refusal::Packet.number();
+    }
+    if !((1 <= words.len()) & (words.len() <= 8)) {
+        return Refusal::Size.number();
+    }
+    if !undamaged(words) {
+        return Refusal::Damaged.number();
+    }
+    if sums::six_bit(words) != check + 16 * (words[0] % 4) {
+        return Refusal::Checksum.number();
+    }
+    if lent < room_of(kind == Vector::NUMBERED, words.len()) {
+        return Refusal::Room.number();
+    }
+    0
+}
+
+// The code that begins at a bit of a word; where it does not end there, its rest stands in the next.
+fn code_in(words: &[u32], at: usize, place: usize) -> u32
+    requires { ⌜ undamaged (now words) ≡ true ⌝ }
+    requires { ⌜ at < length (now words) ⌝ }
+    requires { ⌜ place < 21 ⌝ }
+    ensures { λ r. ⌜ r ≡ number (2 ^ 21) (now (words .entry)) / 2 ^ (21 * at + place) % 16 ⌝ }
+{
+    let low = words[at] >> place;
+    if place < 18 {
+        return low % 16;
+    }
+    if at + 1 == words.len() {
+        return low % 16;
+    }
+    (low + (words[at + 1] << (21 - place)) % 16) % 16
+}
+
+// The characters of a page, as many as it has room for.
+fn write_characters(words: &[u32], numbered: bool, room: usize, text: &mut [u8])
+    requires { ⌜ undamaged (now words) ≡ true ⌝ }
+    requires { ⌜ 1 ≤ length (now words) ⌝ }
+    requires { ⌜ length (now words) ≤ 8 ⌝ }
+    requires { ⌜ room ≡ roomOf numbered (length (now words)) ⌝ }
+    requires { ⌜ room ≤ length (now text) ⌝ }
+    ensures { λ r. ⌜ now (text .exit) ≡ put (now (text .entry)) 0 (textIn standardSet numbered (now (words .entry))) ⌝ }
+{
+    let mut at: usize = 0;
+    let mut place = head_size(numbered);
+    let mut i: usize = 0;
+    while i < room {
+        text[i] = character_of(code_in(words, at, place));
+        if place < 17 {
+            place += 4;
+        } else {
+            place -= 17;
+            at += 1;
+        }
+        i += 1;
+    }
+}
+
+// What the head of a numbered page says; of another nothing.
+fn numbering_in(numbered: bool, first: u32) -> Numbering
+    ensures { λ r. ⌜ r ≡ asNumbering (fieldsOf (headOf numbered) first) ⌝ }
+{
+    if numbered {
+        return Numbering {
+            message_number: (first >> 2) % 64,
+            retrieval: (first >> 8) % 2,
+            special_format: (first >> 9) % 2,
+        };
+    }
+    Numbering {
+        message_number: 0,
+        retrieval: 0,
+        special_format: 0,
+    }
+}
+
+// The characters of a page that is not refused.
+fn read_page(kind: u32, check: u32, words: &[u32], text: &mut [u8]) -> PageRead
+    requires { ⌜ numberTold (readOf standardSet (length (now text)) kind check (now words)) ≡ 0 ⌝ }
+    ensures told { λ r. ⌜ r ≡ asRead (readOf standardSet (length (now (text .entry))) kind check (now (words .entry))) ⌝ }
+    ensures buffer { λ r. ⌜ now (text .exit) ≡ textAfter standardSet kind check (now (words .entry)) (now (text .entry)) ⌝ }
+{
+    let numbered = kind == Vector::NUMBERED;
+    let room = room_of(numbered, words.len());
+    write_characters(words, numbered, room, text);
+    PageRead {
+        number: 0,
+        numbering: numbering_in(numbered, words[0]),
+        characters: room,
+    }
+}
+
+// The words of a page as text, with the type and the K of its vector: the characters, all that the words have room
+// for, and what the head says; or the first refusal. What is refused leaves the text as it was.
+pub fn read(kind: u32, check: u32, words: &[u32], text: &mut [u8]) -> PageRead
+    ensures told { λ r. ⌜ r ≡ asRead (readOf standardSet (length (now (text .entry))) kind check (now (words .entry))) ⌝ }
+    ensures buffer { λ r. ⌜ now (text .exit) ≡ textAfter standardSet kind check (now (words .entry)) (now (text .entry)) ⌝ }
+{
+    let number = judge_reading(kind, check, words, text.len());
+    if number != 0 {
+        return PageRead {
+            number,
+            numbering: Numbering {
+                message_number: 0,
+                retrieval: 0,
+                special_format: 0,
+            },
+            characters: 0,
+        };
+    }
+    read_page(kind, check, words, text)
 }

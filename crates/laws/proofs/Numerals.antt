@@ -1,0 +1,121 @@
+-- Laws of digits, for every base: a row of digits and the number it makes lead to each other, and each digit stands where its power says.
+use Prim.Native.Nat.{ℕ, zero, suc, _+_, _*_, _/_, _%_, _^_, _<_}
+use mathlib.Core.Bool.{true}
+use mathlib.Core.List.{List, [], _∷_, _++_}
+use mathlib.Core.Path.{_≡_, refl, sym, ap, ap₂, _∙_}
+use native.Mathlib.Nat.{add-assoc, add-comm, add-mul-div-left, add-mul-mod-self-left, div-div-eq-div-mul, div-eq-of-lt, div-one, mod-eq-of-lt, mod-lt, mod-one, mul-add, mul-assoc, mul-comm, one-le-pow, one-mul, pow-suc, pow-succ', pow-zero, zero-add, zero-div, zero-mod}
+use native.Mathlib.Numerals.{towards-suc}
+use native.Mathlib.Omega.{arith}
+use borrow.Author.Tests.{lt-ltb, ltb-true}
+use lib.Arith.{digits-lt, mod-mul}
+use lib.Dec.{ltb}
+use lib.ListN.{length, drop, getD}
+use Rattle.laws.specs.Lists.{all}
+use Rattle.laws.specs.Numerals.{number, digits, areDigits}
+use Rattle.laws.proofs.Tests.{first-of, second-of}
+
+-- as many digits as were asked for
+pub length-digits : (b n x : ℕ) → length (digits b n x) ≡ n
+unfolding digits
+length-digits b zero x = refl
+length-digits b (suc n) x = ap suc (length-digits b n (x / b))
+
+-- the digits of a number are digits
+pub digits-are : (b n x : ℕ) → 0 < b → areDigits b (digits b n x) ≡ true
+unfolding digits all
+digits-are b zero x h = refl
+digits-are b (suc n) x h = rw (lt-ltb (x % b) b (mod-lt x h)) (digits-are b n (x / b) h)
+
+-- so many digits of a number make the number, up to their power
+pub number-digits : (b n x : ℕ) → 0 < b → number b (digits b n x) ≡ x % b ^ n
+unfolding number digits
+number-digits b zero x h = sym (rw (pow-zero b) (mod-one x))
+number-digits b (suc n) x h =
+    rw (number-digits b n (x / b) h, mul-comm b _, add-comm (x % b) _, pow-suc b n)
+    (sym (mod-mul x (one-le-pow n b h) h))
+
+-- of a row of digits the first is one
+first-digit : (b d : ℕ) (row : List ℕ) → areDigits b (d ∷ row) ≡ true → d < b
+unfolding all
+first-digit b d row e = ltb-true d b (first-of (ltb d b) (areDigits b row) e)
+
+-- .. and so are the others
+other-digits : (b d : ℕ) (row : List ℕ) → areDigits b (d ∷ row) ≡ true → areDigits b row ≡ true
+unfolding all
+other-digits b d row e = second-of (ltb d b) (areDigits b row) e
+
+-- of a digit and the digits above it, the digit
+lowest : (b d n : ℕ) → d < b → (d + b * n) % b ≡ d
+lowest b d n h = add-mul-mod-self-left d b n ∙ mod-eq-of-lt h
+
+-- .. and the digits above it
+without-lowest : (b d n : ℕ) → d < b → (d + b * n) / b ≡ n
+without-lowest b d n h = add-mul-div-left d n (omega arith) ∙ rw (div-eq-of-lt h, zero-add)
+
+-- .. and a power of the base is a digit
+a-digit-less : (b d n k : ℕ) → d < b → (d + b * n) / b ^ suc k ≡ n / b ^ k
+a-digit-less b d n k h = rw (pow-succ' b k, ← div-div-eq-div-mul (d + b * n) b (b ^ k), without-lowest b d n h)
+
+-- the digits of the number that a row makes are the row
+pub digits-number : (b : ℕ) (row : List ℕ) → areDigits b row ≡ true → digits b (length row) (number b row) ≡ row
+unfolding number digits
+digits-number b [] e = refl
+digits-number b (d ∷ row) e =
+    let h = first-digit b d row e in
+    ap₂ _∷_ (lowest b d (number b row) h) (rw (without-lowest b d (number b row) h) (digits-number b row (other-digits b d row e)))
+
+-- a row's number is below the power of its length
+pub number-below : (b : ℕ) (row : List ℕ) → areDigits b row ≡ true → number b row < b ^ length row
+unfolding number
+number-below b [] e = rw (pow-zero b) (omega arith)
+number-below b (d ∷ row) e =
+    rw (add-comm d _, mul-comm b _, pow-suc b (length row))
+    (digits-lt (number-below b row (other-digits b d row e)) (first-digit b d row e))
+
+-- a row's number without its lowest digits, so many, is the number of the row without them
+pub number-drop : (b : ℕ) (row : List ℕ) (k : ℕ) → areDigits b row ≡ true → number b row / b ^ k ≡ number b (drop k row)
+unfolding number
+number-drop b row zero e = rw (pow-zero b) (div-one (number b row))
+number-drop b [] (suc k) e = zero-div (b ^ suc k)
+number-drop b (d ∷ row) (suc k) e =
+    rw (a-digit-less b d (number b row) k (first-digit b d row e))
+    (number-drop b row k (other-digits b d row e))
+
+-- .. and its lowest digit is then the row's digit at that place, 0 behind the row's end
+pub digit-at : (b : ℕ) (row : List ℕ) (k : ℕ) → areDigits b row ≡ true → number b row / b ^ k % b ≡ getD row k 0
+unfolding number
+digit-at b [] k e = rw (zero-div (b ^ k)) (zero-mod b)
+digit-at b (d ∷ row) zero e = rw (pow-zero b, div-one (d + b * number b row)) (lowest b d (number b row) (first-digit b d row e))
+digit-at b (d ∷ row) (suc k) e =
+    rw (a-digit-less b d (number b row) k (first-digit b d row e))
+    (digit-at b row k (other-digits b d row e))
+
+-- so many numbers of a row from a place on, 0 behind its end
+abbrev pub window : List ℕ → ℕ → ℕ → List ℕ
+window row k zero = []
+window row k (suc n) = getD row k 0 ∷ window row (suc k) n
+
+-- so many digits of a row's number from a place on are the row's own
+pub digits-from : (b : ℕ) (row : List ℕ) (k n : ℕ) → areDigits b row ≡ true → digits b n (number b row / b ^ k) ≡ window row k n
+unfolding digits
+digits-from b row k zero e = refl
+digits-from b row k (suc n) e =
+    ap₂ _∷_ (digit-at b row k e)
+    (rw (div-div-eq-div-mul (number b row) (b ^ k) b, ← pow-suc b k) (digits-from b row (suc k) n e))
+
+-- .. and make the number that stands there, up to their power
+pub number-from : (b : ℕ) (row : List ℕ) (k n : ℕ) → 0 < b → areDigits b row ≡ true → number b (window row k n) ≡ number b row / b ^ k % b ^ n
+number-from b row k n h e = rw (← digits-from b row k n e) (number-digits b n (number b row / b ^ k) h)
+
+-- six of them, one by one
+pub six-from : (b : ℕ) (row : List ℕ) (k : ℕ) → 0 < b → areDigits b row ≡ true
+    → number b (getD row k 0 ∷ getD row (k + 1) 0 ∷ getD row (k + 2) 0 ∷ getD row (k + 3) 0 ∷ getD row (k + 4) 0 ∷ getD row (k + 5) 0 ∷ [])
+    ≡ number b row / b ^ k % b ^ 6
+six-from b row k h e = simp towards-suc (number-from b row k 6 h e)
+
+-- the number of what is joined: the second row's number stands above the first's digits
+pub number-append : (b : ℕ) (xs ys : List ℕ) → number b (xs ++ ys) ≡ number b xs + b ^ length xs * number b ys
+unfolding number
+number-append b [] ys = rw (pow-zero b, one-mul, zero-add)
+number-append b (x ∷ xs) ys =
+    rw (number-append b xs ys, mul-add b (number b xs) _, pow-succ' b (length xs), mul-assoc b (b ^ length xs) _, add-assoc x _ _)
