@@ -63,7 +63,7 @@ fn numbering_bits(kind: u32) -> Result<NumberingBits, Refusal> {
     }
 }
 
-/// How many characters fit into at least one word.
+/// How many characters have room in so many words, at least one.
 fn room(widths: NumberingBits, words: usize) -> usize {
     let before = WORD_CHECK_BITS + widths.iter().sum::<usize>();
     (WORD_BITS * words - before) / CHARACTER_BITS
@@ -101,7 +101,8 @@ pub fn write(
     })
 }
 
-/// The bits before the first character, with K as 0.
+/// The bits before the first character, with K as 0. A number that its bits
+/// cannot hold is refused; where it has none, it can only be 0.
 fn head(widths: NumberingBits, numbering: Numbering) -> Result<Vec<bool>, Refusal> {
     let mut row = vec![false; WORD_CHECK_BITS];
     for (number, width) in numbering.numbers().into_iter().zip(widths) {
