@@ -15,8 +15,10 @@ use super::writing::{fitting_numbering, seeded_text, wrong_kind, KINDS};
 
 const PAGES: usize = 1_000_000;
 const WORD_BITS: u64 = 21;
-/// The room of eight words, and what is lent beyond it at most.
+/// The room of eight words, where the page is numbered and where it is not.
+const LONGEST_NUMBERED_TEXT: u64 = 39;
 const LONGEST_TEXT: u64 = 41;
+/// Lent rows reach beyond the longest text.
 const LONGEST_LENT: u64 = LONGEST_TEXT + 4;
 
 /// A page's words, with the K of its vector.
@@ -91,11 +93,11 @@ fn seeded_page(random: &mut Random) -> Page {
     }
 }
 
-/// As the second program writes it.
+/// As the second program writes it. The text fits a page of any kind.
 fn written_page(random: &mut Random) -> Page {
     let kind = random.choose(&KINDS);
     let numbering = fitting_numbering(random, kind);
-    let length = random.between(0, 39) as usize;
+    let length = random.between(0, LONGEST_NUMBERED_TEXT) as usize;
     let text = seeded_text(random, length);
     let mut words = vec![0; MOST_WORDS];
     let written = numeric::write(&text, kind, numbering, &mut words).expect("all of it fits");
