@@ -1,15 +1,15 @@
 -- What is answered when a CAPCODE is printed, and what the buffer holds then.
 use Prim.Native.Nat.{ℕ, _+_, _≤_, _<_}
-use mathlib.Core.Path.{_≡_}
+use mathlib.Core.Path.{_≡_, ap, sym}
 use mathlib.Core.List.{List, [], _∷_}
 use native.Mathlib.Omega.{arith}
 use lib.ListN.{length}
-use borrow.Author.Tests.{lt-ltb, le-ltb, ne-eqb}
+use borrow.Author.Tests.{lt-ltb, le-ltb}
 use Rattle.laws.specs.Lists.{put}
 use Rattle.refusal.specs.declared.Refusal.{Refusal}
 use Rattle.refusal.specs.declared.Refusal.the-variants.{Room}
-use Rattle.refusal.specs.Told.{numberOf, refused, given}
-use Rattle.refusal.proofs.Laws.{number-positive}
+use Rattle.refusal.specs.Told.{refused, given, numberTold}
+use Rattle.refusal.proofs.Laws.{number-positive, refusal-keeps}
 use Rattle.capcode.specs.declared.Capcode.{Capcode}
 use Rattle.capcode.specs.Assigned.{Fine}
 use Rattle.capcode.specs.Text.{widthOf, headWidth, textOf, printOf, bufferAfter}
@@ -19,8 +19,8 @@ use Rattle.capcode.proofs.Writes.{length-text}
 -- a refusal leaves the buffer as it was
 pub refused-keeps : (r : Refusal) (c : Capcode) (buffer : List ℕ) → refused r ≡ printOf c (length buffer) → buffer ≡ bufferAfter c buffer
 refused-keeps r c buffer e =
-    let some : numberOf r ≡ 0 → ⊥ = λ none. omega (arith, number-positive r) in
-    rw (← e, ne-eqb _ _ some)
+    let some : numberTold (printOf c (length buffer)) ≡ 0 → ⊥ = λ none. omega (arith, number-positive r, ap numberTold e) in
+    sym (refusal-keeps (printOf c (length buffer)) buffer (textOf c) some)
 
 -- what is not refused puts the text at its start
 pub given-writes : (values : List ℕ) (c : Capcode) (buffer : List ℕ) → given values ≡ printOf c (length buffer) → put buffer 0 (textOf c) ≡ bufferAfter c buffer

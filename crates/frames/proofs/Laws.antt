@@ -9,8 +9,8 @@ use lib.ListN.{length, getD}
 use Rattle.laws.specs.Choice.{bitOf}
 use Rattle.laws.proofs.Bits.{set-bit}
 use Rattle.refusal.specs.declared.Refusal.{Refusal}
-use Rattle.refusal.specs.Told.{Told, numberOf, given}
-use Rattle.refusal.proofs.Laws.{toldNumber, number-tells, number-positive, given-not-refused, refused-tells}
+use Rattle.refusal.specs.Told.{Told, numberOf, given, numberTold}
+use Rattle.refusal.proofs.Laws.{number-tells, number-positive, given-not-refused, refused-tells}
 use Rattle.frames.specs.declared.Listener.{Listener}
 use Rattle.frames.specs.declared.Listened.{Listened}
 use Rattle.frames.specs.declared.Listening.{Listening}
@@ -48,9 +48,9 @@ none-refused r e = absurd (omega (arith, number-positive r))
 -- an answer and its masks, told, are known
 told-parts : (a b : Listened) (m n : List ℕ) → tellListened a m ≡ tellListened b n → (a ≡ b) × (m ≡ n)
 told-parts (Listened.Frames x) (Listened.Frames y) m n e = (cc, cc)
-told-parts (Listened.Frames x) (Listened.Refused s) m n e = none-refused s (ap toldNumber e)
-told-parts (Listened.Refused r) (Listened.Frames y) m n e = none-refused r (sym (ap toldNumber e))
-told-parts (Listened.Refused r) (Listened.Refused s) m n e = (ap Listened.Refused (number-tells r s (ap toldNumber e)), cc)
+told-parts (Listened.Frames x) (Listened.Refused s) m n e = none-refused s (ap numberTold e)
+told-parts (Listened.Refused r) (Listened.Frames y) m n e = none-refused r (sym (ap numberTold e))
+told-parts (Listened.Refused r) (Listened.Refused s) m n e = (ap Listened.Refused (number-tells r s (ap numberTold e)), cc)
 
 -- two answers with masks that are told alike are the same
 pub listening-tells : (a b : Listening) → toldListening a ≡ toldListening b → a ≡ b

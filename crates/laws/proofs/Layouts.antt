@@ -1,7 +1,7 @@
 -- Laws of every row of parts: what was built is read back, and what was read is built again.
 use Prim.Native.Nat.{ℕ, zero, suc, _+_, _-_, _*_, _/_, _%_, _^_, _≤_, _<_}
 use mathlib.Core.Bool.{Bool, true, false, _&&_, and-eq-true-iff, false≢true}
-use mathlib.Core.List.{List, [], _∷_}
+use mathlib.Core.List.{List, [], _∷_, _++_}
 use mathlib.Core.Path.{_≡_, refl, sym, ap, ap₂, _∙_}
 use native.Mathlib.Nat.{add-assoc, add-mul, add-zero, div-one, lt-of-le-of-lt, mod-eq-of-lt, mod-lt, mul-assoc, mul-one, zero-add, zero-mul}
 use native.Mathlib.Omega.{arith}
@@ -9,7 +9,7 @@ use borrow.Author.Tests.{lt-ltb, ltb-true, eqb-true, eqb-false, eq-eqb, ne-eqb}
 use lib.Arith.{digits-lt, digits-div, digits-mod}
 use lib.Bits.{bitAnd, bitOr, and-block, and-le-r, and-mask, and-mod, and-zero-r, or-shifted}
 use lib.Dec.{T, leb, ltb, eqb, leb→le, ltb→lt}
-use lib.Pow.{pow-add, pow-pos, shl-exact, shl-lt, split, ones-lt}
+use lib.Pow.{pow-add, pow-pos, shl-exact, shl-lt, shr-shr, split, ones-lt}
 use mir.Facts.{and-yes}
 use Rattle.laws.specs.Choice.{pick}
 use Rattle.laws.specs.Layouts.{Part, printed, zeros, field, unused, Layout, width, size, above, bitsAt, moved, fieldsOf, onesAt, maskOf, isPrinted, isRead, printedBits, shows, fitAfter, fit, packedAfter, packed}
@@ -142,15 +142,62 @@ packed-sum row values f l =
     ∙ packed-after row values 0 f l
     ∙ nothing-added (size row) (sumOf row values)
 
+-- a row is larger by a field behind it
+size-last : (row : Layout) (w : ℕ) → size (row ++ field w ∷ []) ≡ size row + w
+size-last [] w = omega arith
+size-last (part ∷ row) w = rw (size-last row w) (omega arith)
+
+-- no numbers fit no row with a field
+none-fit : (so : Bool) (row : Layout) (w : ℕ) → fitAfter so (row ++ field w ∷ []) [] ≡ false
+none-fit so [] w = refl
+none-fit so (printed u p ∷ row) w = none-fit so row w
+none-fit so (zeros u ∷ row) w = none-fit so row w
+none-fit so (field u ∷ row) w = refl
+none-fit so (unused u ∷ row) w = none-fit so row w
+
+-- .. and to a row with a field behind it the last number is asked last
+fit-last-after : (so : Bool) (row : Layout) (values : List ℕ) (w k : ℕ) → fitAfter so (row ++ field w ∷ []) (values ++ k ∷ []) ≡ (fitAfter so row values && ltb k (2 ^ w))
+fit-last-after so [] [] w k = refl
+fit-last-after so [] (v ∷ []) w k = refl
+fit-last-after so [] (v ∷ u ∷ values) w k = refl
+fit-last-after so (printed u p ∷ row) values w k = fit-last-after so row values w k
+fit-last-after so (zeros u ∷ row) values w k = fit-last-after so row values w k
+fit-last-after so (field u ∷ row) [] w k = none-fit (so && ltb k (2 ^ u)) row w
+fit-last-after so (field u ∷ row) (v ∷ values) w k = fit-last-after (so && ltb v (2 ^ u)) row values w k
+fit-last-after so (unused u ∷ row) values w k = fit-last-after so row values w k
+
+-- numbers fit a row with a field behind it where those before the last fit the row and the last fits the field
+pub fit-last : (row : Layout) (values : List ℕ) (w k : ℕ) → fit (row ++ field w ∷ []) (values ++ k ∷ []) ≡ (fit row values && ltb k (2 ^ w))
+fit-last row values w k = fit-last-after true row values w k
+
+-- the sum of the row stands above the last number
+sum-last : (row : Layout) (values : List ℕ) (w k : ℕ) → Fits row values → sumOf (row ++ field w ∷ []) (values ++ k ∷ []) ≡ sumOf row values * 2 ^ w + k
+sum-last [] values w k f = rw f (omega arith)
+sum-last (printed u p ∷ row) values w k f = rw (size-last row w, sum-last row values w k (f .1)) (regroup (size row) w (sumOf row values) k p)
+sum-last (zeros u ∷ row) values w k f = rw (size-last row w, sum-last row values w k (f .1)) (regroup (size row) w (sumOf row values) k 0)
+sum-last (field u ∷ row) [] w k f = absurd (omega arith)
+sum-last (field u ∷ row) (v ∷ values) w k f = rw (size-last row w, sum-last row values w k (f .1)) (regroup (size row) w (sumOf row values) k v)
+sum-last (unused u ∷ row) values w k f = rw (size-last row w, sum-last row values w k (f .1)) (regroup (size row) w (sumOf row values) k 0)
+
 -- the lowest bits left out, at every place
 above-is : (place n : ℕ) → above place n ≡ n / 2 ^ place
 above-is zero n = sym (div-one n)
 above-is (suc place) n = refl
 
+-- .. so that the bits at a place are what is left over a power, up to another
+pub bits-are : (place wide n : ℕ) → bitsAt place wide n ≡ n / 2 ^ place % 2 ^ wide
+bits-are place wide n = ap (λ (x : ℕ). x % 2 ^ wide) (above-is place n)
+
+-- .. and those above a place are those of the number above it
+pub bits-above : (below place wide n : ℕ) → bitsAt (below + place) wide n ≡ bitsAt place wide (n / 2 ^ below)
+bits-above below place wide n =
+    bits-are (below + place) wide n ∙ rw (← shr-shr n below place) (sym (bits-are place wide (n / 2 ^ below)))
+
 -- the number at a part's place, between what stands above it and the rest
 at-place : (w s v rest q n : ℕ) → v < 2 ^ w → rest < 2 ^ s → n ≡ q * 2 ^ (w + s) + (v * 2 ^ s + rest) → bitsAt s w n ≡ v
 at-place w s v rest q n h k e =
-    ap (λ (x : ℕ). x % 2 ^ w) (above-is s n ∙ ap (λ (x : ℕ). x / 2 ^ s) (e ∙ regroup w s v rest q) ∙ digits-div (q * 2 ^ w + v) k)
+    bits-are s w n
+    ∙ ap (λ (x : ℕ). x % 2 ^ w) (ap (λ (x : ℕ). x / 2 ^ s) (e ∙ regroup w s v rest q) ∙ digits-div (q * 2 ^ w + v) k)
     ∙ digits-mod q h
 
 -- in a number that ends in a row's sum each part has its number
@@ -208,7 +255,7 @@ and-low n m s h =
 
 -- the bits of a part, or none
 and-part : (c : Bool) (s w n : ℕ) → bitAnd (n / 2 ^ s) (pick c (2 ^ w - 1) 0) ≡ pick c (bitsAt s w n) 0
-and-part true s w n = and-mask (n / 2 ^ s) w ∙ ap (λ (x : ℕ). x % 2 ^ w) (sym (above-is s n))
+and-part true s w n = and-mask (n / 2 ^ s) w ∙ sym (bits-are s w n)
 and-part false s w n = and-zero-r (n / 2 ^ s)
 
 -- the chosen parts' bits, each times the weight of its place
@@ -310,30 +357,47 @@ at-most-32 row t = leb→le (size row) 32 (and-yes (leb (size row) 32) (printedF
 each-fits : (row : Layout) (values : List ℕ) → T (laid row) → fit row values ≡ true → Fits row values
 each-fits row values t e = fits true row values (and-yes (leb (size row) 32) (printedFit row) t .1) e .1
 
--- what was built has the numbers of its fields and all that its table prints
-found-packed : (row : Layout) (values : List ℕ) → T (laid row) → fit row values ≡ true → (fieldsOf row (packed row values) ≡ values) × (shownEach row (packed row values) ≡ true)
-found-packed row values t e =
-    let f = each-fits row values t e in
-    found row values (packed row values) 0 f (packed-sum row values f (at-most-32 row t) ∙ sym (nothing-added (size row) (sumOf row values)))
+-- what was built is the sum of its numbers
+packed-is : (row : Layout) (values : List ℕ) → T (laid row) → fit row values ≡ true → packed row values ≡ sumOf row values
+packed-is row values t e = packed-sum row values (each-fits row values t e) (at-most-32 row t)
+
+-- .. and has no more bits than the row
+pub packed-lt : (row : Layout) (values : List ℕ) → T (laid row) → fit row values ≡ true → packed row values < 2 ^ size row
+packed-lt row values t e = rw (packed-is row values t e) (sum-lt row values (each-fits row values t e))
+
+-- .. and with one field more it stands above that field's number
+pub packed-last : (row : Layout) (values : List ℕ) (w k : ℕ) → T (laid row) → T (laid (row ++ field w ∷ [])) → fit row values ≡ true → k < 2 ^ w → packed (row ++ field w ∷ []) (values ++ k ∷ []) ≡ packed row values * 2 ^ w + k
+packed-last row values w k t u e h =
+    packed-is (row ++ field w ∷ []) (values ++ k ∷ []) u (fit-last row values w k ∙ rw (e, lt-ltb k (2 ^ w) h))
+    ∙ sum-last row values w k (each-fits row values t e)
+    ∙ rw (packed-is row values t e)
+
+-- a number that ends in what was built has the numbers of its fields and all that its table prints
+found-packed : (row : Layout) (values : List ℕ) (n : ℕ) → T (laid row) → fit row values ≡ true → n % 2 ^ size row ≡ packed row values → (fieldsOf row n ≡ values) × (shownEach row n ≡ true)
+found-packed row values n t e low =
+    found row values n (n / 2 ^ size row) (each-fits row values t e)
+    (sym (split n (size row)) ∙ ap (λ (x : ℕ). n / 2 ^ size row * 2 ^ size row + x) (low ∙ packed-is row values t e))
+
+-- reading a number that ends in what was built gives the numbers it was built from
+pub read-ending : (row : Layout) (values : List ℕ) (n : ℕ) → T (laid row) → fit row values ≡ true → n % 2 ^ size row ≡ packed row values → fieldsOf row n ≡ values
+read-ending row values n t e low = found-packed row values n t e low .0
+
+-- what was built is all of its own bits
+whole : (row : Layout) (values : List ℕ) → T (laid row) → fit row values ≡ true → packed row values % 2 ^ size row ≡ packed row values
+whole row values t e = mod-eq-of-lt (packed-lt row values t e)
 
 -- reading what was built gives the numbers it was built from
 pub read-packed : (row : Layout) (values : List ℕ) → T (laid row) → fit row values ≡ true → fieldsOf row (packed row values) ≡ values
-read-packed row values t e = found-packed row values t e .0
+read-packed row values t e = read-ending row values (packed row values) t e (whole row values t e)
 
 -- what was built has the bits that its table prints
 pub shows-packed : (row : Layout) (values : List ℕ) → T (laid row) → fit row values ≡ true → shows row (packed row values) ≡ true
-shows-packed row values t e = shows-each row (packed row values) t ∙ found-packed row values t e .1
-
--- .. and no more bits than the row
-pub packed-lt : (row : Layout) (values : List ℕ) → T (laid row) → fit row values ≡ true → packed row values < 2 ^ size row
-packed-lt row values t e =
-    let f = each-fits row values t e in
-    rw (packed-sum row values f (at-most-32 row t)) (sum-lt row values f)
+shows-packed row values t e = shows-each row (packed row values) t ∙ found-packed row values (packed row values) t e (whole row values t e) .1
 
 -- building what was read gives the bits that were read, up to those that are not looked at
 pub packed-read : (row : Layout) (n : ℕ) → T (laid row) → shows row n ≡ true → packed row (fieldsOf row n) ≡ bitAnd n (maskOf isRead row)
 packed-read row n t e =
-    packed-sum row (fieldsOf row n) (each-fits row (fieldsOf row n) t (fit-read row n)) (at-most-32 row t)
+    packed-is row (fieldsOf row n) t (fit-read row n)
     ∙ read-sum row n (shown-bits row n t e)
     ∙ sym (masked isRead row n)
 

@@ -1,17 +1,20 @@
 -- Laws of digits, for every base: a row of digits and the number it makes lead to each other, and each digit stands where its power says.
-use Prim.Native.Nat.{ℕ, zero, suc, _+_, _*_, _/_, _%_, _^_, _<_}
+use Prim.Native.Nat.{ℕ, zero, suc, _+_, _-_, _*_, _/_, _%_, _^_, _≤_, _<_}
 use mathlib.Core.Bool.{true}
 use mathlib.Core.List.{List, [], _∷_, _++_}
 use mathlib.Core.Path.{_≡_, refl, sym, ap, ap₂, _∙_}
-use native.Mathlib.Nat.{add-assoc, add-comm, add-mul-div-left, add-mul-mod-self-left, div-div-eq-div-mul, div-eq-of-lt, div-one, mod-eq-of-lt, mod-lt, mod-one, mul-add, mul-assoc, mul-comm, one-le-pow, one-mul, pow-suc, pow-succ', pow-zero, zero-add, zero-div, zero-mod}
+use native.Mathlib.Nat.{add-assoc, add-comm, add-mul-div-left, add-mul-mod-self-left, div-div-eq-div-mul, div-eq-of-lt, div-one, mod-eq-of-lt, mod-lt, mod-one, mul-add, mul-assoc, mul-comm, mul-suc, mul-zero, one-le-pow, one-mul, pow-suc, pow-succ', pow-zero, zero-add, zero-div, zero-mod}
 use native.Mathlib.Numerals.{towards-suc}
 use native.Mathlib.Omega.{arith}
 use borrow.Author.Tests.{lt-ltb, ltb-true}
 use lib.Arith.{digits-lt, mod-mul}
 use lib.Dec.{ltb}
 use lib.ListN.{length, drop, getD}
+use lib.Pow.{field, mod-mod-pow, pow-add}
+use Rattle.laws.specs.Layouts.{bitsAt}
 use Rattle.laws.specs.Lists.{all}
 use Rattle.laws.specs.Numerals.{number, digits, areDigits}
+use Rattle.laws.proofs.Layouts.{bits-above, bits-are}
 use Rattle.laws.proofs.Tests.{first-of, second-of}
 
 -- as many digits as were asked for
@@ -33,6 +36,13 @@ number-digits b zero x h = sym (rw (pow-zero b) (mod-one x))
 number-digits b (suc n) x h =
     rw (number-digits b n (x / b) h, mul-comm b _, add-comm (x % b) _, pow-suc b n)
     (sym (mod-mul x (one-le-pow n b h) h))
+
+-- a digit of a number
+pub digits-at : (b n x k : ℕ) → k < n → getD (digits b n x) k 0 ≡ x / b ^ k % b
+unfolding digits
+digits-at b zero x k h = absurd (omega arith)
+digits-at b (suc n) x zero h = rw (pow-zero b, div-one x)
+digits-at b (suc n) x (suc k) h = digits-at b n (x / b) k (omega arith) ∙ rw (div-div-eq-div-mul x b (b ^ k), ← pow-succ' b k)
 
 -- of a row of digits the first is one
 first-digit : (b d : ℕ) (row : List ℕ) → areDigits b (d ∷ row) ≡ true → d < b
@@ -64,6 +74,10 @@ digits-number b (d ∷ row) e =
     let h = first-digit b d row e in
     ap₂ _∷_ (lowest b d (number b row) h) (rw (without-lowest b d (number b row) h) (digits-number b row (other-digits b d row e)))
 
+-- .. so that the digits of a number, so many, are not asked for more than their power
+pub digits-low : (b n x : ℕ) → 0 < b → digits b n (x % b ^ n) ≡ digits b n x
+digits-low b n x h = rw (length-digits b n x, number-digits b n x h) at (digits-number b (digits b n x) (digits-are b n x h))
+
 -- a row's number is below the power of its length
 pub number-below : (b : ℕ) (row : List ℕ) → areDigits b row ≡ true → number b row < b ^ length row
 unfolding number
@@ -89,6 +103,28 @@ digit-at b (d ∷ row) zero e = rw (pow-zero b, div-one (d + b * number b row)) 
 digit-at b (d ∷ row) (suc k) e =
     rw (a-digit-less b d (number b row) k (first-digit b d row e))
     (digit-at b row k (other-digits b d row e))
+
+-- a power of a power
+pub pow-mul : (b m n : ℕ) → (b ^ m) ^ n ≡ b ^ (m * n)
+pow-mul b m zero = rw (mul-zero m, pow-zero b) (pow-zero (b ^ m))
+pow-mul b m (suc n) = rw (pow-suc (b ^ m) n, pow-mul b m n, mul-suc m n) (sym (pow-add b (m * n) m))
+
+-- the lowest bits of a number are enough to look at
+low-bits : (place wide more n : ℕ) → bitsAt place wide (n % 2 ^ (more + wide + place)) ≡ bitsAt place wide n
+low-bits place wide more n =
+    rw (bits-are place wide (n % 2 ^ (more + wide + place)), bits-are place wide n, field n (more + wide) place)
+    (mod-mod-pow (n / 2 ^ place) more wide)
+
+-- where each digit has so many bits, a digit's bits stand at its own place
+pub digit-bits : (size : ℕ) (row : List ℕ) (k place wide : ℕ) → areDigits (2 ^ size) row ≡ true → place + wide ≤ size
+    → bitsAt (size * k + place) wide (number (2 ^ size) row) ≡ bitsAt place wide (getD row k 0)
+digit-bits size row k place wide e h =
+    let n = number (2 ^ size) row in
+    let parts : size - (wide + place) + wide + place ≡ size = omega arith in
+    bits-above (size * k) place wide n
+    ∙ rw (← pow-mul 2 size k)
+    (sym (low-bits place wide (size - (wide + place)) (n / (2 ^ size) ^ k))
+    ∙ rw (parts, digit-at (2 ^ size) row k e))
 
 -- so many numbers of a row from a place on, 0 behind its end
 abbrev pub window : List ℕ → ℕ → ℕ → List ℕ

@@ -38,6 +38,12 @@ unfolding all
 all-map test rule [] = refl
 all-map test rule (x ∷ row) = rw (all-map test rule row)
 
+-- what a rule makes of a row, at a place of the row
+pub map-at : (rule : ℕ → ℕ) (row : List ℕ) (k : ℕ) → k < length row → getD (map rule row) k 0 ≡ rule (getD row k 0)
+map-at rule [] k h = absurd (omega arith)
+map-at rule (x ∷ row) zero h = refl
+map-at rule (x ∷ row) (suc k) h = map-at rule row k (omega arith)
+
 -- what was found stands at its place
 pub place-found : (row : List ℕ) (n : ℕ) → placeIn row n < length row → getD row (placeIn row n) 0 ≡ n
 unfolding placeIn

@@ -1,16 +1,15 @@
 -- What is answered when a numeric page is written or read, a line a refusal, in the order of 01's table.
 use Prim.Native.Nat.{ℕ}
-use mathlib.Core.Bool.{not, _&&_}
+use mathlib.Core.Bool.{not}
 use mathlib.Core.List.{List, [], _∷_}
-use lib.Dec.{leb, ltb}
+use lib.Dec.{ltb}
 use lib.ListN.{length, getD}
-use Rattle.heard.specs.Reads.{isNumeric}
 use Rattle.refusal.specs.declared.Refusal.the-variants.{Room, Packet, Size, Damaged, Checksum, TooLong, Character}
 use Rattle.refusal.specs.Told.{Told, given, ask, numberTold, valueTold, writtenBy}
 use Rattle.numeric.specs.declared.Numbering.{Numbering}
 use Rattle.numeric.specs.declared.Written.{Written}
 use Rattle.numeric.specs.declared.PageRead.{PageRead}
-use Rattle.numeric.specs.Pages.{Set, mostWords, roomOf, checkOf, inVector, pageOf, headIn, textIn, isNumbered, inSet, headed, undamaged, checked}
+use Rattle.numeric.specs.Pages.{Set, mostWords, roomOf, checkOf, inVector, pageOf, headIn, textIn, isNumbered, inSet, headed, vectorFits, isSize, undamaged, checked}
 
 -- the numbers S, R and N, as the head has them
 abbrev pub flagsOf : Numbering → List ℕ
@@ -38,15 +37,21 @@ wordsAfter set kind numbering text lent =
 abbrev pub asWritten : Told → Written
 asWritten t = record { number = numberTold t; check = valueTold t 0; words = valueTold t 1 }
 
--- a page read with its vector's type and K: 7, 9, 10, 11, and last of all 1 for a buffer of `lent` bytes; else S, R, N, and how many characters
+-- what is told of a page that was read: S, R, N, and how many characters
+abbrev pub readTold : ℕ → List ℕ → Told
+readTold kind words =
+    let head = headIn (isNumbered kind) words in
+    given (getD head 0 0 ∷ getD head 1 0 ∷ getD head 2 0 ∷ roomOf (isNumbered kind) (length words) ∷ [])
+
+-- a page read with its vector's type and K: 7, 9, 10, 11, and last of all 1 for a buffer of `lent` bytes; else what the page says
 unfoldable pub readOf : Set → ℕ → ℕ → ℕ → List ℕ → Told
 readOf set lent kind check words =
-    ask (not (isNumeric kind && ltb check 16)) Packet
-    (ask (not (leb 1 (length words) && leb (length words) mostWords)) Size
+    ask (not (vectorFits kind check)) Packet
+    (ask (not (isSize (length words))) Size
     (ask (not (undamaged words)) Damaged
     (ask (not (checked check words)) Checksum
     (ask (ltb lent (roomOf (isNumbered kind) (length words))) Room
-    (given (getD (headIn (isNumbered kind) words) 0 0 ∷ getD (headIn (isNumbered kind) words) 1 0 ∷ getD (headIn (isNumbered kind) words) 2 0 ∷ roomOf (isNumbered kind) (length words) ∷ []))))))
+    (readTold kind words)))))
 
 -- what the lent bytes are then
 abbrev pub textAfter : Set → ℕ → ℕ → List ℕ → List ℕ → List ℕ

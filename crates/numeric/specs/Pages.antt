@@ -103,6 +103,14 @@ inSet set text = all (λ c. ltb (placeIn set c) (length set)) text
 abbrev pub headed : ℕ → List ℕ → Bool
 headed kind flags = isNumeric kind && fit (headOf (isNumbered kind)) (flags ++ 0 ∷ [])
 
+-- whether the vector's type is that of a numeric page, and its K has four bits
+abbrev pub vectorFits : ℕ → ℕ → Bool
+vectorFits kind check = isNumeric kind && ltb check 16
+
+-- whether a page has so many words
+abbrev pub isSize : ℕ → Bool
+isSize words = leb 1 words && leb words mostWords
+
 -- whether no word has more than 21 bits
 abbrev pub undamaged : List ℕ → Bool
 undamaged words = areDigits (2 ^ wordBits) words

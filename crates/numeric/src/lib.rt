@@ -10,7 +10,7 @@ ghost use Rattle.laws.specs.Lists.{put, placeIn};
 ghost use Rattle.laws.specs.Numerals.{number, digits};
 ghost use Rattle.refusal.specs.Told.{numberTold};
 ghost use Rattle.heard.specs.Reads.{isNumeric};
-ghost use Rattle.numeric.specs.Pages.{standardSet, mostWords, headOf, roomOf, wordsFor, spaced, codesOf, threeFrom, wordsWith, checkOf, pageOf, textIn, isNumbered, inSet, headed, undamaged, checked};
+ghost use Rattle.numeric.specs.Pages.{standardSet, mostWords, headOf, roomOf, wordsFor, spaced, codesOf, threeFrom, wordsWith, checkOf, pageOf, textIn, isNumbered, inSet, headed, vectorFits, isSize, undamaged, checked};
 ghost use Rattle.numeric.specs.Answers.{flagsOf, asNumbering, writtenOf, wordsAfter, asWritten, readOf, textAfter, asRead};
 use heard::Vector;
 use refusal::Refusal;
@@ -287,20 +287,43 @@ pub fn write(text: &[u8], kind: u32, numbering: Numbering, words: &mut [u32]) ->
     write_page(text, kind, numbering, words)
 }
 
+// 01's table, 7: whether the vector's type is that of a numeric page, and its K has four bits.
+fn vector_fits(kind: u32, check: u32) -> bool
+    ensures { λ r. ⌜ r ≡ vectorFits kind check ⌝ }
+{
+    is_numeric(kind) & (check < 16)
+}
+
+// 01's table, 9: whether a page has so many words.
+fn is_size(words: usize) -> bool
+    ensures { λ r. ⌜ r ≡ isSize words ⌝ }
+{
+    (1 <= words) & (words <= 8)
+}
+
+// 01's table, 11: whether K in the vector and in the first word is that of the words.
+fn checked(check: u32, words: &[u32]) -> bool
+    requires { ⌜ check < 16 ⌝ }
+    requires { ⌜ 1 ≤ length (now words) ⌝ }
+    ensures { λ r. ⌜ r ≡ checked check (now (words .entry)) ⌝ }
+{
+    sums::six_bit(words) == check + 16 * (words[0] % 4)
+}
+
 // The first refusal of a page to read, or 0.
 fn judge_reading(kind: u32, check: u32, words: &[u32], lent: usize) -> u32
     ensures { λ r. ⌜ r ≡ numberTold (readOf standardSet lent kind check (now (words .entry))) ⌝ }
 {
-    if !(is_numeric(kind) & (check < 16)) {
+    if !vector_fits(kind, check) {
         return Refusal::Packet.number();
     }
-    if !((1 <= words.len()) & (words.len() <= 8)) {
+    if !is_size(words.len()) {
         return Refusal::Size.number();
     }
     if !undamaged(words) {
         return Refusal::Damaged.number();
     }
-    if sums::six_bit(words) != check + 16 * (words[0] % 4) {
+    if !checked(check, words) {
         return Refusal::Checksum.number();
     }
     if lent < room_of(kind == Vector::NUMBERED, words.len()) {
@@ -316,12 +339,12 @@ fn code_in(words: &[u32], at: usize, place: usize) -> u32
     requires { ⌜ place < 21 ⌝ }
     ensures { λ r. ⌜ r ≡ number (2 ^ 21) (now (words .entry)) / 2 ^ (21 * at + place) % 16 ⌝ }
 {
-    let low = words[at] >> place;
+    let low = (words[at] >> place) % 16;
     if place < 18 {
-        return low % 16;
+        return low;
     }
     if at + 1 == words.len() {
-        return low % 16;
+        return low;
     }
     (low + (words[at + 1] << (21 - place)) % 16) % 16
 }

@@ -4,10 +4,13 @@ use mathlib.Core.Bool.{Bool, true, false}
 use mathlib.Core.Path.{_≡_, refl, ap, sym, _∙_}
 use mathlib.Core.List.{List, [], _∷_}
 use lib.ListN.{getD}
+use mathlib.Core.Logic.{_⊎_, inl, inr}
 use native.Mathlib.Omega.{arith}
+use borrow.Author.Tests.{eq-eqb, ne-eqb}
+use Rattle.laws.specs.Lists.{put}
 use Rattle.refusal.specs.declared.Refusal.{Refusal}
 use Rattle.refusal.specs.declared.Refusal.the-variants.{Room, State, Text, «Type», Range, Offset, Packet, Address, Size, Damaged, Checksum, Full, NoChain, OutOfTurn, TooLong, Signature, NoCall, Character}
-use Rattle.refusal.specs.Told.{numberOf, numberUnless, Told, told, refused, given}
+use Rattle.refusal.specs.Told.{numberOf, numberUnless, Told, told, refused, given, ask, numberTold, writtenBy}
 
 -- the refusal of a number
 abbrev ofNumber : ℕ → Refusal
@@ -62,22 +65,41 @@ number-positive Signature = omega arith
 number-positive NoCall = omega arith
 number-positive Character = omega arith
 
--- the number of an answer, and its values
-abbrev pub toldNumber : Told → ℕ
-toldNumber (told n values) = n
-
+-- the values of an answer
 abbrev pub toldValues : Told → List ℕ
 toldValues (told n values) = values
 
 -- an answer that is no refusal is never told as one
 pub given-not-refused : (values : List ℕ) (r : Refusal) → given values ≡ refused r → ⊥
 given-not-refused values r e =
-    let n : 0 ≡ numberOf r = ap toldNumber e in
+    let n : 0 ≡ numberOf r = ap numberTold e in
     omega (arith, number-positive r)
 
 -- two refusals told alike are the same
 pub refused-tells : (a b : Refusal) → refused a ≡ refused b → a ≡ b
-refused-tells a b e = number-tells a b (ap toldNumber e)
+refused-tells a b e = number-tells a b (ap numberTold e)
+
+-- an answer that is no refusal was not refused by the first question, nor by what follows
+pub passed : (test : Bool) (r : Refusal) (rest : Told) → numberTold (ask test r rest) ≡ 0 → (test ≡ false) × (numberTold rest ≡ 0)
+passed true r rest e = absurd (omega (arith, number-positive r))
+passed false r rest e = (refl, e)
+
+-- an answer that tells no values if it is a refusal
+abbrev pub Plain : Told → Type 0
+Plain t = (numberTold t ≡ 0) ⊎ (t ≡ told (numberTold t) [])
+
+-- a question keeps that
+pub plain-ask : (test : Bool) (r : Refusal) (rest : Told) → Plain rest → Plain (ask test r rest)
+plain-ask true r rest p = inr refl
+plain-ask false r rest p = p
+
+-- a refusal leaves a lent buffer as it was
+pub refusal-keeps : (t : Told) (buffer text : List ℕ) → (numberTold t ≡ 0 → ⊥) → writtenBy t buffer text ≡ buffer
+refusal-keeps (told n values) buffer text some = rw (ne-eqb n 0 some)
+
+-- what is not refused is written at its start
+pub given-writes : (t : Told) (buffer text : List ℕ) → numberTold t ≡ 0 → writtenBy t buffer text ≡ put buffer 0 text
+given-writes (told n values) buffer text none = rw (eq-eqb n 0 none)
 
 -- the number told is 0 exactly if the test holds
 pub unless-good : (r : Refusal) (good : Bool) → good ≡ true → numberUnless r good ≡ 0

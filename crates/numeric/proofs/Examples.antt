@@ -1,0 +1,252 @@
+-- Worked examples: 01's marked cases 10 to 12, pages worked by hand from Tables 39, 41, 42 and 60, what is refused, and what each premise of the laws is for.
+use Prim.Native.Nat.{ℕ}
+use Prim.Native.Char.{code}
+use mathlib.Core.Bool.{true, false}
+use mathlib.Core.List.{List, [], _∷_, map}
+use mathlib.Core.Path.{_≡_, refl, ap}
+use native.Mathlib.Omega.{arith}
+use lib.ListN.{replicate}
+use Rattle.laws.specs.Lists.{placeIn, all, sumBy}
+use Rattle.laws.specs.Numerals.{number, digits}
+use Rattle.laws.specs.Texts.{bytesOf}
+use Rattle.refusal.specs.declared.Refusal.the-variants as refusals
+use Rattle.refusal.specs.Told.{Told, refused, given, numberTold}
+use Rattle.numeric.specs.declared.Numbering.{Numbering}
+use Rattle.numeric.specs.Pages.{Set, standardSet, roomOf, filled, wordsWith, checkOf, pageOf, textIn, inSet}
+use Rattle.numeric.specs.Answers.{writtenOf, wordsAfter, readOf, textAfter}
+use Rattle.numeric.proofs.Laws.{usable-standard, pageFor, checkFor, read-written}
+
+-- ---- 01's cases, and the tables' captions
+
+-- case 10: "0417", standard, K as 0
+pub case-10 : wordsWith standardSet false (0 ∷ 0 ∷ 0 ∷ 0 ∷ []) (bytesOf "0417") ≡ 0x01C500 ∷ []
+unfolding standardSet wordsWith placeIn number digits
+case-10 = refl
+
+-- case 11: "417", so that the zero is not lost
+pub case-11 : wordsWith standardSet false (0 ∷ 0 ∷ 0 ∷ 0 ∷ []) (bytesOf "417") ≡ 0x031C50 ∷ []
+unfolding standardSet wordsWith placeIn number digits
+case-11 = refl
+
+-- case 12: numbered, 2 words
+pub case-12 : roomOf true 2 ≡ 8
+case-12 = refl
+
+-- Table 41: "4, 10, 15, 20, 25, 31, 36, or 41 characters"
+pub rooms : map (roomOf false) (1 ∷ 2 ∷ 3 ∷ 4 ∷ 5 ∷ 6 ∷ 7 ∷ 8 ∷ []) ≡ 4 ∷ 10 ∷ 15 ∷ 20 ∷ 25 ∷ 31 ∷ 36 ∷ 41 ∷ []
+rooms = refl
+
+-- Table 42: "2, 8, 13, 18, 23, 29, 34, or 39 numeric characters"
+pub rooms-numbered : map (roomOf true) (1 ∷ 2 ∷ 3 ∷ 4 ∷ 5 ∷ 6 ∷ 7 ∷ 8 ∷ []) ≡ 2 ∷ 8 ∷ 13 ∷ 18 ∷ 23 ∷ 29 ∷ 34 ∷ 39 ∷ []
+rooms-numbered = refl
+
+-- ---- pages with their K
+
+-- S, R and N
+abbrev numbers : ℕ → ℕ → ℕ → Numbering
+numbers s r n = record { «message_number» = n; retrieval = r; «special_format» = s }
+
+-- .. all 0
+abbrev none : Numbering
+none = numbers 0 0 0
+
+-- "0417": the groups 00H, C5H and 01H make 198; 3 and 6 make 9; K is 54, 6 in the vector and 3 in the word
+pub standard-example : writtenOf standardSet 1 3 none (bytesOf "0417") ≡ given (6 ∷ 1 ∷ [])
+unfolding standardSet writtenOf pageOf checkOf wordsWith placeIn number digits sumBy inSet all
+standard-example = refl
+
+-- .. its word, with K5 and K4
+pub standard-words : pageOf standardSet false (0 ∷ 0 ∷ 0 ∷ []) (bytesOf "0417") ≡ 0x01C503 ∷ []
+unfolding standardSet pageOf checkOf wordsWith placeIn number digits sumBy
+standard-words = refl
+
+-- .. and what is read
+pub standard-read : readOf standardSet 4 3 6 (0x01C503 ∷ []) ≡ given (0 ∷ 0 ∷ 0 ∷ 4 ∷ [])
+unfolding readOf sumBy all
+standard-read = refl
+
+-- .. also with all bits behind the characters set: the groups 00H, C5H and 1DH make 226; 3 and 34 make 37; K is 26, 10 in the vector and 1 in the word
+pub left-over-example : readOf standardSet 4 3 10 (0x1DC501 ∷ []) ≡ given (0 ∷ 0 ∷ 0 ∷ 4 ∷ [])
+unfolding readOf sumBy all
+left-over-example = refl
+
+-- .. and the text is the same
+pub left-over-text : textIn standardSet false (0x1DC501 ∷ []) ≡ bytesOf "0417"
+unfolding standardSet textIn number digits
+left-over-text = refl
+
+-- "0417" numbered, S and R set, N 5: two words, of which the first has N at i2, R at i8, S at i9 and the characters from i10 on, and the second begins with the highest bit of "1";
+-- the groups 14H, 03H, 05H and 8EH, 99H, 19H make 348, of which 92 is taken; 1 and 28 make 29; K is 34, 2 in the vector and 2 in the word
+pub numbered-example : writtenOf standardSet 2 7 (numbers 1 1 5) (bytesOf "0417") ≡ given (2 ∷ 2 ∷ [])
+unfolding standardSet writtenOf pageOf checkOf wordsWith placeIn number digits sumBy inSet all
+numbered-example = refl
+
+-- .. its words
+pub numbered-words : pageOf standardSet true (1 ∷ 1 ∷ 5 ∷ []) (bytesOf "0417") ≡ 0x050316 ∷ 0x19998E ∷ []
+unfolding standardSet pageOf checkOf wordsWith placeIn number digits sumBy
+numbered-words = refl
+
+-- .. what is read
+pub numbered-read : readOf standardSet 8 7 2 (0x050316 ∷ 0x19998E ∷ []) ≡ given (1 ∷ 1 ∷ 5 ∷ 8 ∷ [])
+unfolding readOf sumBy all
+numbered-read = refl
+
+-- .. and the text with its spaces
+pub numbered-text : textIn standardSet true (0x050316 ∷ 0x19998E ∷ []) ≡ bytesOf "0417    "
+unfolding standardSet textIn number digits
+numbered-text = refl
+
+-- .. as the law says, whose premises hold here
+pub numbered-back : textIn standardSet true (pageFor standardSet 7 (numbers 1 1 5) (bytesOf "0417")) ≡ filled true (bytesOf "0417")
+numbered-back = read-written standardSet 2 8 7 (numbers 1 1 5) (bytesOf "0417") usable-standard (ap numberTold numbered-example) (rw numbered-words (omega arith)) .1
+
+-- lent words behind the page stay as they were
+pub words-behind : wordsAfter standardSet 3 none (bytesOf "0417") (7 ∷ 8 ∷ []) ≡ 0x01C503 ∷ 8 ∷ []
+unfolding standardSet writtenOf pageOf checkOf wordsWith placeIn number digits sumBy inSet all
+words-behind = refl
+
+-- .. and so do lent bytes behind the text
+pub bytes-behind : textAfter standardSet 3 6 (0x01C503 ∷ []) (bytesOf "abcdef") ≡ bytesOf "0417ef"
+unfolding standardSet readOf textIn number digits sumBy all
+bytes-behind = refl
+
+-- .. and a refusal leaves them all
+pub refused-leaves : wordsAfter standardSet 3 none (bytesOf "12345") (7 ∷ []) ≡ 7 ∷ []
+unfolding standardSet writtenOf pageOf checkOf wordsWith placeIn number digits sumBy inSet all
+refused-leaves = refl
+
+-- ---- what is refused
+
+-- pages to write, each with 01's number
+unfoldable pub writes : List (Told × ℕ)
+writes =
+    -- the longest texts
+    (writtenOf standardSet 8 3 none (replicate 41 (code "1")), 0)
+    ∷ (writtenOf standardSet 8 4 none (replicate 41 (code "1")), 0)
+    ∷ (writtenOf standardSet 8 7 (numbers 1 1 63) (replicate 39 (code "1")), 0)
+    -- an alphanumeric vector; numbers that a page that is not numbered has no bits for; N over 63
+    ∷ (writtenOf standardSet 8 5 none (bytesOf "1"), 7)
+    ∷ (writtenOf standardSet 8 3 (numbers 0 0 1) (bytesOf "1"), 7)
+    ∷ (writtenOf standardSet 8 7 (numbers 0 0 64) (bytesOf "1"), 7)
+    -- one character more
+    ∷ (writtenOf standardSet 8 3 none (replicate 42 (code "1")), 15)
+    ∷ (writtenOf standardSet 8 7 none (replicate 40 (code "1")), 15)
+    ∷ (writtenOf standardSet 8 3 none (bytesOf "1A"), 18)
+    -- five characters are two words
+    ∷ (writtenOf standardSet 1 3 none (bytesOf "12345"), 1)
+    -- an empty text is one
+    ∷ (writtenOf standardSet 0 3 none [], 1)
+    -- the first question that refuses decides
+    ∷ (writtenOf standardSet 0 5 none (replicate 42 (code "A")), 7)
+    ∷ (writtenOf standardSet 0 3 none (replicate 42 (code "A")), 15)
+    ∷ (writtenOf standardSet 0 3 none (bytesOf "A"), 18)
+    ∷ []
+
+-- the writer gives these answers
+pub write-examples : map {A = Told × ℕ} {B = ℕ} (λ row. numberTold (row .0)) writes ≡ map {A = Told × ℕ} {B = ℕ} (λ row. row .1) writes
+unfolding writes standardSet writtenOf pageOf checkOf wordsWith placeIn number digits sumBy inSet all
+write-examples = refl
+
+-- pages to read, each with 01's number
+unfoldable pub reads : List (Told × ℕ)
+reads =
+    (readOf standardSet 4 3 6 (0x01C503 ∷ []), 0)
+    -- an alphanumeric vector; K over 15
+    ∷ (readOf standardSet 4 5 6 (0x01C503 ∷ []), 7)
+    ∷ (readOf standardSet 4 3 16 (0x01C503 ∷ []), 7)
+    -- no word, and nine
+    ∷ (readOf standardSet 64 3 6 [], 9)
+    ∷ (readOf standardSet 64 3 6 (replicate 9 0), 9)
+    -- a word of 22 bits
+    ∷ (readOf standardSet 4 3 6 (0x200000 ∷ []), 10)
+    -- another K in the vector, in the word, and another character
+    ∷ (readOf standardSet 4 3 7 (0x01C503 ∷ []), 11)
+    ∷ (readOf standardSet 4 3 6 (0x01C502 ∷ []), 11)
+    ∷ (readOf standardSet 4 3 6 (0x01C403 ∷ []), 11)
+    -- four characters and a buffer of three
+    ∷ (readOf standardSet 3 3 6 (0x01C503 ∷ []), 1)
+    -- the first question that refuses decides
+    ∷ (readOf standardSet 0 5 6 [], 7)
+    ∷ (readOf standardSet 0 3 6 (replicate 9 0x200000), 9)
+    ∷ (readOf standardSet 0 3 6 (0x200000 ∷ []), 10)
+    ∷ (readOf standardSet 0 3 7 (0x01C503 ∷ []), 11)
+    ∷ []
+
+-- the reader gives these answers
+pub read-examples : map {A = Told × ℕ} {B = ℕ} (λ row. numberTold (row .0)) reads ≡ map {A = Told × ℕ} {B = ℕ} (λ row. row .1) reads
+unfolding reads readOf sumBy all
+read-examples = refl
+
+-- ---- what each premise of the laws is for; a buffer too short, and a vector's type of another page, stand in `reads`
+
+-- a set without the space
+abbrev spaceless : Set
+spaceless = bytesOf "0123456789?U_-]["
+
+-- .. takes nine zeros
+pub space-accepted : writtenOf spaceless 2 3 none (bytesOf "000000000") ≡ given (15 ∷ 2 ∷ [])
+unfolding writtenOf pageOf checkOf wordsWith placeIn number digits sumBy inSet all
+space-accepted = refl
+
+-- .. whose words are those of ten: the code 16 of a space has run over
+pub space-needed : map (pageOf spaceless false (0 ∷ 0 ∷ 0 ∷ [])) (bytesOf "000000000" ∷ bytesOf "0000000000" ∷ []) ≡ (3 ∷ 0 ∷ []) ∷ (3 ∷ 0 ∷ []) ∷ []
+unfolding pageOf checkOf wordsWith placeIn number digits sumBy
+space-needed = refl
+
+-- .. and so is the text
+pub space-misread : textIn spaceless false (3 ∷ 0 ∷ []) ≡ bytesOf "0000000000"
+unfolding textIn number digits
+space-misread = refl
+
+-- a set of seventeen characters
+abbrev seventeen : Set
+seventeen = bytesOf "0123456789?U[-] A"
+
+-- .. takes its last
+pub sixteen-accepted : writtenOf seventeen 1 3 none (bytesOf "A") ≡ given (11 ∷ 1 ∷ [])
+unfolding writtenOf pageOf checkOf wordsWith placeIn number digits sumBy inSet all
+sixteen-accepted = refl
+
+-- .. whose word is that of a zero and the last: its code 16 has run over
+pub sixteen-needed : map (pageOf seventeen false (0 ∷ 0 ∷ 0 ∷ [])) (bytesOf "A" ∷ bytesOf "0A" ∷ []) ≡ (0x040003 ∷ []) ∷ (0x040003 ∷ []) ∷ []
+unfolding pageOf checkOf wordsWith placeIn number digits sumBy
+sixteen-needed = refl
+
+-- .. and the text is neither
+pub sixteen-misread : textIn seventeen false (0x040003 ∷ []) ≡ bytesOf "0000"
+unfolding textIn number digits
+sixteen-misread = refl
+
+-- the first sixteen of them, which are usable
+abbrev spaceLast : Set
+spaceLast = bytesOf "0123456789?U[-] "
+
+-- .. with a character that is not among them
+pub character-needed : map (pageOf spaceLast false (0 ∷ 0 ∷ 0 ∷ [])) (bytesOf "A" ∷ bytesOf "0A" ∷ []) ≡ (0x040003 ∷ []) ∷ (0x040003 ∷ []) ∷ []
+unfolding pageOf checkOf wordsWith placeIn number digits sumBy
+character-needed = refl
+
+-- .. are misread alike
+pub character-misread : textIn spaceLast false (0x040003 ∷ []) ≡ bytesOf "0000"
+unfolding textIn number digits
+character-misread = refl
+
+-- a number too large for its bits runs over into the first character: "0" with S 24 has the word of the empty text
+pub head-needed : pageOf standardSet true (24 ∷ 0 ∷ 0 ∷ []) (bytesOf "0") ∷ pageOf standardSet true (0 ∷ 0 ∷ 0 ∷ []) [] ∷ [] ≡ (0x033000 ∷ []) ∷ (0x033000 ∷ []) ∷ []
+unfolding standardSet pageOf checkOf wordsWith placeIn number digits sumBy
+head-needed = refl
+
+-- .. S is read as 0
+pub head-misread : readOf standardSet 2 7 12 (0x033000 ∷ []) ≡ given (0 ∷ 0 ∷ 0 ∷ 2 ∷ [])
+unfolding readOf sumBy all
+head-misread = refl
+
+-- .. and the zero as a space
+pub zero-misread : textIn standardSet true (0x033000 ∷ []) ≡ bytesOf "  "
+unfolding standardSet textIn number digits
+zero-misread = refl
+
+-- a text too long has nine words, which are not read
+pub short-needed : readOf standardSet 46 3 (checkFor standardSet 3 none (replicate 42 (code "1"))) (pageFor standardSet 3 none (replicate 42 (code "1"))) ≡ refused refusals.Size
+unfolding standardSet readOf pageOf checkOf wordsWith placeIn number digits sumBy
+short-needed = refl

@@ -1,0 +1,10 @@
+pub mod Asking
+pub mod Bits
+pub mod Codes
+pub mod Examples
+pub mod Heads
+pub mod Laws
+pub mod Readable
+pub mod Reading
+pub mod Writable
+pub mod Writing
