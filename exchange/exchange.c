@@ -47,6 +47,21 @@
  *                        packets
  *  38  mirror_closing    register, talking
  *
+ * A row is its count, at most 4096, and that many words (u32) or bytes (u8). A
+ * row that is lent for writing holds what stands in it before; the answer ends
+ * with the whole row as it stands after, without its count. The count of what was
+ * written there is a u64.
+ *
+ *  39  sum_six_bit       a row of words; the answer is the sum alone
+ *  40  sum_ten_bit       as sum_six_bit
+ *  41  sum_signature     a row of bytes; the answer is the sum alone
+ *  42  numeric_write     kind; message number, retrieval, special format; the
+ *                        text, a row of bytes; the lent row of words. The answer:
+ *                        number, check, count of words, the lent row
+ *  43  numeric_read      kind, check; a row of words; the lent row of bytes. The
+ *                        answer: number, message number, retrieval, special
+ *                        format, count of characters, the lent row
+ *
  * Requests may be sent without waiting for answers. All answers so far are
  * written out before the program waits for more requests. The end of input
  * between two requests ends the program with status 0; a request that is cut,
@@ -338,6 +353,36 @@ struct mirrored mortisevane_mirror_run(struct mirror mirror, const uint32_t *pac
                                        size_t count);
 struct built mortisevane_mirror_closing(struct mirror mirror);
 
+/* ---- The exports of libhost_sums.a and libhost_numeric.a ---- */
+
+struct numbering {
+    uint32_t message_number;
+    uint32_t retrieval;
+    uint32_t special_format;
+};
+
+struct written {
+    uint32_t number;
+    uint32_t check;
+    size_t words;
+};
+
+struct page_read {
+    uint32_t number;
+    struct numbering numbering;
+    size_t characters;
+};
+
+uint32_t mortisevane_sum_six_bit(const uint32_t *words, size_t words_length);
+uint32_t mortisevane_sum_ten_bit(const uint32_t *words, size_t words_length);
+uint32_t mortisevane_sum_signature(const uint8_t *characters, size_t characters_length);
+struct written mortisevane_numeric_write(const uint8_t *text, size_t text_length, uint32_t kind,
+                                         struct numbering numbering, uint32_t *words,
+                                         size_t words_length);
+struct page_read mortisevane_numeric_read(uint32_t kind, uint32_t check, const uint32_t *words,
+                                          size_t words_length, uint8_t *text,
+                                          size_t text_length);
+
 /* ---- What a compiler may call by itself, and no C library is here to give ---- */
 
 void *memcpy(void *restrict to, const void *restrict from, size_t length)
@@ -457,10 +502,15 @@ static int input_goes_on(void)
     return length > 0;
 }
 
-static uint8_t take_u8(void)
+static void need_input(void)
 {
     if (!input_goes_on())
         fail("exchange: a request is cut short\n");
+}
+
+static uint8_t take_u8(void)
+{
+    need_input();
     return input[input_taken++];
 }
 
@@ -476,10 +526,18 @@ static uint16_t take_u16(void) { return (uint16_t)take_number(2); }
 static uint32_t take_u32(void) { return (uint32_t)take_number(4); }
 static uint64_t take_u64(void) { return take_number(8); }
 
+static size_t lesser(size_t one, size_t other) { return one < other ? one : other; }
+
 static void take_bytes(uint8_t *to, size_t length)
 {
-    for (size_t place = 0; place < length; place++)
-        to[place] = take_u8();
+    while (length > 0) {
+        need_input();
+        size_t taken = lesser(length, input_length - input_taken);
+        memcpy(to, input + input_taken, taken);
+        input_taken += taken;
+        to += taken;
+        length -= taken;
+    }
 }
 
 static void give_u8(uint8_t byte)
@@ -501,8 +559,15 @@ static void give_u64(uint64_t number) { give_number(number, 8); }
 
 static void give_bytes(const uint8_t *from, size_t length)
 {
-    for (size_t place = 0; place < length; place++)
-        give_u8(from[place]);
+    while (length > 0) {
+        if (output_length == PIECE)
+            send_answers();
+        size_t given = lesser(length, PIECE - output_length);
+        memcpy(output + output_length, from, given);
+        output_length += given;
+        from += given;
+        length -= given;
+    }
 }
 
 /*
@@ -526,45 +591,72 @@ static void give_numbers(const void *from, size_t size)
     }
 }
 
-/* ---- Lent buffers ---- */
+/* ---- Lent rows ---- */
 
 /*
- * A lent buffer stands between guards, and the library may touch neither: 01
- * has each function state all that lent memory holds after it.
+ * A lent row stands between guards, and the library may touch neither: 01 has
+ * each function state all that lent memory holds after it. Of a row that is lent
+ * for reading, nothing may be changed either.
  */
-enum { MOST_PACKETS = 4096, LONGEST_LENT = MOST_PACKETS * sizeof(uint32_t) };
+enum { LONGEST_ROW = 4096, LONGEST_LENT = LONGEST_ROW * sizeof(uint32_t) };
 enum { GUARD_LENGTH = 16, GUARD_BYTE = 0xA5 };
 
-static _Alignas(GUARD_LENGTH) uint8_t lent_memory[GUARD_LENGTH + LONGEST_LENT + GUARD_LENGTH];
-static uint8_t *const lent_buffer = lent_memory + GUARD_LENGTH;
+struct lent {
+    _Alignas(GUARD_LENGTH) uint8_t memory[GUARD_LENGTH + LONGEST_LENT + GUARD_LENGTH];
+    uint8_t before[LONGEST_LENT];
+    size_t length;
+};
 
-/* Takes what stands in the buffer before the call. */
-static void take_lent_buffer(size_t length)
+/* No export is lent more than one of each. */
+static struct lent lent_for_reading;
+static struct lent lent_for_writing;
+
+/* Where the row begins. What is in it, the export knows. */
+static void *row_of(struct lent *lent) { return lent->memory + GUARD_LENGTH; }
+
+/* Takes what stands in the row before the call. */
+static void take_lent(struct lent *lent, size_t length)
 {
-    memset(lent_memory, GUARD_BYTE, GUARD_LENGTH);
-    take_bytes(lent_buffer, length);
-    memset(lent_buffer + length, GUARD_BYTE, GUARD_LENGTH);
+    uint8_t *row = row_of(lent);
+    memset(lent->memory, GUARD_BYTE, GUARD_LENGTH);
+    take_bytes(row, length);
+    memset(row + length, GUARD_BYTE, GUARD_LENGTH);
+    memcpy(lent->before, row, length);
+    lent->length = length;
 }
 
-/* Comes before the answer is given: after a fault there must be none. */
-static void check_guards(size_t length)
+/*
+ * Takes a row with its count, which is answered. A request's bytes are those of
+ * the numbers in memory: both are little-endian.
+ */
+static size_t take_row(struct lent *lent, size_t size_of_each)
 {
+    uint32_t count = take_u32();
+    if (count > LONGEST_ROW)
+        fail("exchange: a request has a longer row than can be lent\n");
+    take_lent(lent, count * size_of_each);
+    return count;
+}
+
+/* The checks come before the answer is given: after a fault there must be none. */
+static void check_guards(const struct lent *lent)
+{
+    const uint8_t *behind = lent->memory + GUARD_LENGTH + lent->length;
     for (size_t place = 0; place < GUARD_LENGTH; place++)
-        if (lent_memory[place] != GUARD_BYTE || lent_buffer[length + place] != GUARD_BYTE)
-            fail("exchange: the library wrote outside the buffer it was lent\n");
+        if (lent->memory[place] != GUARD_BYTE || behind[place] != GUARD_BYTE)
+            fail("exchange: the library wrote outside the row it was lent\n");
 }
 
-/* Of what is lent for reading only, nothing may be changed either. */
-static uint8_t lent_before[LONGEST_LENT];
-
-static void remember_lent_buffer(size_t length) { memcpy(lent_before, lent_buffer, length); }
-
-static void check_unchanged(size_t length)
+static void check_read(const struct lent *lent)
 {
-    for (size_t place = 0; place < length; place++)
-        if (lent_buffer[place] != lent_before[place])
-            fail("exchange: the library wrote into a buffer it was lent for reading\n");
+    const uint8_t *row = lent->memory + GUARD_LENGTH;
+    check_guards(lent);
+    for (size_t place = 0; place < lent->length; place++)
+        if (row[place] != lent->before[place])
+            fail("exchange: the library wrote into a row it was lent for reading\n");
 }
+
+static void give_lent(struct lent *lent) { give_bytes(row_of(lent), lent->length); }
 
 /* ---- One function for each export ---- */
 
@@ -637,13 +729,13 @@ static void serve_capcode_print(void)
     uint8_t collapse = take_u8();
     uint64_t address = take_u64();
     uint8_t lent = take_u8();
-    take_lent_buffer(lent);
-    struct length_answer answer =
-        mortisevane_capcode_print(letter, frame, collapse, address, lent_buffer, lent);
-    check_guards(lent);
+    take_lent(&lent_for_writing, lent);
+    struct length_answer answer = mortisevane_capcode_print(letter, frame, collapse, address,
+                                                            row_of(&lent_for_writing), lent);
+    check_guards(&lent_for_writing);
     give_u32(answer.number);
     give_u64(answer.length);
-    give_bytes(lent_buffer, lent);
+    give_lent(&lent_for_writing);
 }
 
 static void serve_frames_wait(void)
@@ -737,17 +829,9 @@ static void serve_mirror_step(void)
 static void serve_mirror_run(void)
 {
     struct mirror mirror = take_mirror();
-    uint32_t count = take_u32();
-    if (count > MOST_PACKETS)
-        fail("exchange: a request has more packets than can be lent\n");
-    /* A request's bytes are those of the numbers in memory: both are little-endian. */
-    size_t length = count * sizeof(uint32_t);
-    take_lent_buffer(length);
-    remember_lent_buffer(length);
-    const void *packets = lent_buffer;
-    struct mirrored answer = mortisevane_mirror_run(mirror, packets, count);
-    check_guards(length);
-    check_unchanged(length);
+    size_t count = take_row(&lent_for_reading, sizeof(uint32_t));
+    struct mirrored answer = mortisevane_mirror_run(mirror, row_of(&lent_for_reading), count);
+    check_read(&lent_for_reading);
     give_mirrored(answer);
 }
 
@@ -755,6 +839,65 @@ static void serve_mirror_closing(void)
 {
     struct built answer = mortisevane_mirror_closing(take_mirror());
     give_numbers(&answer, sizeof answer);
+}
+
+static void serve_sum_six_bit(void)
+{
+    size_t count = take_row(&lent_for_reading, sizeof(uint32_t));
+    uint32_t sum = mortisevane_sum_six_bit(row_of(&lent_for_reading), count);
+    check_read(&lent_for_reading);
+    give_u32(sum);
+}
+
+static void serve_sum_ten_bit(void)
+{
+    size_t count = take_row(&lent_for_reading, sizeof(uint32_t));
+    uint32_t sum = mortisevane_sum_ten_bit(row_of(&lent_for_reading), count);
+    check_read(&lent_for_reading);
+    give_u32(sum);
+}
+
+static void serve_sum_signature(void)
+{
+    size_t count = take_row(&lent_for_reading, sizeof(uint8_t));
+    uint32_t sum = mortisevane_sum_signature(row_of(&lent_for_reading), count);
+    check_read(&lent_for_reading);
+    give_u32(sum);
+}
+
+static void serve_numeric_write(void)
+{
+    uint32_t kind = take_u32();
+    struct numbering numbering;
+    take_numbers(&numbering, sizeof numbering);
+    size_t characters = take_row(&lent_for_reading, sizeof(uint8_t));
+    size_t words = take_row(&lent_for_writing, sizeof(uint32_t));
+    struct written answer =
+        mortisevane_numeric_write(row_of(&lent_for_reading), characters, kind, numbering,
+                                  row_of(&lent_for_writing), words);
+    check_read(&lent_for_reading);
+    check_guards(&lent_for_writing);
+    give_u32(answer.number);
+    give_u32(answer.check);
+    give_u64(answer.words);
+    give_lent(&lent_for_writing);
+}
+
+static void serve_numeric_read(void)
+{
+    uint32_t kind = take_u32();
+    uint32_t check = take_u32();
+    size_t words = take_row(&lent_for_reading, sizeof(uint32_t));
+    size_t characters = take_row(&lent_for_writing, sizeof(uint8_t));
+    struct page_read answer =
+        mortisevane_numeric_read(kind, check, row_of(&lent_for_reading), words,
+                                 row_of(&lent_for_writing), characters);
+    check_read(&lent_for_reading);
+    check_guards(&lent_for_writing);
+    give_u32(answer.number);
+    give_numbers(&answer.numbering, sizeof answer.numbering);
+    give_u64(answer.characters);
+    give_lent(&lent_for_writing);
 }
 
 /* ---- Which byte names which export ---- */
@@ -798,6 +941,11 @@ static void (*const exports[])(void) = {
     [36] = serve_mirror_step,
     [37] = serve_mirror_run,
     [38] = serve_mirror_closing,
+    [39] = serve_sum_six_bit,
+    [40] = serve_sum_ten_bit,
+    [41] = serve_sum_signature,
+    [42] = serve_numeric_write,
+    [43] = serve_numeric_read,
 };
 
 static void serve_request(uint8_t export)

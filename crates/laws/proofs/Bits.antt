@@ -1,12 +1,11 @@
 -- A number as its lowest bit and the rest.
-use Prim.Native.Nat.{ℕ, zero, suc, _+_, _*_, _/_, _%_, _^_, _≤_, max}
+use Prim.Native.Nat.{ℕ, suc, _+_, _*_, _/_, _%_, _^_, _≤_, max}
 use mathlib.Core.Bool.{Bool, true, false, _||_}
 use mathlib.Core.Path.{_≡_, refl, _∙_}
-use native.Mathlib.Nat.{pow-zero, pow-suc, pow-succ', div-div-eq-div-mul, mul-zero, mul-suc}
+use native.Mathlib.Nat.{pow-succ', div-div-eq-div-mul}
 use native.Mathlib.Omega.{arith}
 use lib.Bits.{bitOr, or-step}
 use lib.Count.{ones, ones-step}
-use lib.Pow.{pow-add}
 use Rattle.laws.specs.Choice.{bitOf}
 
 -- a bit and the rest, apart again
@@ -49,8 +48,3 @@ or-of a b m n =
     or-step (bitOf a + 2 * m) (bitOf b + 2 * n)
     ∙ rw (lowest a, lowest b, without-lowest a, without-lowest b, larger-bit)
     (omega arith)
-
--- groups of bits, so many: their power is that of all their bits
-pub pow-pow : (wide count : ℕ) → (2 ^ wide) ^ count ≡ 2 ^ (wide * count)
-pow-pow wide zero = rw (pow-zero, mul-zero)
-pow-pow wide (suc count) = rw (pow-suc, pow-pow wide count, mul-suc, pow-add)

@@ -155,6 +155,7 @@ none-fit so (zeros u ∷ row) w = none-fit so row w
 none-fit so (field u ∷ row) w = refl
 none-fit so (unused u ∷ row) w = none-fit so row w
 
+-- .. and to a row with a field behind it the last number is asked last
 fit-last-after : (so : Bool) (row : Layout) (values : List ℕ) (w k : ℕ) → fitAfter so (row ++ field w ∷ []) (values ++ k ∷ []) ≡ (fitAfter so row values && ltb k (2 ^ w))
 fit-last-after so [] [] w k = refl
 fit-last-after so [] (v ∷ []) w k = refl
@@ -165,7 +166,7 @@ fit-last-after so (field u ∷ row) [] w k = none-fit (so && ltb k (2 ^ u)) row 
 fit-last-after so (field u ∷ row) (v ∷ values) w k = fit-last-after (so && ltb v (2 ^ u)) row values w k
 fit-last-after so (unused u ∷ row) values w k = fit-last-after so row values w k
 
--- numbers fit a row with a field behind it where those before the last fit the row, and the last fits the field
+-- numbers fit a row with a field behind it where those before the last fit the row and the last fits the field
 pub fit-last : (row : Layout) (values : List ℕ) (w k : ℕ) → fit (row ++ field w ∷ []) (values ++ k ∷ []) ≡ (fit row values && ltb k (2 ^ w))
 fit-last row values w k = fit-last-after true row values w k
 

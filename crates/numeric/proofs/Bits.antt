@@ -53,10 +53,12 @@ abbrev pub aboveK : Bool → Layout
 aboveK true = field 1 ∷ field 1 ∷ field 6 ∷ []
 aboveK false = field 0 ∷ field 0 ∷ field 0 ∷ []
 
+-- .. and K5 with K4 behind it
 head-parts : (numbered : Bool) → headOf numbered ≡ aboveK numbered ++ field 2 ∷ []
 head-parts true = refl
 head-parts false = refl
 
+-- the head has at most 32 bits
 pub laid-head : (numbered : Bool) → T (laid (headOf numbered))
 laid-head true = tt
 laid-head false = tt
@@ -89,10 +91,11 @@ unkeyed-same (suc n) q k h =
     let rest : (q * 4 + k) / 2 ^ wordBits ≡ (q * 4 + 0) / 2 ^ wordBits = omega arith in
     ap₂ (λ (f r : ℕ). f ∷ digits (2 ^ wordBits) n r) first rest
 
--- the first word ends as the page's bits do
+-- the first word is the lowest bits of the page
 first-word : (numbered : Bool) (n row : ℕ) → getD (digits (2 ^ wordBits) (wordsFor numbered n) row) 0 0 ≡ row % 2 ^ wordBits
 first-word numbered n row = digits-at (2 ^ wordBits) (wordsFor numbered n) row 0 (some-word numbered n) ∙ omega arith
 
+-- .. among them the head
 in-first : (numbered : Bool) (row : ℕ) → row % 2 ^ wordBits % 2 ^ size (headOf numbered) ≡ row % 2 ^ size (headOf numbered)
 in-first true row = omega arith
 in-first false row = omega arith
@@ -111,6 +114,7 @@ module _ (set : Set) (numbered : Bool) (flags text : List ℕ) (e : fit (headOf 
   head-fits : fit (headOf numbered) (headSent set numbered flags text) ≡ true
   head-fits = fit-with numbered flags (inWord (checkOf set numbered flags text)) e (check-small set numbered flags text)
 
+  -- .. have no more bits than the head
   head-lt : packed (headOf numbered) (headSent set numbered flags text) < 2 ^ size (headOf numbered)
   head-lt = packed-lt (headOf numbered) (headSent set numbered flags text) (laid-head numbered) head-fits
 
@@ -164,13 +168,15 @@ known-back set (c ∷ text) known =
     (known-back set text (second-of test (inSet set text) known))
 
 module _ (set : Set) (numbered : Bool) (flags text : List ℕ) (e : fit (headOf numbered) (flags ++ 0 ∷ []) ≡ true) (sixteen : length set ≡ 16) (known : inSet set (filled numbered text) ≡ true) where
-  -- the codes of the text and its spaces
+  -- the codes of the text and its spaces are digits
   pub codes-digits : areDigits 16 (map (placeIn set) (filled numbered text)) ≡ true
   codes-digits = codes-are set (filled numbered text) sixteen known
 
+  -- .. as many as the words have room for
   codes-length : length (map (placeIn set) (filled numbered text)) ≡ roomOf numbered (wordsFor numbered (length text))
   codes-length = length-map (filled numbered text) (placeIn set) ∙ filled-length numbered text
 
+  -- .. four bits each
   codes-lt : codesOf set (filled numbered text) < 2 ^ (4 * roomOf numbered (wordsFor numbered (length text)))
   codes-lt =
       rw (← pow-mul 2 4 (roomOf numbered (wordsFor numbered (length text))))

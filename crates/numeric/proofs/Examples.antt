@@ -46,6 +46,7 @@ rooms-numbered = refl
 abbrev numbers : ℕ → ℕ → ℕ → Numbering
 numbers s r n = record { «message_number» = n; retrieval = r; «special_format» = s }
 
+-- .. all 0
 abbrev none : Numbering
 none = numbers 0 0 0
 
@@ -54,19 +55,22 @@ pub standard-example : writtenOf standardSet 1 3 none (bytesOf "0417") ≡ given
 unfolding standardSet writtenOf pageOf checkOf wordsWith placeIn number digits sumBy inSet all
 standard-example = refl
 
+-- .. its word, with K5 and K4
 pub standard-words : pageOf standardSet false (0 ∷ 0 ∷ 0 ∷ []) (bytesOf "0417") ≡ 0x01C503 ∷ []
 unfolding standardSet pageOf checkOf wordsWith placeIn number digits sumBy
 standard-words = refl
 
+-- .. and what is read
 pub standard-read : readOf standardSet 4 3 6 (0x01C503 ∷ []) ≡ given (0 ∷ 0 ∷ 0 ∷ 4 ∷ [])
 unfolding readOf sumBy all
 standard-read = refl
 
--- .. and with all bits behind the characters set, and their K: they are not looked at
+-- .. also with all bits behind the characters set: the groups 00H, C5H and 1DH make 226; 3 and 34 make 37; K is 26, 10 in the vector and 1 in the word
 pub left-over-example : readOf standardSet 4 3 10 (0x1DC501 ∷ []) ≡ given (0 ∷ 0 ∷ 0 ∷ 4 ∷ [])
 unfolding readOf sumBy all
 left-over-example = refl
 
+-- .. and the text is the same
 pub left-over-text : textIn standardSet false (0x1DC501 ∷ []) ≡ bytesOf "0417"
 unfolding standardSet textIn number digits
 left-over-text = refl
@@ -77,14 +81,17 @@ pub numbered-example : writtenOf standardSet 2 7 (numbers 1 1 5) (bytesOf "0417"
 unfolding standardSet writtenOf pageOf checkOf wordsWith placeIn number digits sumBy inSet all
 numbered-example = refl
 
+-- .. its words
 pub numbered-words : pageOf standardSet true (1 ∷ 1 ∷ 5 ∷ []) (bytesOf "0417") ≡ 0x050316 ∷ 0x19998E ∷ []
 unfolding standardSet pageOf checkOf wordsWith placeIn number digits sumBy
 numbered-words = refl
 
+-- .. what is read
 pub numbered-read : readOf standardSet 8 7 2 (0x050316 ∷ 0x19998E ∷ []) ≡ given (1 ∷ 1 ∷ 5 ∷ 8 ∷ [])
 unfolding readOf sumBy all
 numbered-read = refl
 
+-- .. and the text with its spaces
 pub numbered-text : textIn standardSet true (0x050316 ∷ 0x19998E ∷ []) ≡ bytesOf "0417    "
 unfolding standardSet textIn number digits
 numbered-text = refl
@@ -93,11 +100,12 @@ numbered-text = refl
 pub numbered-back : textIn standardSet true (pageFor standardSet 7 (numbers 1 1 5) (bytesOf "0417")) ≡ filled true (bytesOf "0417")
 numbered-back = read-written standardSet 2 8 7 (numbers 1 1 5) (bytesOf "0417") usable-standard (ap numberTold numbered-example) (rw numbered-words (omega arith)) .1
 
--- lent words behind the page, and lent bytes behind the text, stay as they were
+-- lent words behind the page stay as they were
 pub words-behind : wordsAfter standardSet 3 none (bytesOf "0417") (7 ∷ 8 ∷ []) ≡ 0x01C503 ∷ 8 ∷ []
 unfolding standardSet writtenOf pageOf checkOf wordsWith placeIn number digits sumBy inSet all
 words-behind = refl
 
+-- .. and so do lent bytes behind the text
 pub bytes-behind : textAfter standardSet 3 6 (0x01C503 ∷ []) (bytesOf "abcdef") ≡ bytesOf "0417ef"
 unfolding standardSet readOf textIn number digits sumBy all
 bytes-behind = refl
@@ -171,57 +179,74 @@ read-examples = refl
 
 -- ---- what each premise of the laws is for; a buffer too short, and a vector's type of another page, stand in `reads`
 
--- without the space in the set, nine zeros and ten are the same words, and the space behind nine is read as a zero
+-- a set without the space
 abbrev spaceless : Set
 spaceless = bytesOf "0123456789?U_-]["
 
+-- .. takes nine zeros
+pub space-accepted : writtenOf spaceless 2 3 none (bytesOf "000000000") ≡ given (15 ∷ 2 ∷ [])
+unfolding writtenOf pageOf checkOf wordsWith placeIn number digits sumBy inSet all
+space-accepted = refl
+
+-- .. whose words are those of ten: the code 16 of a space has run over
 pub space-needed : map (pageOf spaceless false (0 ∷ 0 ∷ 0 ∷ [])) (bytesOf "000000000" ∷ bytesOf "0000000000" ∷ []) ≡ (3 ∷ 0 ∷ []) ∷ (3 ∷ 0 ∷ []) ∷ []
 unfolding pageOf checkOf wordsWith placeIn number digits sumBy
 space-needed = refl
 
+-- .. and so is the text
 pub space-misread : textIn spaceless false (3 ∷ 0 ∷ []) ≡ bytesOf "0000000000"
 unfolding textIn number digits
 space-misread = refl
 
--- a character that is not in the set runs over into those behind it: "A" and "0A" are the same words, and are read as zeros
-abbrev spaceLast : Set
-spaceLast = bytesOf "0123456789?U[-] "
-
-pub character-needed : map (pageOf spaceLast false (0 ∷ 0 ∷ 0 ∷ [])) (bytesOf "A" ∷ bytesOf "0A" ∷ []) ≡ (0x040003 ∷ []) ∷ (0x040003 ∷ []) ∷ []
-unfolding pageOf checkOf wordsWith placeIn number digits sumBy
-character-needed = refl
-
-pub character-misread : textIn spaceLast false (0x040003 ∷ []) ≡ bytesOf "0000"
-unfolding textIn number digits
-character-misread = refl
-
--- .. and so does the seventeenth character of a set
+-- a set of seventeen characters
 abbrev seventeen : Set
 seventeen = bytesOf "0123456789?U[-] A"
 
+-- .. takes its last
+pub sixteen-accepted : writtenOf seventeen 1 3 none (bytesOf "A") ≡ given (11 ∷ 1 ∷ [])
+unfolding writtenOf pageOf checkOf wordsWith placeIn number digits sumBy inSet all
+sixteen-accepted = refl
+
+-- .. whose word is that of a zero and the last: its code 16 has run over
 pub sixteen-needed : map (pageOf seventeen false (0 ∷ 0 ∷ 0 ∷ [])) (bytesOf "A" ∷ bytesOf "0A" ∷ []) ≡ (0x040003 ∷ []) ∷ (0x040003 ∷ []) ∷ []
 unfolding pageOf checkOf wordsWith placeIn number digits sumBy
 sixteen-needed = refl
 
+-- .. and the text is neither
 pub sixteen-misread : textIn seventeen false (0x040003 ∷ []) ≡ bytesOf "0000"
 unfolding textIn number digits
 sixteen-misread = refl
 
--- a number too large for its bits runs over into the first character: "0" with S 24 and the empty text with S 0 are the same words
+-- the first sixteen of them, which are usable
+abbrev spaceLast : Set
+spaceLast = bytesOf "0123456789?U[-] "
+
+-- .. with a character that is not among them
+pub character-needed : map (pageOf spaceLast false (0 ∷ 0 ∷ 0 ∷ [])) (bytesOf "A" ∷ bytesOf "0A" ∷ []) ≡ (0x040003 ∷ []) ∷ (0x040003 ∷ []) ∷ []
+unfolding pageOf checkOf wordsWith placeIn number digits sumBy
+character-needed = refl
+
+-- .. are misread alike
+pub character-misread : textIn spaceLast false (0x040003 ∷ []) ≡ bytesOf "0000"
+unfolding textIn number digits
+character-misread = refl
+
+-- a number too large for its bits runs over into the first character: "0" with S 24 has the word of the empty text
 pub head-needed : pageOf standardSet true (24 ∷ 0 ∷ 0 ∷ []) (bytesOf "0") ∷ pageOf standardSet true (0 ∷ 0 ∷ 0 ∷ []) [] ∷ [] ≡ (0x033000 ∷ []) ∷ (0x033000 ∷ []) ∷ []
 unfolding standardSet pageOf checkOf wordsWith placeIn number digits sumBy
 head-needed = refl
 
--- .. which are read as the empty text
+-- .. S is read as 0
 pub head-misread : readOf standardSet 2 7 12 (0x033000 ∷ []) ≡ given (0 ∷ 0 ∷ 0 ∷ 2 ∷ [])
 unfolding readOf sumBy all
 head-misread = refl
 
-pub head-misread-text : textIn standardSet true (0x033000 ∷ []) ≡ bytesOf "  "
+-- .. and the zero as a space
+pub zero-misread : textIn standardSet true (0x033000 ∷ []) ≡ bytesOf "  "
 unfolding standardSet textIn number digits
-head-misread-text = refl
+zero-misread = refl
 
--- a text too long is nine words, which are not read
+-- a text too long has nine words, which are not read
 pub short-needed : readOf standardSet 46 3 (checkFor standardSet 3 none (replicate 42 (code "1"))) (pageFor standardSet 3 none (replicate 42 (code "1"))) ≡ refused refusals.Size
 unfolding standardSet readOf pageOf checkOf wordsWith placeIn number digits sumBy
 short-needed = refl

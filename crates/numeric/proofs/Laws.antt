@@ -63,6 +63,7 @@ page-size set numbered flags text short =
     let words = page-length set numbered flags text in
     (words, rw words (some-word numbered (length text)), rw words (eight-words numbered (length text) short))
 
+-- fewer words have no room for so many characters
 fewer-short : (numbered : Bool) (n w : ℕ) → 1 ≤ w → w < wordsFor numbered n → roomOf numbered w < n
 fewer-short true n w some few = omega arith
 fewer-short false n w some few = omega arith

@@ -11,8 +11,7 @@ use lib.Pow.{pow-add, pow-pos, shr-shr}
 use lib.Seq.{drop-cons}
 use Rattle.laws.specs.Lists.{put}
 use Rattle.laws.specs.Numerals.{number, digits}
-use Rattle.laws.proofs.Bits.{pow-pow}
-use Rattle.laws.proofs.Numerals.{number-drop}
+use Rattle.laws.proofs.Numerals.{number-drop, pow-mul}
 use Rattle.laws.proofs.Writing.{put-next}
 use Rattle.numeric.specs.Pages.{undamaged}
 
@@ -49,7 +48,7 @@ module _ (words : List ℕ) (at place : ℕ) (good : undamaged words ≡ true) (
   unfolding number
   from-word =
       sym (shr-shr (number (2 ^ 21) words) (21 * at) place)
-      ∙ rw (← pow-pow 21 at, number-drop (2 ^ 21) words at good, drop-cons words at 0 inside)
+      ∙ rw (← pow-mul 2 21 at, number-drop (2 ^ 21) words at good, drop-cons words at 0 inside)
 
   -- the code there, where it ends within the word
   pub code-within : place < 18 → number (2 ^ 21) words / 2 ^ (21 * at + place) % 16 ≡ getD words at 0 / 2 ^ place % 16
@@ -72,7 +71,7 @@ module _ (words : List ℕ) (at place : ℕ) (good : undamaged words ≡ true) (
 
 -- the bits behind the head and so many characters
 pub behind-characters : (n head i place : ℕ) → place ≡ head + 4 * i → n / 2 ^ place ≡ n / 2 ^ head / 16 ^ i
-behind-characters n head i place e = rw (e, ← shr-shr n head (4 * i), ← pow-pow 4 i)
+behind-characters n head i place e = rw (e, ← shr-shr n head (4 * i), ← pow-mul 2 4 i)
 
 -- characters spelled from a number, so many, each by a rule
 module _ (rule : ℕ → ℕ) (out : List ℕ) (room i x : ℕ) (more : i < room) (fits : room ≤ length out) where

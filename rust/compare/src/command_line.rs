@@ -7,6 +7,7 @@ const DEFAULT_SEED: u64 = 5008;
 
 pub const USAGE: &str = "usage: compare exports EXCHANGE_COMMAND.. [--seed NUMBER]
        compare packets EXCHANGE_COMMAND.. [--seed NUMBER] [--full]
+       compare pages EXCHANGE_COMMAND.. [--seed NUMBER]
        compare start-up FILE EXCHANGE_COMMAND..
        compare lines LISTING_COMMAND.. [--count NUMBER] [--seed NUMBER]
        compare edges LISTING_COMMAND..
@@ -27,6 +28,10 @@ pub enum Task {
         exchange: Vec<String>,
         seed: u64,
         extent: Extent,
+    },
+    Pages {
+        exchange: Vec<String>,
+        seed: u64,
     },
     StartUp {
         file: String,
@@ -56,11 +61,14 @@ pub fn read(words: &[String]) -> Option<Task> {
     let (task, rest) = words.split_first()?;
     match task.as_str() {
         "exports" => {
-            let (exchange, [seed]) = command_and_numbers(rest, ["--seed"])?;
-            let seed = seed.unwrap_or(DEFAULT_SEED);
+            let (exchange, seed) = command_and_seed(rest)?;
             Some(Task::Exports { exchange, seed })
         }
         "packets" => read_packets(rest),
+        "pages" => {
+            let (exchange, seed) = command_and_seed(rest)?;
+            Some(Task::Pages { exchange, seed })
+        }
         "start-up" => read_start_up(rest),
         "lines" => {
             let (listing, [count, seed]) = command_and_numbers(rest, ["--count", "--seed"])?;
@@ -93,10 +101,10 @@ fn read_packets(words: &[String]) -> Option<Task> {
         [rest @ .., last] if last == "--full" => (rest, Extent::Full),
         _ => (words, Extent::Usual),
     };
-    let (exchange, [seed]) = command_and_numbers(words, ["--seed"])?;
+    let (exchange, seed) = command_and_seed(words)?;
     Some(Task::Packets {
         exchange,
-        seed: seed.unwrap_or(DEFAULT_SEED),
+        seed,
         extent,
     })
 }
@@ -116,6 +124,11 @@ fn count_and_seed(words: &[String]) -> Option<(u64, u64)> {
         [count, seed] => Some((count.parse().ok()?, seed.parse().ok()?)),
         _ => None,
     }
+}
+
+fn command_and_seed(words: &[String]) -> Option<(Vec<String>, u64)> {
+    let (command, [seed]) = command_and_numbers(words, ["--seed"])?;
+    Some((command, seed.unwrap_or(DEFAULT_SEED)))
 }
 
 /// Only at the end of the words are options ours; those before belong to the
@@ -172,6 +185,18 @@ mod tests {
     }
 
     #[test]
+    fn pages_may_have_a_seed() {
+        for (line, seed) in [
+            ("pages run exchange", DEFAULT_SEED),
+            ("pages run exchange --seed 7", 7),
+        ] {
+            let exchange = words("run exchange");
+            let task = Task::Pages { exchange, seed };
+            assert_eq!(read(&words(line)), Some(task), "{line}");
+        }
+    }
+
+    #[test]
     fn packets_to_either_extent() {
         for (line, seed, extent) in [
             ("packets run exchange", DEFAULT_SEED, Extent::Usual),
@@ -211,6 +236,9 @@ mod tests {
             "packets --full",
             "packets --seed 1",
             "packets run --seed --full",
+            "pages",
+            "pages --seed 1",
+            "pages run --seed",
             "start-up",
             "start-up table.md",
             "lines --count 5",

@@ -64,6 +64,11 @@ impl Fields {
         self.array().map(u64::from_le_bytes)
     }
 
+    /// A count of what is in memory, which C hands over as a size_t.
+    pub fn count(&mut self) -> io::Result<usize> {
+        usize::try_from(self.u64()?).map_err(io::Error::other)
+    }
+
     pub fn bytes(&mut self, length: usize) -> io::Result<Vec<u8>> {
         let mut bytes = vec![0; length];
         self.output.read_exact(&mut bytes)?;
@@ -79,8 +84,55 @@ impl Fields {
         })))
     }
 
+    /// A row of so many, each taken by itself.
+    pub fn row<I: Item>(&mut self, length: usize) -> io::Result<Vec<I>> {
+        (0..length).map(|_| I::take(self)).collect()
+    }
+
     fn are_over(&mut self) -> io::Result<bool> {
         Ok(self.output.read(&mut [0])? == 0)
+    }
+}
+
+/// What rows are made of.
+pub trait Item: Copy + Debug + PartialEq + Send {
+    fn append_to(self, bytes: &mut Vec<u8>);
+    fn take(fields: &mut Fields) -> io::Result<Self>;
+}
+
+impl Item for u8 {
+    fn append_to(self, bytes: &mut Vec<u8>) {
+        bytes.push(self);
+    }
+
+    fn take(fields: &mut Fields) -> io::Result<Self> {
+        fields.u8()
+    }
+}
+
+impl Item for u32 {
+    fn append_to(self, bytes: &mut Vec<u8>) {
+        bytes.extend(self.to_le_bytes());
+    }
+
+    fn take(fields: &mut Fields) -> io::Result<Self> {
+        fields.u32()
+    }
+}
+
+/// Adds the numbers of a struct to a request, each little-endian.
+pub fn append_numbers(bytes: &mut Vec<u8>, fields: &impl Numbers) {
+    for number in fields.numbers() {
+        number.append_to(bytes);
+    }
+}
+
+/// Adds a row to a request: its count, and each of its items.
+pub fn append_row<I: Item>(bytes: &mut Vec<u8>, row: &[I]) {
+    let count = u32::try_from(row.len()).expect("no row is that long");
+    count.append_to(bytes);
+    for item in row {
+        item.append_to(bytes);
     }
 }
 

@@ -2,11 +2,13 @@
 //! them over. Every answer has the refusal's number first, 0 where nothing is
 //! refused; on refusal all other fields are 0.
 
+use std::fmt::{self, Debug, Formatter};
 use std::io;
 
 use second::numbers::Numbers;
+use second::numeric::{PageRead, Written};
 
-use crate::exchange::Fields;
+use crate::exchange::{Fields, Item};
 
 /// How many listeners the library takes at most.
 pub const LISTENERS: usize = 16;
@@ -165,8 +167,8 @@ impl MortisevaneWait {
     }
 }
 
-/// An answer of packets and of the mirror, all of which have one form: the
-/// number, and the fields that are told with it.
+/// An answer of packets, of the mirror and of pages, all of which have one form:
+/// the number, and the fields that are told with it.
 #[derive(Clone, Copy, Debug, Default, PartialEq, Eq)]
 pub struct Told<F> {
     pub number: u32,
@@ -178,6 +180,56 @@ impl<F: Numbers> Told<F> {
         Ok(Told {
             number: fields.u32()?,
             fields: fields.numbers()?,
+        })
+    }
+}
+
+/// The fields that are told of a row that was lent for writing, and the whole
+/// row as it stands after, on refusal too.
+#[derive(Clone, PartialEq, Eq)]
+pub struct Lent<F, I> {
+    pub told: F,
+    pub row: Vec<I>,
+}
+
+/// Words and bytes are easier to find in the tables when they are hexadecimal.
+impl<F: Debug, I: Debug> Debug for Lent<F, I> {
+    fn fmt(&self, formatter: &mut Formatter) -> fmt::Result {
+        write!(formatter, "{:?}, lent row {:X?}", self.told, self.row)
+    }
+}
+
+/// What is told of a lent row, as the exchange program hands it over.
+pub trait ToldOfRow: Sized {
+    fn read(fields: &mut Fields) -> io::Result<Self>;
+}
+
+impl ToldOfRow for Written {
+    fn read(fields: &mut Fields) -> io::Result<Self> {
+        Ok(Written {
+            check: fields.u32()?,
+            words: fields.count()?,
+        })
+    }
+}
+
+impl ToldOfRow for PageRead {
+    fn read(fields: &mut Fields) -> io::Result<Self> {
+        Ok(PageRead {
+            numbering: fields.numbers()?,
+            characters: fields.count()?,
+        })
+    }
+}
+
+impl<F: ToldOfRow, I: Item> Told<Lent<F, I>> {
+    pub fn read_with_row(fields: &mut Fields, lent: usize) -> io::Result<Self> {
+        let number = fields.u32()?;
+        let told = F::read(fields)?;
+        let row = fields.row(lent)?;
+        Ok(Told {
+            number,
+            fields: Lent { told, row },
         })
     }
 }

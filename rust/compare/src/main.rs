@@ -11,6 +11,7 @@ mod host;
 mod lines;
 mod listing_program;
 mod packets;
+mod pages;
 mod random;
 mod start_up;
 mod tally;
@@ -46,6 +47,7 @@ fn carry_out(task: &Task) -> Result<(), String> {
             seed,
             extent,
         } => packets::compare(exchange, *seed, *extent)?,
+        Task::Pages { exchange, seed } => pages::compare(exchange, *seed)?,
         Task::StartUp { file, exchange } => start_up::compare(file, exchange)?,
         Task::Lines {
             listing,

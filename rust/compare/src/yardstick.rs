@@ -7,7 +7,7 @@ use second::mirror::Mirror;
 use second::refusal::Refusal;
 
 use crate::host::{
-    MortisevaneAddress, MortisevaneAssignment, MortisevaneCapcode, MortisevaneClass,
+    Lent, MortisevaneAddress, MortisevaneAssignment, MortisevaneCapcode, MortisevaneClass,
     MortisevaneFrames, MortisevaneLength, MortisevaneListeners, MortisevaneWait, MortisevaneWords,
     Told,
 };
@@ -131,5 +131,14 @@ pub fn mirrored(before: Mirror, after: Result<Mirror, Refusal>) -> Told<Mirror> 
     Told {
         fields: after.unwrap_or(before),
         ..told(after)
+    }
+}
+
+/// The answer of an export that writes into a lent row, and the row after it.
+pub fn told_with_row<F: Default, I>(answer: Result<F, Refusal>, row: Vec<I>) -> Told<Lent<F, I>> {
+    let Told { number, fields } = told(answer);
+    Told {
+        number,
+        fields: Lent { told: fields, row },
     }
 }

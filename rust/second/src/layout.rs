@@ -35,7 +35,7 @@ impl Field {
         (1 << self.width) - 1
     }
 
-    const fn bits(self) -> u32 {
+    pub const fn bits(self) -> u32 {
         self.largest() << self.place
     }
 

@@ -11,6 +11,8 @@ pub mod layout;
 pub mod listing;
 pub mod mirror;
 pub mod numbers;
+pub mod numeric;
 pub mod packet;
 pub mod refusal;
+pub mod sums;
 pub mod vector;

@@ -16,12 +16,21 @@ pub enum Refusal {
     /// The address is below its letter's offset.
     Offset = 6,
     /// A packet that is not to be sent or not of that kind, or with a 0 bit
-    /// set; a field too large, such as a frame over 127 or a collapse over 5.
+    /// set; a field too large, such as a frame over 127 or a collapse over 5, or
+    /// a vector's K over 15.
     Packet = 7,
     /// The address number is not 0 to 31.
     Address = 8,
-    /// Over 16 addresses.
+    /// Over 16 addresses; words outside the limits.
     Size = 9,
+    /// A word over 21 bits.
+    Damaged = 10,
+    /// K differs.
+    Checksum = 11,
+    /// A text over the room.
+    TooLong = 15,
+    /// A character that is not in the set.
+    Character = 18,
 }
 
 impl Refusal {

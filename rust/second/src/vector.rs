@@ -81,9 +81,9 @@ numbers! {
 /// Vector types V (Tables 32, 33 and 35, S8.7.7).
 const SHORT_INSTRUCTION: u32 = 1;
 const SHORT_MESSAGE: u32 = 2;
-const STANDARD_NUMERIC: u32 = 3;
-const SPECIAL_NUMERIC: u32 = 4;
-const NUMBERED_NUMERIC: u32 = 7;
+pub const STANDARD_NUMERIC: u32 = 3;
+pub const SPECIAL_NUMERIC: u32 = 4;
+pub const NUMBERED_NUMERIC: u32 = 7;
 
 /// Table 31: K and n of a numeric vector; Table 36: n of the others; b in both.
 const NUMERIC_CHECK: Field = field(10, 4);

@@ -4,13 +4,12 @@ use std::io;
 
 use second::layout::{self, Field};
 
-use crate::exchange::{Fields, Request};
+use crate::exchange::{append_numbers, Fields, Request};
 use crate::host::Told;
 use crate::random::Random;
 use crate::tally::{self, Tally};
 use crate::yardstick;
 
-use super::append_numbers;
 use super::kinds::Buildable;
 
 const SETS_FOR_EACH: usize = 100_000;

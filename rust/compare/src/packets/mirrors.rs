@@ -5,13 +5,11 @@ use std::io;
 use second::layout::{DATA_BITS, ID_PLACE};
 use second::mirror::{self, Mirror};
 
-use crate::exchange::{Fields, Request};
+use crate::exchange::{append_numbers, append_row, Fields, Request};
 use crate::host::Told;
 use crate::random::Random;
 use crate::tally::{self, Tally};
 use crate::yardstick;
-
-use super::append_numbers;
 
 const STEPS: usize = 1_000_000;
 const RUNS: usize = 100_000;
@@ -83,11 +81,7 @@ impl Request for Run {
 
     fn arguments(&self, bytes: &mut Vec<u8>) {
         append_numbers(bytes, &self.mirror);
-        let count = u32::try_from(self.packets.len()).expect("no run is that long");
-        bytes.extend(count.to_le_bytes());
-        for packet in &self.packets {
-            bytes.extend(packet.to_le_bytes());
-        }
+        append_row(bytes, &self.packets);
     }
 
     fn library(&self, fields: &mut Fields) -> io::Result<Self::Answer> {

@@ -7,7 +7,6 @@ pub mod readers;
 mod words;
 
 use second::heard::{Address, Message, Status};
-use second::numbers::Numbers;
 use second::packet::{
     AddressEnable, AllFrameMode, Checksum, Configuration, Control, FrameAssignment, PartId,
     ReceiverLines, ShutDown, UserAddress,
@@ -118,11 +117,4 @@ fn compare_reader<F: Readable>(
 ) -> Result<Tally, String> {
     let packets = extent.packets_for::<F>(seed.wrapping_add(u64::from(F::READER)));
     readers::compare::<F>(exchange, packets)
-}
-
-/// Adds the numbers of a struct to a request, each little-endian.
-fn append_numbers(bytes: &mut Vec<u8>, fields: &impl Numbers) {
-    for number in fields.numbers() {
-        bytes.extend(number.to_le_bytes());
-    }
 }
