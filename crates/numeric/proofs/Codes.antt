@@ -1,12 +1,12 @@
 -- The set of characters of Table 39, as it is computed.
-use Prim.Native.Nat.{ℕ, zero, suc, _+_, _-_, _≤_, _<_}
+use Prim.Native.Nat.{ℕ, suc, _+_, _-_, _≤_, _<_}
 use mathlib.Core.Bool.{Bool, true, false, _&&_, _||_}
-use mathlib.Core.List.{List, [], _∷_, _++_, map}
-use mathlib.Core.Path.{_≡_, refl, sym, ap, _∙_}
+use mathlib.Core.List.{List, [], _∷_, map}
+use mathlib.Core.Path.{_≡_, sym, ap, _∙_}
 use native.Mathlib.Omega.{arith}
 use borrow.Author.Tests.{lt-ltb, le-ltb, ne-eqb}
 use lib.Dec.{T, leb, ltb, eqb, eqb→eq}
-use lib.ListN.{length, getD, replicate, length-append, length-replicate, length-map, getD-replicate, List·getD-append, List·getD-eq-default}
+use lib.ListN.{length, getD, length-append, length-replicate, length-map, getD-replicate, List·getD-append, List·getD-eq-default}
 use lib.Seq.{getD-append-add}
 use Rattle.laws.specs.Choice.{pick}
 use Rattle.laws.specs.Lists.{placeIn}

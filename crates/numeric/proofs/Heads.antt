@@ -1,6 +1,6 @@
 -- Heads of pages: how many bits, and what the numbers in them make.
 use Prim.Native.Nat.{ℕ, _+_, _*_, _^_, _≤_, _<_}
-use mathlib.Core.Bool.{Bool, true, false, _&&_, and-true, false≢true}
+use mathlib.Core.Bool.{Bool, true, false, _&&_, false≢true}
 use mathlib.Core.List.{[], _∷_}
 use mathlib.Core.Path.{_≡_, refl}
 use native.Mathlib.Omega.{arith}
@@ -40,23 +40,23 @@ module _ (s r n : ℕ) where
   flags-small true e = flags-below 1 6 e
   flags-small false e = let below = flags-below 0 0 e in omega arith
 
-  -- a head is its numbers, each times the weight of its place, and K may be added
-  pub head-is : (numbered : Bool) (k : ℕ) → fit (headOf numbered) (s ∷ r ∷ n ∷ 0 ∷ []) ≡ true → k < 4 → packed (headOf numbered) (s ∷ r ∷ n ∷ k ∷ []) ≡ s * 512 + r * 256 + n * 4 + k
-  head-is true k e small =
+  -- a head is its numbers, each times the weight of its place
+  pub head-is : (numbered : Bool) → fit (headOf numbered) (s ∷ r ∷ n ∷ 0 ∷ []) ≡ true → packed (headOf numbered) (s ∷ r ∷ n ∷ 0 ∷ []) ≡ s * 512 + r * 256 + n * 4
+  head-is true e =
       let three = first-of (ltb s 2 && ltb r 2 && ltb n 64) true e in
       let two = first-of (ltb s 2 && ltb r 2) (ltb n 64) three in
       let one = first-of (ltb s 2) (ltb r 2) two in
       let below = flags-below 1 6 e in
       omega (
         arith,
-        packed-last (field 1 ∷ field 1 ∷ field 6 ∷ []) (s ∷ r ∷ n ∷ []) 2 k tt tt three small,
+        packed-last (field 1 ∷ field 1 ∷ field 6 ∷ []) (s ∷ r ∷ n ∷ []) 2 0 tt tt three (omega arith),
         packed-last (field 1 ∷ field 1 ∷ []) (s ∷ r ∷ []) 6 n tt tt two (below .2),
         packed-last (field 1 ∷ []) (s ∷ []) 1 r tt tt one (below .1),
         packed-last [] [] 1 s tt tt refl (below .0),
       )
-  head-is false k e small =
+  head-is false e =
       let below = flags-below 0 0 e in
       let no-s : s ≡ 0 = omega arith in
       let no-r : r ≡ 0 = omega arith in
       let no-n : n ≡ 0 = omega arith in
-      rw (no-s, no-r, no-n) (omega (arith, packed-last (field 0 ∷ field 0 ∷ field 0 ∷ []) (0 ∷ 0 ∷ 0 ∷ []) 2 k tt tt refl small))
+      rw (no-s, no-r, no-n)

@@ -11,7 +11,7 @@ use Rattle.refusal.specs.declared.Refusal.the-variants as refusals
 use Rattle.refusal.specs.Told.{told, given, numberTold}
 use Rattle.refusal.proofs.Laws.{plain-ask}
 use Rattle.numeric.specs.declared.Numbering.{Numbering}
-use Rattle.numeric.specs.Pages.{Set, mostWords, roomOf, pageOf, isNumbered, inSet, headed}
+use Rattle.numeric.specs.Pages.{Set, mostWords, roomOf, isNumbered, inSet, headed}
 use Rattle.numeric.specs.Answers.{flagsOf, writtenOf}
 use Rattle.numeric.proofs.Laws.{checkFor, pageFor}
 

@@ -1,6 +1,6 @@
 -- The words of a page, from the codes of its characters.
 use Prim.Native.Nat.{ℕ, zero, suc, _+_, _-_, _*_, _/_, _%_, _^_, _≤_, _<_}
-use mathlib.Core.Bool.{Bool, true, false, _&&_}
+use mathlib.Core.Bool.{Bool, true, false}
 use mathlib.Core.List.{List, [], _∷_, _++_, map}
 use mathlib.Core.Path.{_≡_, refl, sym, ap, ap₂, _∙_}
 use native.Mathlib.Nat.{div-div-eq-div-mul, div-one, pow-suc, pow-zero, sub-zero}
@@ -11,7 +11,7 @@ use lib.ListN.{length, getD, take, set}
 use lib.Seq.{take-at}
 use lib.Pow.{field, high, mod-mod-pow, shr-shr}
 use Rattle.laws.specs.Layouts.{size, fit}
-use Rattle.laws.specs.Lists.{put, placeIn, all}
+use Rattle.laws.specs.Lists.{put, placeIn}
 use Rattle.laws.specs.Numerals.{number, digits, areDigits}
 use Rattle.laws.proofs.Numerals.{length-digits, pow-mul, six-from}
 use Rattle.laws.proofs.Rows.{all-append, all-replicate}

@@ -7,7 +7,6 @@ use lib.Dec.{leb}
 use Rattle.laws.specs.Lists.{placeIn}
 use Rattle.numeric.specs.Pages.{standardSet}
 use Rattle.numeric.proofs.Codes.{digit-code, no-code}
-use borrow.Author.Needs.{needs}
 use Rattle.numeric.proofs.code_of.Statement.{statement}
 use Rattle.numeric.proofs.code_of.Tie as tie
 

@@ -1,7 +1,4 @@
 -- `head_of` meets its contract: each number times the weight of its place.
-use mathlib.Core.Bool.{true}
-use mathlib.Core.List.{[], _∷_}
-use mathlib.Core.Path.{_≡_, sym}
 use native.Mathlib.Omega.{arith}
 use Rattle.numeric.proofs.Heads.{flags-small, head-is}
 use Rattle.numeric.proofs.head_of.Statement.{statement}
@@ -41,7 +38,7 @@ returns : tie.Need-returns
 returns c =
     let start = c .before .before .before in
     let n = start .args .n in
-    omega (arith, head-is (n .«special_format») (n .retrieval) (n .«message_number») (start .args .numbered) 0 (start .pre) (omega arith))
+    omega (arith, head-is (n .«special_format») (n .retrieval) (n .«message_number») (start .args .numbered) (start .pre))
 
 pub head-of-spec : {M : Type 1} → statement M
 head-of-spec =

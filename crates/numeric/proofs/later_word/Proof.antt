@@ -1,4 +1,5 @@
 -- `later_word` meets its contract: 24 bits hold any 21 that begin in the first four.
+use native.Mathlib.Omega.{arith}
 use Rattle.numeric.specs.Pages.{standardSet, spaced, codesOf}
 use Rattle.numeric.proofs.Writing.{later-is}
 use borrow.Author.Needs.{needs}
@@ -9,10 +10,10 @@ six-codes-requires : tie.Need-six-codes-requires
 six-codes-requires c κs = search needs
 
 cast-result : tie.Need-cast-result
-cast-result c = search needs
+cast-result c = omega arith
 
 shr-result : tie.Need-shr-result
-shr-result c = search needs
+shr-result c = omega arith
 
 returns : tie.Need-returns
 returns c =

@@ -1,11 +1,9 @@
 -- `undamaged` meets its contract: what is still to be asked decides.
 use Prim.Native.Nat.{_-_, _^_}
-use mathlib.Core.Path.{_≡_, refl, sym, _∙_}
+use mathlib.Core.Path.{_≡_, refl, _∙_}
 use native.Mathlib.Omega.{arith}
 use borrow.Author.Tests.{lt-ltb, le-ltb}
-use lib.Dec.{ltb}
 use lib.ListN.{length, drop}
-use Rattle.laws.specs.Lists.{all}
 use Rattle.laws.specs.Numerals.{areDigits}
 use Rattle.numeric.proofs.Asking.{passes, fails, all-asked}
 use borrow.Author.Needs.{needs}
