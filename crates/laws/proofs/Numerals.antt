@@ -4,7 +4,7 @@ use mathlib.Core.Bool.{true}
 use mathlib.Core.List.{List, [], _∷_, _++_}
 use mathlib.Core.Path.{_≡_, refl, sym, ap, ap₂, _∙_}
 use native.Mathlib.Nat.{add-assoc, add-comm, add-mul-div-left, add-mul-mod-self-left, div-div-eq-div-mul, div-eq-of-lt, div-one, mod-eq-of-lt, mod-lt, mod-one, mul-add, mul-assoc, mul-comm, mul-suc, mul-zero, one-le-pow, one-mul, pow-suc, pow-succ', pow-zero, zero-add, zero-div, zero-mod}
-use native.Mathlib.Numerals.{towards-suc}
+use native.Mathlib.Numerals.{add-one, towards-suc}
 use native.Mathlib.Omega.{arith}
 use borrow.Author.Tests.{lt-ltb, ltb-true}
 use lib.Arith.{digits-lt, mod-mul}
@@ -126,6 +126,14 @@ digit-bits size row k place wide e h =
     (sym (low-bits place wide (size - (wide + place)) (n / (2 ^ size) ^ k))
     ∙ rw (parts, digit-at (2 ^ size) row k e))
 
+-- the digits of a number from a place on: the one there, and those behind it
+pub digits-next : (b count n i : ℕ) → i < count → digits b (count - i) (n / b ^ i) ≡ n / b ^ i % b ∷ digits b (count - (i + 1)) (n / b ^ (i + 1))
+unfolding digits
+digits-next b count n i more =
+    let left : count - i ≡ suc (count - (i + 1)) = omega arith in
+    let above : n / b ^ i / b ≡ n / b ^ (i + 1) = div-div-eq-div-mul n (b ^ i) b ∙ rw (add-one, pow-suc) in
+    rw (left, above)
+
 -- so many numbers of a row from a place on, 0 behind its end
 abbrev pub window : List ℕ → ℕ → ℕ → List ℕ
 window row k zero = []
@@ -148,10 +156,3 @@ pub six-from : (b : ℕ) (row : List ℕ) (k : ℕ) → 0 < b → areDigits b ro
     → number b (getD row k 0 ∷ getD row (k + 1) 0 ∷ getD row (k + 2) 0 ∷ getD row (k + 3) 0 ∷ getD row (k + 4) 0 ∷ getD row (k + 5) 0 ∷ [])
     ≡ number b row / b ^ k % b ^ 6
 six-from b row k h e = simp towards-suc (number-from b row k 6 h e)
-
--- the number of what is joined: the second row's number stands above the first's digits
-pub number-append : (b : ℕ) (xs ys : List ℕ) → number b (xs ++ ys) ≡ number b xs + b ^ length xs * number b ys
-unfolding number
-number-append b [] ys = rw (pow-zero b, one-mul, zero-add)
-number-append b (x ∷ xs) ys =
-    rw (number-append b xs ys, mul-add b (number b xs) _, pow-succ' b (length xs), mul-assoc b (b ^ length xs) _, add-assoc x _ _)

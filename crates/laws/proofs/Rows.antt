@@ -19,13 +19,6 @@ unfolding all
 all-append test [] ys = refl
 all-append test (x ∷ xs) ys = rw (all-append test xs ys) (sym (and-assoc (test x) (all test xs) (all test ys)))
 
--- what all pass, each passes
-pub all-at : (test : ℕ → Bool) (row : List ℕ) (k : ℕ) → all test row ≡ true → k < length row → test (getD row k 0) ≡ true
-unfolding all
-all-at test [] k e h = absurd (omega arith)
-all-at test (x ∷ row) zero e h = first-of (test x) (all test row) e
-all-at test (x ∷ row) (suc k) e h = all-at test row k (second-of (test x) (all test row) e) (omega arith)
-
 -- a row of one number passes where the number does
 pub all-replicate : (test : ℕ → Bool) (n a : ℕ) → test a ≡ true → all test (replicate n a) ≡ true
 unfolding all
@@ -54,12 +47,6 @@ place-found (x ∷ row) n h = by-test (eqb n x) refl (λ l. place-found row n l)
         → pick same 0 (suc (placeIn row n)) < suc (length row) → getD (x ∷ row) (pick same 0 (suc (placeIn row n))) 0 ≡ n
     by-test true e rest l = sym (eqb-true n x e)
     by-test false e rest l = rest (omega arith)
-
--- the sum of what is joined
-pub sum-append : (rule : ℕ → ℕ) (xs ys : List ℕ) → sumBy rule (xs ++ ys) ≡ sumBy rule xs + sumBy rule ys
-unfolding sumBy
-sum-append rule [] ys = sym (zero-add (sumBy rule ys))
-sum-append rule (x ∷ xs) ys = rw (sum-append rule xs ys) (sym (add-assoc (rule x) (sumBy rule xs) (sumBy rule ys)))
 
 -- a sum from a place on: the number there, and the sum behind it
 pub sum-from : (rule : ℕ → ℕ) (row : List ℕ) (k : ℕ) → k < length row → sumBy rule (drop k row) ≡ rule (getD row k 0) + sumBy rule (drop (suc k) row)

@@ -3,7 +3,7 @@ use Prim.Native.Nat.{ℕ, zero, suc, _+_, _-_, _*_, _/_, _%_, _^_, _≤_, _<_}
 use mathlib.Core.Bool.{true}
 use mathlib.Core.Path.{_≡_, refl, sym, ap, _∙_}
 use mathlib.Core.List.{List, [], _∷_, map}
-use native.Mathlib.Nat.{add-mul-div-left, mul-assoc, mul-comm, mul-zero, add-zero, mul-add, div-div-eq-div-mul, pow-suc}
+use native.Mathlib.Nat.{add-mul-div-left, mul-assoc, mul-comm, mul-zero, add-zero, mul-add}
 use native.Mathlib.Numerals.{add-one}
 use native.Mathlib.Omega.{arith}
 use lib.ListN.{length, drop, getD, set, drop-of-length-le}
@@ -11,7 +11,7 @@ use lib.Pow.{pow-add, pow-pos, shr-shr}
 use lib.Seq.{drop-cons}
 use Rattle.laws.specs.Lists.{put}
 use Rattle.laws.specs.Numerals.{number, digits}
-use Rattle.laws.proofs.Numerals.{number-drop, pow-mul}
+use Rattle.laws.proofs.Numerals.{digits-next, number-drop, pow-mul}
 use Rattle.laws.proofs.Writing.{put-next}
 use Rattle.numeric.specs.Pages.{undamaged}
 
@@ -73,12 +73,7 @@ module _ (words : List ℕ) (at place : ℕ) (good : undamaged words ≡ true) (
 pub behind-characters : (n head i place : ℕ) → place ≡ head + 4 * i → n / 2 ^ place ≡ n / 2 ^ head / 16 ^ i
 behind-characters n head i place e = rw (e, ← shr-shr n head (4 * i), ← pow-mul 2 4 i)
 
--- characters spelled from a number, so many, each by a rule
-module _ (rule : ℕ → ℕ) (out : List ℕ) (room i x : ℕ) (more : i < room) (fits : room ≤ length out) where
-  -- one turn: a character is stored, and the others are still to come
-  pub spelled-turn : put (set out i (rule (x / 16 ^ i % 16))) (i + 1) (map rule (digits 16 (room - (i + 1)) (x / 16 ^ (i + 1)))) ≡ put out i (map rule (digits 16 (room - i) (x / 16 ^ i)))
-  unfolding digits
-  spelled-turn =
-      let left : room - i ≡ suc (room - (i + 1)) = omega arith in
-      let less : x / 16 ^ i / 16 ≡ x / 16 ^ suc i = div-div-eq-div-mul x (16 ^ i) 16 ∙ rw (pow-suc 16 i) in
-      rw (left, add-one, less, put-next out _ i (rule (x / 16 ^ i % 16)) (omega arith))
+-- characters spelled from a number, so many, each by a rule: one is stored, and the others are still to come
+pub spelled-turn : (rule : ℕ → ℕ) (out : List ℕ) (room i x : ℕ) → i < room → room ≤ length out → put (set out i (rule (x / 16 ^ i % 16))) (i + 1) (map rule (digits 16 (room - (i + 1)) (x / 16 ^ (i + 1)))) ≡ put out i (map rule (digits 16 (room - i) (x / 16 ^ i)))
+spelled-turn rule out room i x more fits =
+    rw (digits-next 16 room x i more, add-one i) (put-next out _ i (rule (x / 16 ^ i % 16)) (omega arith))

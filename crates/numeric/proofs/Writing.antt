@@ -3,7 +3,7 @@ use Prim.Native.Nat.{ℕ, zero, suc, _+_, _-_, _*_, _/_, _%_, _^_, _≤_, _<_}
 use mathlib.Core.Bool.{Bool, true, false}
 use mathlib.Core.List.{List, [], _∷_, _++_, map}
 use mathlib.Core.Path.{_≡_, refl, sym, ap, ap₂, _∙_}
-use native.Mathlib.Nat.{div-div-eq-div-mul, div-one, pow-suc, pow-zero, sub-zero}
+use native.Mathlib.Nat.{div-one, pow-zero, sub-zero}
 use native.Mathlib.Numerals.{add-one, towards-suc}
 use native.Mathlib.Omega.{arith}
 use lib.Dec.{ltb}
@@ -13,7 +13,7 @@ use lib.Pow.{field, high, mod-mod-pow, shr-shr}
 use Rattle.laws.specs.Layouts.{size, fit}
 use Rattle.laws.specs.Lists.{put, placeIn}
 use Rattle.laws.specs.Numerals.{number, digits, areDigits}
-use Rattle.laws.proofs.Numerals.{length-digits, pow-mul, six-from}
+use Rattle.laws.proofs.Numerals.{digits-next, length-digits, pow-mul, six-from}
 use Rattle.laws.proofs.Rows.{all-append, all-replicate}
 use Rattle.laws.proofs.Writing.{length-put, put-next, put-nothing}
 use Rattle.sums.specs.Sums.{sixBits}
@@ -53,11 +53,8 @@ later-is codes start =
 module _ (b row count : ℕ) (words : List ℕ) where
   -- one is written: those behind it are still to come
   pub word-turn : (i a : ℕ) → i < count → i < length words → a ≡ row / b ^ i % b → put (set words i a) (i + 1) (digits b (count - (i + 1)) (row / b ^ (i + 1))) ≡ put words i (digits b (count - i) (row / b ^ i))
-  unfolding digits
   word-turn i a more within is =
-      let left : count - i ≡ suc (count - (i + 1)) = omega arith in
-      let above : row / b ^ i / b ≡ row / b ^ (i + 1) = div-div-eq-div-mul row (b ^ i) b ∙ rw (add-one, pow-suc) in
-      rw (left, above, ← is, add-one i) (put-next words _ i a within)
+      rw (digits-next b count row i more, ← is, add-one i) (put-next words _ i a within)
 
   -- the first
   pub first-turn : (a : ℕ) → 0 < count → 0 < length words → a ≡ row % b → put (set words 0 a) 1 (digits b (count - 1) (row / b ^ 1)) ≡ put words 0 (digits b count row)

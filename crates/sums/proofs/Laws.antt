@@ -1,5 +1,5 @@
 -- What document 01 and S8.8.6 say of the sums: no bit above a word's 21 is looked at, K is never part of its own sum, and a sum fits its bits.
-use Prim.Native.Nat.{ℕ, _/_, _%_, _^_, _≤_, _<_}
+use Prim.Native.Nat.{ℕ, _/_, _%_, _^_, _<_}
 use mathlib.Core.List.{List, _∷_}
 use mathlib.Core.Path.{_≡_, ap, _∙_}
 use native.Mathlib.Nat.{mod-mod}
@@ -16,10 +16,6 @@ high-unread word =
     let third : word % 2 ^ 21 / 2 ^ 16 % 2 ^ 5 ≡ word / 2 ^ 16 % 2 ^ 5 =
     ap (λ (n : ℕ). n % 2 ^ 5) (field word 5 16) ∙ mod-mod (word / 2 ^ 16) (2 ^ 5) in
     rw (first, second, third)
-
--- a word's groups make at most 541
-pub groups-most : (word : ℕ) → groupsOf word ≤ 541
-groups-most word = omega arith
 
 -- K is never part of its own sum: words that differ in the first word's K bits alone have the same
 pub k-unread : (held wide first other : ℕ) (rule : ℕ → ℕ) (rest : List ℕ) → first / 2 ^ held ≡ other / 2 ^ held → checksum held rule wide (first ∷ rest) ≡ checksum held rule wide (other ∷ rest)
