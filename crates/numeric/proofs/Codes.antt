@@ -32,6 +32,7 @@ isDigit n = leb 48 n && ltb n 58
 abbrev isOther : ℕ → Bool
 isOther n = eqb n 63 || eqb n 85 || eqb n 32 || eqb n 45 || eqb n 93 || eqb n 91 || eqb 16 (placeIn standardSet n)
 
+-- every byte is one of these, as it is computed
 each-byte : T (allBelow (λ n. isDigit n || isOther n) 256)
 unfolding standardSet placeIn
 each-byte = tt

@@ -110,13 +110,14 @@ module _ (numbered : Bool) (flags text lent : List ℕ) where
   k-taken = ap sixBits (take-at (zeroed numbered flags text) _ (wordsFor numbered (length text)) zeroed-length)
 
   module _ (fits : fit (headOf numbered) (flags ++ 0 ∷ []) ≡ true) where
+    -- any K5 with K4 is added to the first
     keyed : (k : ℕ) → k < 4 → let words = put lent 0 (zeroed numbered flags text) in (getD words 0 0 < 2 ^ 21) × (set words 0 (getD words 0 0 + k) ≡ put lent 0 (wordsWith standardSet numbered (flags ++ k ∷ []) text))
     unfolding wordsWith
     keyed k small =
         rw (row-with standardSet numbered flags text k fits small, row-with standardSet numbered flags text 0 fits (omega arith))
         (first-more (wordsFor numbered (length text)) (aboveOf standardSet numbered flags text) k lent (some-word numbered (length text)) small)
 
-    -- .. K5 with K4 added to the first makes the page
+    -- .. and its own makes the page
     pub k-added : let words = put lent 0 (zeroed numbered flags text) in (getD words 0 0 < 2 ^ 21) × (set words 0 (getD words 0 0 + inWord (checkOf standardSet numbered flags text)) ≡ put lent 0 (pageOf standardSet numbered flags text))
     unfolding pageOf
     k-added = keyed (inWord (checkOf standardSet numbered flags text)) (check-small standardSet numbered flags text)
