@@ -1,8 +1,8 @@
 -- Packets of the decoder worked out by hand from the data sheet's tables, and packets for which a premise of a law fails.
 use Prim.Native.Nat.{ℕ}
-use mathlib.Core.List.{List, [], _∷_, map}
+use mathlib.Core.List.{[], _∷_, map}
 use mathlib.Core.Path.{_≡_, refl}
-use Rattle.laws.specs.Layouts.{maskOf, isRead, packed}
+use Rattle.laws.specs.Layouts.{packed}
 use Rattle.heard.specs.Tables.{status, address, numericVector}
 use Rattle.heard.specs.Reads.{partIdRead, statusRead, addressRead, messageRead, vectorRead, shortMessage}
 use Rattle.heard.specs.declared.Span.{Span}

@@ -1,16 +1,16 @@
 -- What document 01 promises of the packets that the decoder sends: nothing that a table names is lost in reading. A packet is laid out again from what was read of it, up to the bits that are not looked at.
-use Prim.Native.Nat.{ℕ, _+_, _-_, _*_, _/_, _%_, _^_, _≤_, _<_}
+use Prim.Native.Nat.{ℕ, _+_, _-_, _^_, _≤_, _<_}
 use mathlib.Core.Bool.{Bool, true, false, _&&_, _||_, or-true}
 use mathlib.Core.List.{List, [], _∷_}
 use mathlib.Core.Logic.{⊎-elim}
-use mathlib.Core.Path.{_≡_, refl, ap, ap₂, sym, _∙_}
+use mathlib.Core.Path.{_≡_, refl, ap, sym, _∙_}
 use native.Mathlib.Omega.{arith}
-use borrow.Author.Tests.{eq-eqb, eqb-true, ne-eqb, leb-true, leb-false, le-leb, lt-leb}
+use borrow.Author.Tests.{eq-eqb, eqb-true, leb-true, leb-false, le-leb, lt-leb}
 use lib.Bits.{bitAnd}
 use lib.Dec.{T, leb, eqb}
 use lib.ListN.{getD}
 use Rattle.laws.specs.Choice.{pick}
-use Rattle.laws.specs.Layouts.{Layout, size, fieldsOf, bitsAt, maskOf, isRead, shows, fit, packed}
+use Rattle.laws.specs.Layouts.{Layout, fieldsOf, bitsAt, maskOf, isRead, shows, fit, packed}
 use Rattle.laws.proofs.Layouts.{laid, packed-lt, packed-read, packed-read-whole, read-packed, shown-bits, shows-packed, shows-each}
 use Rattle.laws.proofs.Tests.{first-of, second-of, either-of}
 use Rattle.refusal.specs.Told.{numberUnless, kept}
@@ -21,7 +21,7 @@ use Rattle.packet.specs.Fields.{builtBy, numberBy, fieldsBy, ofPartId, asPartId
 use Rattle.packet.specs.declared.PartId.{PartId}
 use Rattle.packet.proofs.Laws.{read-built, built-read}
 use Rattle.heard.specs.Tables.{status, address, message, numericVector, textVector, shortVector, charactersVector, sourceVector, numberedVector, instructionVector, temporaryVector, secureType, alphanumericType, hexType, shortType, instructionType}
-use Rattle.heard.specs.Reads.{partIdRead, asStatus, statusRead, isIndex, addressNumber, asAddress, addressRight, addressNumbered, addressRefusal, addressRead, asMessage, isMessage, messageRead, vectorType, isNumeric, isText, messageType, instructionKind, vectorOf, isVector, vectorRead}
+use Rattle.heard.specs.Reads.{partIdRead, asStatus, statusRead, isIndex, addressNumber, asAddress, addressRight, addressNumbered, addressRefusal, addressRead, asMessage, isMessage, messageRead, vectorType, isNumeric, isText, messageType, instructionKind, isVector, vectorRead}
 use Rattle.heard.specs.declared.PartIdRead.{PartIdRead}
 use Rattle.heard.specs.declared.Status.{Status}
 use Rattle.heard.specs.declared.StatusRead.{StatusRead}

@@ -1,9 +1,9 @@
 -- Laws of digits, for every base: a row of digits and the number it makes lead to each other, and each digit stands where its power says.
 use Prim.Native.Nat.{ℕ, zero, suc, _+_, _-_, _*_, _/_, _%_, _^_, _≤_, _<_}
 use mathlib.Core.Bool.{true}
-use mathlib.Core.List.{List, [], _∷_, _++_}
+use mathlib.Core.List.{List, [], _∷_}
 use mathlib.Core.Path.{_≡_, refl, sym, ap, ap₂, _∙_}
-use native.Mathlib.Nat.{add-assoc, add-comm, add-mul-div-left, add-mul-mod-self-left, div-div-eq-div-mul, div-eq-of-lt, div-one, mod-eq-of-lt, mod-lt, mod-one, mul-add, mul-assoc, mul-comm, mul-suc, mul-zero, one-le-pow, one-mul, pow-suc, pow-succ', pow-zero, zero-add, zero-div, zero-mod}
+use native.Mathlib.Nat.{add-comm, add-mul-div-left, add-mul-mod-self-left, div-div-eq-div-mul, div-eq-of-lt, div-one, mod-eq-of-lt, mod-lt, mod-one, mul-comm, mul-suc, mul-zero, one-le-pow, pow-suc, pow-succ', pow-zero, zero-add, zero-div, zero-mod}
 use native.Mathlib.Numerals.{add-one, towards-suc}
 use native.Mathlib.Omega.{arith}
 use borrow.Author.Tests.{lt-ltb, ltb-true}

@@ -1,7 +1,7 @@
 -- The ends of lines, put together from their parts.
 use Prim.Native.Nat.{ℕ, _+_, _≤_, _<_, _/_, _%_}
 use mathlib.Core.Bool.{false}
-use mathlib.Core.Path.{_≡_, refl, sym, ap, _∙_}
+use mathlib.Core.Path.{_≡_, refl, ap, _∙_}
 use mathlib.Core.List.{List, [], _∷_, _++_}
 use native.Mathlib.Omega.{arith}
 use lib.Dec.{eqb}

@@ -1,5 +1,5 @@
 -- A whole line of an accepted text: what its bytes write, and where the listing then stands.
-use Prim.Native.Nat.{ℕ, suc, _+_, _-_, _≤_, _<_}
+use Prim.Native.Nat.{ℕ, _+_, _-_, _≤_, _<_}
 use mathlib.Core.Bool.{Bool, true, false, not, _&&_}
 use mathlib.Core.Path.{_≡_, refl, sym, ap, _∙_}
 use mathlib.Core.List.{List, [], _∷_, _++_, append-assoc, append-nil}
@@ -15,7 +15,7 @@ use Rattle.laws.proofs.Writing.{take-joined}
 use Rattle.lister.specs.declared.Course.{Course}
 use Rattle.lister.specs.declared.Line.{Line}
 use Rattle.lister.specs.Lines.{lineFeed, shownByte, shown, verdictOf}
-use Rattle.lister.specs.Portions.{Stand, stand, standAt, fresh, kept, asItIs, writes, next, writesAll, nextAll, mostWritten, takenOf, between, FedByte, Ahead, LineWritten, FedOn}
+use Rattle.lister.specs.Portions.{stand, standAt, fresh, kept, asItIs, next, writesAll, nextAll, mostWritten, takenOf, FedByte, Ahead, LineWritten, FedOn}
 use Rattle.lister.proofs.Writes.{wrote-same, writes-line}
 use Rattle.lister.proofs.Keeping.{next-line}
 use Rattle.lister.proofs.AsItIs.{is-not, writes-itself, stands-behind}

@@ -1,7 +1,7 @@
 -- Numeric pages (document 01, "Numeric pages"; S8.7.8.2, Tables 39, 41 and 42). Every definition takes the set of characters.
 use Prim.Native.Nat.{ℕ, _+_, _-_, _*_, _/_, _%_, _^_}
 use Prim.Native.Char.{code}
-use mathlib.Core.Bool.{Bool, true, false, not, _&&_}
+use mathlib.Core.Bool.{Bool, true, false, _&&_}
 use mathlib.Core.List.{List, [], _∷_, _++_, map}
 use lib.Dec.{leb, ltb, eqb}
 use lib.ListN.{length, replicate, getD}

@@ -15,7 +15,7 @@ use Rattle.laws.proofs.Layouts.{laid, shown-bits, shows-each, shows-packed}
 use Rattle.packet.proofs.Laws.{fitting-built, read-built, built-read}
 use Rattle.packet.specs.Names.{idOf, among, checksumID, configurationID, controlID, allFrameModeID, receiverLinesID, firstSettingID, lastSettingID, shutDown1ID, shutDown2ID, firstSpecialID, lastSpecialID, firstFramesID, lastFramesID, addressEnableID, firstUserAddressID, lastUserAddressID}
 use Rattle.packet.specs.Tables.{checksum, configuration, control, allFrameMode, receiverLines, shutDown, frameAssignment, userAddress, addressEnable}
-use Rattle.packet.specs.Fields.{builtOf, builtBy, ofChecksum, asChecksum, ofConfiguration, asConfiguration, ofControl, asControl, ofAllFrameMode, asAllFrameMode, ofReceiverLines, asReceiverLines, ofShutDown, asShutDown, ofFrameAssignment, asFrameAssignment, ofUserAddress, asUserAddress, ofAddressEnable, asAddressEnable}
+use Rattle.packet.specs.Fields.{builtBy, ofChecksum, asChecksum, ofConfiguration, asConfiguration, ofControl, asControl, ofAllFrameMode, asAllFrameMode, ofReceiverLines, asReceiverLines, ofShutDown, asShutDown, ofFrameAssignment, asFrameAssignment, ofUserAddress, asUserAddress, ofAddressEnable, asAddressEnable}
 use Rattle.packet.specs.declared.Checksum.{Checksum}
 use Rattle.packet.specs.declared.Configuration.{Configuration}
 use Rattle.packet.specs.declared.Control.{Control}

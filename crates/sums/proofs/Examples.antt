@@ -1,6 +1,5 @@
 -- Sums worked by hand from Table 60 and S8.8.6.
-use Prim.Native.Nat.{ℕ}
-use mathlib.Core.List.{List, [], _∷_, map}
+use mathlib.Core.List.{[], _∷_, map}
 use mathlib.Core.Path.{_≡_, refl}
 use Rattle.laws.specs.Lists.{sumBy}
 use Rattle.laws.specs.Texts.{bytesOf}

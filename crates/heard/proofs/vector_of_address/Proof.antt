@@ -1,6 +1,5 @@
 -- `vector_of_address` meets its contract: the test is the definition's.
 use borrow.Author.Tests.{eq-eqb, ne-eqb}
-use borrow.Author.Needs.{needs}
 use Rattle.heard.proofs.vector_of_address.Statement.{statement}
 use Rattle.heard.proofs.vector_of_address.Tie as tie
 

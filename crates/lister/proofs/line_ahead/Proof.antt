@@ -1,5 +1,4 @@
 -- `line_ahead` meets its contract.
-use mathlib.Core.Path.{_≡_}
 use native.Mathlib.Omega.{arith}
 use borrow.Author.Needs.{needs}
 use Rattle.lister.proofs.WholeLine.{ahead-by}

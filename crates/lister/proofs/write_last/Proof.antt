@@ -2,7 +2,7 @@
 use mathlib.Core.List.{_++_}
 use mathlib.Core.Path.{sym}
 use native.Mathlib.Omega.{arith}
-use lib.ListN.{take, length, length-append}
+use lib.ListN.{take, length-append}
 use lib.Seq.{length-take-le}
 use borrow.Author.Needs.{needs}
 use Rattle.lister.specs.Portions.{heldShown}

@@ -1,5 +1,5 @@
 -- `read_page` meets its contract: what is not refused can be read.
-use mathlib.Core.Path.{_≡_, refl, sym, ap, _∙_}
+use mathlib.Core.Path.{sym, _∙_}
 use native.Mathlib.Omega.{arith}
 use lib.ListN.{length}
 use Rattle.refusal.proofs.Laws.{given-writes}

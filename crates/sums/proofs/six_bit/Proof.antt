@@ -1,6 +1,6 @@
 -- `six_bit` meets its contract: ten bits of the sum are enough to fold.
 use Prim.Native.Nat.{ℕ, _-_, _%_}
-use mathlib.Core.Path.{_≡_, ap, _∙_}
+use mathlib.Core.Path.{ap, _∙_}
 use native.Mathlib.Omega.{arith}
 use Rattle.sums.specs.Sums.{folded}
 use Rattle.sums.proofs.Summing.{ten-fold}

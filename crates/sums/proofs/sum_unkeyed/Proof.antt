@@ -1,6 +1,6 @@
 -- `sum_unkeyed` meets its contract: an empty row has the sum 0, and of another the first word counts without its K bits.
 use Prim.Native.Nat.{ℕ, _%_}
-use mathlib.Core.Path.{_≡_, sym, ap, _∙_}
+use mathlib.Core.Path.{sym, ap, _∙_}
 use native.Mathlib.Omega.{arith}
 use Rattle.sums.proofs.Summing.{unkeyed-sum, empty-sum}
 use borrow.Author.Needs.{needs}
