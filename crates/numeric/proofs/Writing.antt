@@ -17,7 +17,8 @@ use Rattle.laws.proofs.Numerals.{digits-next, length-digits, pow-mul, six-from}
 use Rattle.laws.proofs.Rows.{all-append, all-replicate}
 use Rattle.laws.proofs.Writing.{length-put, put-next, put-nothing}
 use Rattle.sums.specs.Sums.{sixBits}
-use Rattle.numeric.specs.Pages.{standardSet, headOf, wordsFor, spaced, threeFrom, wordsWith, checkOf, inWord, pageOf, inSet}
+use Rattle.numeric.specs.Pages.{standardSet, headOf, wordsFor, spaced, wordsWith, checkOf, inWord, pageOf, inSet}
+use Rattle.numeric.specs.Pieces.{threeFrom}
 use Rattle.numeric.proofs.Bits.{aboveOf, check-small, codes-are, row-with, some-word}
 
 -- the codes of a text of the set, and of its spaces, are four bits each

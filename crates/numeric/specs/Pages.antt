@@ -54,10 +54,6 @@ filled numbered text = spaced (roomOf numbered (wordsFor numbered (length text))
 abbrev pub codesOf : Set → List ℕ → ℕ
 codesOf set text = number 16 (map (placeIn set) text)
 
--- three codes from a place on, as a number
-abbrev pub threeFrom : List ℕ → ℕ → ℕ
-threeFrom codes place = getD codes place 0 + 16 * (getD codes (place + 1) 0 + 16 * getD codes (place + 2) 0)
-
 -- the page's bits as one number, i0 of the first word the lowest: the head, then the characters; "left-over bits 0"
 abbrev pub rowOf : Set → Bool → List ℕ → List ℕ → ℕ
 rowOf set numbered head text = packed (headOf numbered) head + 2 ^ size (headOf numbered) * codesOf set (filled numbered text)
@@ -95,26 +91,26 @@ textIn set numbered words =
 abbrev pub isNumbered : ℕ → Bool
 isNumbered kind = eqb kind numberedType
 
--- whether every character is in the set
+-- 01's table, 18: whether every character is in the set
 unfoldable pub inSet : Set → List ℕ → Bool
 inSet set text = all (λ c. ltb (placeIn set c) (length set)) text
 
--- whether the vector's type is that of a numeric page, and the numbers fit its head
+-- 01's table, 7: whether the vector's type is that of a numeric page, and the numbers fit its head
 abbrev pub headed : ℕ → List ℕ → Bool
 headed kind flags = isNumeric kind && fit (headOf (isNumbered kind)) (flags ++ 0 ∷ [])
 
--- whether the vector's type is that of a numeric page, and its K has four bits
+-- 01's table, 7: whether the vector's type is that of a numeric page, and its K is not over 15
 abbrev pub vectorFits : ℕ → ℕ → Bool
 vectorFits kind check = isNumeric kind && ltb check 16
 
--- whether a page has so many words
+-- 01's table, 9: whether a page has so many words
 abbrev pub isSize : ℕ → Bool
 isSize words = leb 1 words && leb words mostWords
 
--- whether no word has more than 21 bits
+-- 01's table, 10: whether no word has more than 21 bits
 abbrev pub undamaged : List ℕ → Bool
 undamaged words = areDigits (2 ^ wordBits) words
 
--- whether K as it came, in the vector and in the first word, is that of the words
+-- 01's table, 11: whether K as it came, K0 to K3 in the vector, K4 and K5 in the two lowest bits of the first word, is that of the words
 abbrev pub checked : ℕ → List ℕ → Bool
 checked check words = eqb (sixBits words) (check + 16 * (getD words 0 0 % 4))

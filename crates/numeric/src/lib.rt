@@ -10,10 +10,17 @@ ghost use Rattle.laws.specs.Lists.{put, placeIn};
 ghost use Rattle.laws.specs.Numerals.{number, digits};
 ghost use Rattle.refusal.specs.Told.{numberTold};
 ghost use Rattle.heard.specs.Reads.{isNumeric};
-ghost use Rattle.numeric.specs.Pages.{standardSet, mostWords, headOf, roomOf, wordsFor, spaced, codesOf, threeFrom, wordsWith, checkOf, pageOf, textIn, isNumbered, inSet, headed, vectorFits, isSize, undamaged, checked};
+ghost use Rattle.numeric.specs.Pages.{standardSet, headOf, roomOf, wordsFor, spaced, codesOf, textIn, inSet, headed, vectorFits, isSize, undamaged, checked};
+ghost use Rattle.numeric.specs.Pieces.{threeFrom};
 ghost use Rattle.numeric.specs.Answers.{flagsOf, asNumbering, writtenOf, wordsAfter, asWritten, readOf, textAfter, asRead};
 use heard::Vector;
 use refusal::Refusal;
+
+// 01: "w words (1 to 8)".
+const MOST_WORDS: usize = 8;
+
+// A word has 21 bits: it is below this.
+const WORD_LIMIT: u32 = 0x20_0000;
 
 // What the head of a numbered page says: N, the message number, 0 to 63; R, whether the pager expects its
 // messages to be numbered; S, whether a special format shows it. All 0 with the other kinds.
@@ -115,7 +122,7 @@ fn undamaged(words: &[u32]) -> bool
 {
     let mut i: usize = 0;
     while i < words.len() {
-        if words[i] >= 0x20_0000 {
+        if words[i] >= WORD_LIMIT {
             return false;
         }
         i += 1;
@@ -156,7 +163,7 @@ fn judge_writing(text: &[u8], kind: u32, numbering: Numbering, lent: usize) -> u
         return Refusal::Packet.number();
     }
     let numbered = kind == Vector::NUMBERED;
-    if text.len() > room_of(numbered, 8) {
+    if text.len() > room_of(numbered, MOST_WORDS) {
         return Refusal::TooLong.number();
     }
     if !in_set(text) {
@@ -218,7 +225,7 @@ fn first_word(text: &[u8], numbered: bool, head: u32, room: usize) -> u32
     requires { ⌜ head < 2 ^ size (headOf numbered) ⌝ }
     ensures { λ r. ⌜ r ≡ (head + 2 ^ size (headOf numbered) * codesOf standardSet (spaced room (now (text .entry)))) % 2 ^ 21 ⌝ }
 {
-    head + (six_codes(text, 0, room) << head_size(numbered)) % 0x20_0000
+    head + (six_codes(text, 0, room) << head_size(numbered)) % WORD_LIMIT
 }
 
 // A later word: 21 of the characters' bits from a bit on.
@@ -228,7 +235,7 @@ fn later_word(text: &[u8], start: usize, room: usize) -> u32
     requires { ⌜ start ≤ 200 ⌝ }
     ensures { λ r. ⌜ r ≡ codesOf standardSet (spaced room (now (text .entry))) / 2 ^ start % 2 ^ 21 ⌝ }
 {
-    (six_codes(text, start / 4, room) >> (start % 4)) % 0x20_0000
+    (six_codes(text, start / 4, room) >> (start % 4)) % WORD_LIMIT
 }
 
 // The words of a page with this head.
@@ -298,7 +305,7 @@ fn vector_fits(kind: u32, check: u32) -> bool
 fn is_size(words: usize) -> bool
     ensures { λ r. ⌜ r ≡ isSize words ⌝ }
 {
-    (1 <= words) & (words <= 8)
+    (1 <= words) & (words <= MOST_WORDS)
 }
 
 // 01's table, 11: whether K in the vector and in the first word is that of the words.

@@ -4,8 +4,7 @@
 ghost use mathlib.Core.Path.{_≡_};
 ghost use Prim.Native.Nat.{_+_, _≤_, _%_};
 ghost use lib.ListN.{drop};
-ghost use Rattle.laws.specs.Lists.{sumBy};
-ghost use Rattle.sums.specs.Sums.{groupsOf, binarySum, unkeyed, folded, whole, sixBits, tenBits, signatureOf};
+ghost use Rattle.sums.specs.Sums.{groupsOf, binarySum, unkeyed, sixBits, tenBits, signatureOf};
 
 // The three groups of a word, added: at most 541.
 pub fn groups(word: u32) -> u32
