@@ -4,7 +4,8 @@
 ghost use mathlib.Core.Path.{_≡_};
 ghost use Rattle.packet.specs.Tables.{checksum, configuration, control, allFrameMode, receiverLines, shutDown, frameAssignment, userAddress, addressEnable, partId};
 ghost use Rattle.packet.specs.Fields.{builtBy, ofChecksum, ofConfiguration, ofControl, ofAllFrameMode, ofReceiverLines, ofShutDown, ofFrameAssignment, ofUserAddress, ofAddressEnable, ofPartId};
-ghost use Rattle.sent.specs.Reads.{checksumRead, configurationRead, controlRead, allFrameModeRead, receiverLinesRead, shutDownRead, frameAssignmentRead, userAddressRead, addressEnableRead, sendOf};
+ghost use Rattle.sent.specs.Reads.{checksumRead, configurationRead, controlRead, allFrameModeRead, receiverLinesRead, shutDownRead, frameAssignmentRead, userAddressRead, addressEnableRead};
+ghost use Rattle.sending.specs.Rule.{sendOf};
 ghost use Rattle.heard.specs.Reads.{partIdRead, statusRead, addressRead, vectorRead, messageRead};
 use heard::AddressRead;
 use heard::MessageRead;
@@ -230,5 +231,5 @@ pub extern "C" fn mortisevane_read_message(packet: u32) -> MessageRead
 pub extern "C" fn mortisevane_may_send(packet: u32) -> u32
     ensures { λ r. ⌜ r ≡ sendOf packet ⌝ }
 {
-    sent::may_send(Packet { bits: packet })
+    sending::may_send(Packet { bits: packet })
 }

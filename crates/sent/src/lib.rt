@@ -1,12 +1,10 @@
-// What the host sends, read back into its fields, and whether it may be sent at all (document 01,
-// "Packets and the handshake"). A packet whose ID is another's, or that has a bit set which its table
+// What the host sends, read back into its fields (document 01, "Packets and the handshake"). A packet whose ID is another's, or that has a bit set which its table
 // prints as 0, is refused (7), and its fields read 0.
 ghost use mathlib.Core.Path.{_≡_};
-ghost use mathlib.Core.Bool.{not};
 ghost use Rattle.laws.specs.Layouts.{fieldsOf};
 ghost use Rattle.packet.specs.Tables.{checksum, configuration, control, allFrameMode, receiverLines, shutDown, frameAssignment, userAddress, addressEnable};
 ghost use Rattle.packet.specs.Fields.{asChecksum, asConfiguration, asControl, asAllFrameMode, asReceiverLines, asShutDown, asFrameAssignment, asUserAddress, asAddressEnable};
-ghost use Rattle.sent.specs.Reads.{checksumRead, configurationRead, controlRead, allFrameModeRead, receiverLinesRead, shutDownRead, frameAssignmentRead, userAddressRead, addressEnableRead, neverSent, zerosRight, sendOf};
+ghost use Rattle.sent.specs.Reads.{checksumRead, configurationRead, controlRead, allFrameModeRead, receiverLinesRead, shutDownRead, frameAssignmentRead, userAddressRead, addressEnableRead};
 use packet::AddressEnable;
 use packet::AllFrameMode;
 use packet::Checksum;
@@ -84,23 +82,23 @@ pub struct AddressEnableRead {
 }
 
 // The bits that each packet's table prints, its ID and every 0: the table as a mask.
-const CHECKSUM_PRINTED: u32 = 0xFF00_0000; // Table 9
+pub const CHECKSUM_PRINTED: u32 = 0xFF00_0000; // Table 9
 
-const CONFIGURATION_PRINTED: u32 = 0xFFFC_FC07; // Table 5
+pub const CONFIGURATION_PRINTED: u32 = 0xFFFC_FC07; // Table 5
 
-const CONTROL_PRINTED: u32 = 0xFF00_8FAE; // Table 11
+pub const CONTROL_PRINTED: u32 = 0xFF00_8FAE; // Table 11
 
-const ALL_FRAME_MODE_PRINTED: u32 = 0xFF3F_0000; // Table 56
+pub const ALL_FRAME_MODE_PRINTED: u32 = 0xFF3F_0000; // Table 56
 
-const RECEIVER_LINES_PRINTED: u32 = 0xFFFF_0000; // Table 19
+pub const RECEIVER_LINES_PRINTED: u32 = 0xFFFF_0000; // Table 19
 
-const SHUT_DOWN_PRINTED: u32 = 0xFE77_00C0; // Table 21
+pub const SHUT_DOWN_PRINTED: u32 = 0xFE77_00C0; // Table 21
 
-const FRAME_ASSIGNMENT_PRINTED: u32 = 0xF8FF_0000; // Table 29
+pub const FRAME_ASSIGNMENT_PRINTED: u32 = 0xF8FF_0000; // Table 29
 
-const USER_ADDRESS_PRINTED: u32 = 0xF080_0000; // Table 26
+pub const USER_ADDRESS_PRINTED: u32 = 0xF080_0000; // Table 26
 
-const ADDRESS_ENABLE_PRINTED: u32 = 0xFFFF_0000; // Table 27
+pub const ADDRESS_ENABLE_PRINTED: u32 = 0xFFFF_0000; // Table 27
 
 fn checksum_of(bits: u32) -> Checksum
     ensures { λ r. ⌜ r ≡ asChecksum (fieldsOf checksum bits) ⌝ }
@@ -302,45 +300,4 @@ pub fn read_address_enable(packet: Packet) -> AddressEnableRead
         number: Refusal::Packet.unless(good),
         fields: address_enable_of(kept(good, bits)),
     }
-}
-
-// Whether no packet with this ID is ever sent: the reserved ones and the special ones (Table 2).
-fn never_sent(id: u32) -> bool
-    ensures { λ r. ⌜ r ≡ neverSent id ⌝ }
-{
-    ((Packet::ALL_FRAME_MODE < id) & (id < Packet::RECEIVER_LINES))
-        | ((Packet::FIRST_SPECIAL <= id) & (id <= Packet::LAST_SPECIAL))
-        | ((Packet::LAST_FRAMES < id) & (id < Packet::ADDRESS_ENABLE))
-        | ((Packet::ADDRESS_ENABLE < id) & (id < Packet::FIRST_USER_ADDRESS))
-        | ((Packet::LAST_USER_ADDRESS < id) & (id <= Packet::PART_ID))
-}
-
-// Whether each bit is 0 that the table of the packet's ID prints as 0. The settings of the receiver go
-// with any data bits.
-fn zeros_right(bits: u32) -> bool
-    ensures { λ r. ⌜ r ≡ zerosRight bits ⌝ }
-{
-    let id = bits >> 24;
-    ((id != Packet::CONFIGURATION) | (bits & CONFIGURATION_PRINTED == Packet::CONFIGURATION << 24))
-        & ((id != Packet::CONTROL) | (bits & CONTROL_PRINTED == Packet::CONTROL << 24))
-        & ((id != Packet::ALL_FRAME_MODE)
-            | (bits & ALL_FRAME_MODE_PRINTED == Packet::ALL_FRAME_MODE << 24))
-        & ((id != Packet::RECEIVER_LINES)
-            | (bits & RECEIVER_LINES_PRINTED == Packet::RECEIVER_LINES << 24))
-        & (!((Packet::SHUT_DOWN_1 <= id) & (id <= Packet::SHUT_DOWN_2))
-            | (bits & SHUT_DOWN_PRINTED == Packet::SHUT_DOWN_1 << 24))
-        & (!((Packet::FIRST_FRAMES <= id) & (id <= Packet::LAST_FRAMES))
-            | (bits & FRAME_ASSIGNMENT_PRINTED == Packet::FIRST_FRAMES << 24))
-        & ((id != Packet::ADDRESS_ENABLE)
-            | (bits & ADDRESS_ENABLE_PRINTED == Packet::ADDRESS_ENABLE << 24))
-        & (!((Packet::FIRST_USER_ADDRESS <= id) & (id <= Packet::LAST_USER_ADDRESS))
-            | (bits & USER_ADDRESS_PRINTED == Packet::FIRST_USER_ADDRESS << 24))
-}
-
-// Whether the host may send a packet: 0 if so, else 7.
-pub fn may_send(packet: Packet) -> u32
-    ensures { λ r. ⌜ r ≡ sendOf (packet .bits) ⌝ }
-{
-    let bits = packet.bits;
-    Refusal::Packet.unless(!never_sent(bits >> 24) & zeros_right(bits))
 }

@@ -1,8 +1,8 @@
 -- `may_send` meets its contract: the ID is asked, then the bits.
 use mathlib.Core.Path.{refl, _∙_}
 use borrow.Author.Needs.{needs}
-use Rattle.sent.proofs.may_send.Statement.{statement}
-use Rattle.sent.proofs.may_send.Tie as tie
+use Rattle.sending.proofs.may_send.Statement.{statement}
+use Rattle.sending.proofs.may_send.Tie as tie
 
 never-sent-requires : tie.Need-never-sent-requires
 never-sent-requires c κs = search needs

@@ -1,8 +1,8 @@
 -- `never_sent` meets its contract: below the next name's ID is up to the reserved row's last.
 use mathlib.Core.Path.{refl}
 use lib.Dec.{leb·suc-suc}
-use Rattle.sent.proofs.never_sent.Statement.{statement}
-use Rattle.sent.proofs.never_sent.Tie as tie
+use Rattle.sending.proofs.never_sent.Statement.{statement}
+use Rattle.sending.proofs.never_sent.Tie as tie
 
 returns : tie.Need-returns
 returns c =
