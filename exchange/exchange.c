@@ -49,8 +49,8 @@
  *
  * A row is its count, at most 4096, and that many words (u32) or bytes (u8). A
  * row that is lent for writing holds what stands in it before; the answer ends
- * with the whole row as it stands after, without its count. The count of what was
- * written there is a u64.
+ * with the whole row as it stands after, without its count. Any other count in an
+ * answer is a u64.
  *
  *  39  sum_six_bit       a row of words; the answer is the sum alone
  *  40  sum_ten_bit       as sum_six_bit
@@ -61,6 +61,15 @@
  *  43  numeric_read      kind, check; a row of words; the lent row of bytes. The
  *                        answer: number, message number, retrieval, special
  *                        format, count of characters, the lent row
+ *
+ *  44  fragment_heading  a row of words. The answer: number, continued, fragment
+ *                        number, message number, retrieval, mail drop, signature,
+ *                        sum, count of characters
+ *  45  fragment_read     a row of words; the lent row of bytes. The answer: that
+ *                        of fragment_heading, the lent row
+ *  46  text_cut          message number, retrieval, mail drop; u64 largest; the
+ *                        text, a row of bytes; the lent row of words. The answer:
+ *                        number, count of fragments, count of words, the lent row
  *
  * Requests may be sent without waiting for answers. All answers so far are
  * written out before the program waits for more requests. The end of input
@@ -382,6 +391,38 @@ struct written mortisevane_numeric_write(const uint8_t *text, size_t text_length
 struct page_read mortisevane_numeric_read(uint32_t kind, uint32_t check, const uint32_t *words,
                                           size_t words_length, uint8_t *text,
                                           size_t text_length);
+
+/* ---- The exports of libhost_fragment.a ---- */
+
+struct fragment_read {
+    uint32_t number;
+    uint32_t continued;
+    uint32_t fragment_number;
+    uint32_t message_number;
+    uint32_t retrieval;
+    uint32_t mail_drop;
+    uint32_t signature;
+    uint32_t sum;
+    size_t characters;
+};
+
+struct marks {
+    uint32_t message_number;
+    uint32_t retrieval;
+    uint32_t mail_drop;
+};
+
+struct text_cut {
+    uint32_t number;
+    size_t fragments;
+    size_t words;
+};
+
+struct fragment_read mortisevane_fragment_heading(const uint32_t *words, size_t words_length);
+struct fragment_read mortisevane_fragment_read(const uint32_t *words, size_t words_length,
+                                               uint8_t *text, size_t text_length);
+struct text_cut mortisevane_text_cut(const uint8_t *text, size_t text_length, struct marks marks,
+                                     size_t largest, uint32_t *words, size_t words_length);
 
 /* ---- What a compiler may call by itself, and no C library is here to give ---- */
 
@@ -900,6 +941,58 @@ static void serve_numeric_read(void)
     give_lent(&lent_for_writing);
 }
 
+static void give_fragment(struct fragment_read answer)
+{
+    give_u32(answer.number);
+    give_u32(answer.continued);
+    give_u32(answer.fragment_number);
+    give_u32(answer.message_number);
+    give_u32(answer.retrieval);
+    give_u32(answer.mail_drop);
+    give_u32(answer.signature);
+    give_u32(answer.sum);
+    give_u64(answer.characters);
+}
+
+static void serve_fragment_heading(void)
+{
+    size_t words = take_row(&lent_for_reading, sizeof(uint32_t));
+    struct fragment_read answer = mortisevane_fragment_heading(row_of(&lent_for_reading), words);
+    check_read(&lent_for_reading);
+    give_fragment(answer);
+}
+
+static void serve_fragment_read(void)
+{
+    size_t words = take_row(&lent_for_reading, sizeof(uint32_t));
+    size_t characters = take_row(&lent_for_writing, sizeof(uint8_t));
+    struct fragment_read answer =
+        mortisevane_fragment_read(row_of(&lent_for_reading), words, row_of(&lent_for_writing),
+                                  characters);
+    check_read(&lent_for_reading);
+    check_guards(&lent_for_writing);
+    give_fragment(answer);
+    give_lent(&lent_for_writing);
+}
+
+static void serve_text_cut(void)
+{
+    struct marks marks;
+    take_numbers(&marks, sizeof marks);
+    size_t largest = take_u64();
+    size_t characters = take_row(&lent_for_reading, sizeof(uint8_t));
+    size_t words = take_row(&lent_for_writing, sizeof(uint32_t));
+    struct text_cut answer =
+        mortisevane_text_cut(row_of(&lent_for_reading), characters, marks, largest,
+                             row_of(&lent_for_writing), words);
+    check_read(&lent_for_reading);
+    check_guards(&lent_for_writing);
+    give_u32(answer.number);
+    give_u64(answer.fragments);
+    give_u64(answer.words);
+    give_lent(&lent_for_writing);
+}
+
 /* ---- Which byte names which export ---- */
 
 static void (*const exports[])(void) = {
@@ -946,6 +1039,9 @@ static void (*const exports[])(void) = {
     [41] = serve_sum_signature,
     [42] = serve_numeric_write,
     [43] = serve_numeric_read,
+    [44] = serve_fragment_heading,
+    [45] = serve_fragment_read,
+    [46] = serve_text_cut,
 };
 
 static void serve_request(uint8_t export)

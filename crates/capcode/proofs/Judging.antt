@@ -8,7 +8,7 @@ use lib.Dec.{ltb}
 use borrow.Author.Tests.{leb-true, ltb-false, not-false}
 use Rattle.refusal.specs.declared.Refusal.{Refusal}
 use Rattle.refusal.specs.declared.Refusal.the-variants.{Text, «Type», Range, Offset, Packet}
-use Rattle.refusal.specs.Told.{Told, given, ask}
+use Rattle.refusal.specs.Told.{Told, refused, given, ask}
 use Rattle.refusal.proofs.Laws.{given-not-refused}
 use Rattle.address.specs.Ranges.{accepted}
 use Rattle.capcode.specs.declared.Capcode.{Capcode}
@@ -42,6 +42,23 @@ given-fine c rest values e =
     let v = ask-none _ _ _ values (u .1) in
     let w = ask-none _ _ _ values (v .1) in
     (record { text = s .0; type = t .0; range = u .0; offset = v .0; packet = w .0 }, w .1)
+
+-- where one of the questions refuses, what follows them is not looked at
+same-by : (text type range offset packet : Bool) (values : List ℕ) (other : Told) (r : Refusal)
+    → refused r ≡ ask text Text (ask type «Type» (ask range Range (ask offset Offset (ask packet Packet (given values)))))
+    → refused r ≡ ask text Text (ask type «Type» (ask range Range (ask offset Offset (ask packet Packet other))))
+same-by true type range offset packet values other r e = e
+same-by false true range offset packet values other r e = e
+same-by false false true offset packet values other r e = e
+same-by false false false true packet values other r e = e
+same-by false false false false true values other r e = e
+same-by false false false false false values other r e = absurd (given-not-refused values r (sym e))
+
+-- a CAPCODE that is refused where values would be given is refused the same whatever would follow
+pub refused-asked : (c : Capcode) (values : List ℕ) (other : Told) (r : Refusal) → refused r ≡ asked c (given values) → refused r ≡ asked c other
+unfolding asked
+refused-asked c values other r e =
+    same-by (not (standard (c .letter) || framed (c .letter))) (allPhase (c .letter)) (not (accepted (c .address))) (ltb (c .address) (offsetOf (c .letter))) (not (fieldsFit c)) values other r e
 
 -- of a fine CAPCODE the answer is what follows the questions
 pub fine-asked : (c : Capcode) (rest : Told) → Fine c → rest ≡ asked c rest

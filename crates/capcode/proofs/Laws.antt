@@ -1,25 +1,23 @@
--- What the definitions promise: reading and printing are each other's way back, a text is in the form exactly if it is printed, an answer's telling is its own.
+-- What the definitions promise: a text is in the form exactly if it is the text of a CAPCODE, an answer's telling is its own.
 use Prim.Native.Nat.{ℕ, _^_, _≤_, _<_}
 use mathlib.Core.Bool.{Bool, true, false, _&&_}
 use mathlib.Core.Path.{_≡_, refl, sym, ap, _∙_}
-use mathlib.Core.List.{List, [], _∷_}
+use mathlib.Core.List.{List}
 use native.Mathlib.Omega.{arith}
 use lib.ListN.{getD}
 use borrow.Author.Tests.{leb-true, eqb-false, not-false}
 use lib.Dec.{leb}
 use Rattle.laws.proofs.Tests.{first-of, second-of, other-of, neither}
-use Rattle.refusal.specs.Told.{Told, given}
+use Rattle.refusal.specs.Told.{Told}
 use Rattle.refusal.proofs.Laws.{toldValues, given-not-refused, refused-tells}
 use Rattle.address.proofs.Bounds.{accepted-below}
 use Rattle.capcode.specs.declared.Capcode.{Capcode}
 use Rattle.capcode.specs.declared.AssignAnswer.{AssignAnswer}
 use Rattle.capcode.specs.declared.ReadAnswer.{ReadAnswer}
-use Rattle.capcode.specs.declared.PrintAnswer.{PrintAnswer}
 use Rattle.capcode.specs.declared.Form.{Form}
 use Rattle.capcode.specs.Assigned.{Fine, standard, framed, anyPhase, fieldsFit, phaseOf, baseOf, toldAssign}
-use Rattle.capcode.specs.Text.{textOf, Sayable, printOf, toldPrint}
-use Rattle.capcode.specs.Reads.{formOf, readBy, readOf, toldRead}
-use Rattle.capcode.proofs.Judging.{given-fine, fine-asked}
+use Rattle.capcode.specs.Text.{textOf, Sayable}
+use Rattle.capcode.specs.Reads.{formOf, toldRead}
 use Rattle.capcode.proofs.Spoken.{read-of-printed}
 use Rattle.capcode.proofs.Heard.{printed-of-read}
 use Rattle.laws.proofs.Tests.{first-of, second-of, other-of, neither}
@@ -29,13 +27,6 @@ pub fine-sayable : (c : Capcode) → Fine c → Sayable c
 fine-sayable c fine =
     let ten-digits : c .address < 10 ^ 10 = omega (arith, accepted-below (c .address) (not-false _ (fine .range))) in
     record { letter = not-false _ (fine .text); fields = not-false _ (fine .packet); address = ten-digits }
-
--- what was printed is read as it was
-pub printed-is-read : (c : Capcode) (room : ℕ) (values : List ℕ) → printOf c room ≡ given values
-    → readOf (textOf c) ≡ given (c .letter ∷ c .frame ∷ c .collapse ∷ c .address ∷ phaseOf c ∷ baseOf c ∷ [])
-printed-is-read c room values e =
-    let fine = given-fine c _ values e .0 in
-    ap readBy (read-of-printed c (fine-sayable c fine)) ∙ sym (fine-asked c _ fine)
 
 -- a text is in the form exactly if it is the text of a CAPCODE that a text could have
 pub form-exactly : (text : List ℕ) (c : Capcode) → (formOf text ≡ Form.Says c → (textOf c ≡ text) × Sayable c) × ((textOf c ≡ text) × Sayable c → formOf text ≡ Form.Says c)
@@ -63,13 +54,6 @@ read-tells (ReadAnswer.Whole c a) (ReadAnswer.Whole d b) e =
 read-tells (ReadAnswer.Whole c a) (ReadAnswer.Refused r) e = absurd (given-not-refused _ r e)
 read-tells (ReadAnswer.Refused r) (ReadAnswer.Whole d b) e = absurd (given-not-refused _ r (sym e))
 read-tells (ReadAnswer.Refused r) (ReadAnswer.Refused q) e = ap ReadAnswer.Refused (refused-tells r q e)
-
--- one telling, one answer to `print`
-pub print-tells : (a b : PrintAnswer) → toldPrint a ≡ toldPrint b → a ≡ b
-print-tells (PrintAnswer.Length n) (PrintAnswer.Length m) e = ap (λ (t : Told). PrintAnswer.Length (valueAt t 0)) e
-print-tells (PrintAnswer.Length n) (PrintAnswer.Refused r) e = absurd (given-not-refused _ r e)
-print-tells (PrintAnswer.Refused r) (PrintAnswer.Length m) e = absurd (given-not-refused _ r (sym e))
-print-tells (PrintAnswer.Refused r) (PrintAnswer.Refused q) e = ap PrintAnswer.Refused (refused-tells r q e)
 
 -- the base frame of letters A to L is one of the 128 of a cycle, and so is the frame of the others where no field is too large
 base-by : (c : Capcode) (by-rule : Bool) → standard (c .letter) ≡ by-rule → fieldsFit c ≡ true → baseOf c ≤ 127

@@ -3,7 +3,6 @@ pub mod Steps
 pub mod Sound
 pub mod Course
 pub mod Writes
-pub mod Prints
 pub mod Parts
 pub mod Spoken
 pub mod Heard

@@ -4,14 +4,10 @@ use Prim.Native.Char.{code}
 use mathlib.Core.Bool.{true, _||_}
 use mathlib.Core.Path.{_≡_}
 use mathlib.Core.List.{List, [], _∷_, _++_}
-use lib.Dec.{leb, ltb, eqb}
-use lib.ListN.{length}
+use lib.Dec.{leb, eqb}
 use Rattle.laws.specs.Choice.{pick}
-use Rattle.refusal.specs.declared.Refusal.the-variants.{Room}
-use Rattle.refusal.specs.Told.{Told, refused, given, ask, writtenBy}
 use Rattle.capcode.specs.declared.Capcode.{Capcode}
-use Rattle.capcode.specs.declared.PrintAnswer.{PrintAnswer}
-use Rattle.capcode.specs.Assigned.{standard, framed, fieldsFit, asked}
+use Rattle.capcode.specs.Assigned.{standard, framed, fieldsFit}
 
 -- the last n decimal digits of a number as bytes, highest first; zeros are written
 unfoldable pub digits : ℕ → ℕ → List ℕ
@@ -46,16 +42,3 @@ pub record Sayable (c : Capcode) : Type 0 where
   pub letter : (standard (c .letter) || framed (c .letter)) ≡ true
   pub fields : fieldsFit c ≡ true
   pub address : c .address < 10 ^ 10
-
--- what is answered when a CAPCODE is printed into a buffer of `room` bytes: the text's length, and last of all refusals 1
-abbrev pub printOf : Capcode → ℕ → Told
-printOf c room = asked c (ask (ltb room (length (textOf c))) Room (given (length (textOf c) ∷ [])))
-
--- what a buffer holds after a CAPCODE was printed into it
-abbrev pub bufferAfter : Capcode → List ℕ → List ℕ
-bufferAfter c buffer = writtenBy (printOf c (length buffer)) buffer (textOf c)
-
--- how a print is told
-abbrev pub toldPrint : PrintAnswer → Told
-toldPrint (PrintAnswer.Length n) = given (n ∷ [])
-toldPrint (PrintAnswer.Refused r) = refused r

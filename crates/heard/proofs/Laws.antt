@@ -1,5 +1,5 @@
 -- What document 01 promises of the packets that the decoder sends: nothing that a table names is lost in reading. A packet is laid out again from what was read of it, up to the bits that are not looked at.
-use Prim.Native.Nat.{ℕ, _+_, _-_, _^_, _≤_, _<_}
+use Prim.Native.Nat.{ℕ, _+_, _^_, _≤_, _<_}
 use mathlib.Core.Bool.{Bool, true, false, _&&_, _||_, or-true}
 use mathlib.Core.List.{List, [], _∷_}
 use mathlib.Core.Logic.{⊎-elim}
@@ -12,16 +12,16 @@ use lib.ListN.{getD}
 use Rattle.laws.specs.Choice.{pick}
 use Rattle.laws.specs.Layouts.{Layout, fieldsOf, bitsAt, maskOf, isRead, shows, fit, packed}
 use Rattle.laws.proofs.Layouts.{laid, packed-lt, packed-read, packed-read-whole, read-packed, shown-bits, shows-packed, shows-each}
-use Rattle.laws.proofs.Tests.{first-of, second-of, either-of}
+use Rattle.laws.proofs.Tests.{first-of, either-of}
 use Rattle.refusal.specs.Told.{numberUnless, kept}
 use Rattle.refusal.specs.declared.Refusal.the-variants as refusals
-use Rattle.packet.specs.Names.{idOf, among, firstVectorID, firstMessageID, lastWordID}
+use Rattle.packet.specs.Names.{idOf, among, firstMessageID, lastWordID}
 use Rattle.packet.specs.Tables.{partId}
 use Rattle.packet.specs.Fields.{builtBy, numberBy, fieldsBy, ofPartId, asPartId}
 use Rattle.packet.specs.declared.PartId.{PartId}
-use Rattle.packet.proofs.Laws.{read-built, built-read}
-use Rattle.heard.specs.Tables.{status, address, message, numericVector, textVector, shortVector, charactersVector, sourceVector, numberedVector, instructionVector, temporaryVector, secureType, alphanumericType, hexType, shortType, instructionType}
-use Rattle.heard.specs.Reads.{partIdRead, asStatus, statusRead, isIndex, addressNumber, asAddress, addressRight, addressNumbered, addressRefusal, addressRead, asMessage, isMessage, messageRead, vectorType, isNumeric, isText, messageType, instructionKind, isVector, vectorRead}
+use Rattle.packet.proofs.Laws.{read-built, built-read, top-clear, at-most}
+use Rattle.heard.specs.Tables.{status, address, message}
+use Rattle.heard.specs.Reads.{partIdRead, asStatus, statusRead, isIndex, addressNumber, asAddress, addressRight, addressNumbered, addressRefusal, addressRead, asMessage, isMessage, messageRead}
 use Rattle.heard.specs.declared.PartIdRead.{PartIdRead}
 use Rattle.heard.specs.declared.Status.{Status}
 use Rattle.heard.specs.declared.StatusRead.{StatusRead}
@@ -29,7 +29,6 @@ use Rattle.heard.specs.declared.Address.{Address}
 use Rattle.heard.specs.declared.AddressRead.{AddressRead}
 use Rattle.heard.specs.declared.Message.{Message}
 use Rattle.heard.specs.declared.MessageRead.{MessageRead}
-use Rattle.heard.specs.declared.Vector.{Vector}
 
 -- ---- part ID, the only packet of the decoder that is also built (Table 8)
 
@@ -66,14 +65,6 @@ status-back-and-there n e = laid-again status n tt e
 
 abbrev pub ofMessage : Message → List ℕ
 ofMessage m = m .word ∷ m .damaged ∷ m .phase ∷ m .bits ∷ []
-
--- an ID of at most 57H has a 0 in front of the word number, as the tables of vectors and messages print it
-top-clear : (n : ℕ) → idOf n ≤ lastWordID → bitsAt 31 1 n ≡ 0
-top-clear n h = omega arith
-
--- the last of a row of IDs
-at-most : (first last id : ℕ) → among first last id ≡ true → id ≤ last
-at-most first last id e = leb-true id last (second-of (leb first id) (leb id last) e)
 
 -- a message word that was read is laid out again
 pub message-back-and-there : (n : ℕ) → n < 2 ^ 32 → isMessage n ≡ true → packed message (ofMessage (messageRead n .fields)) ≡ n
@@ -170,98 +161,3 @@ pub address-there-and-back : (a : Address) → fit address (ofAddress a) ≡ tru
 address-there-and-back a e h small tone =
     told-address address (packed address (ofAddress a)) (ofAddress a) (shows-packed address (ofAddress a) tt e) (read-packed address (ofAddress a) tt e) (rw (le-leb (a .vector) 87 small) (or-true (eqb (a .«tone_only») 1))) (index-valid (a .address) h)
     ∙ ap (λ (f : Address). record { number = 0; fields = f }) (same-address a h tone)
-
--- ---- vectors (Tables 31 to 38)
-
--- Table 31
-abbrev pub ofNumeric : Vector → List ℕ
-ofNumeric v = v .word ∷ v .damaged ∷ v .phase ∷ v .kind ∷ v .span .check ∷ (v .span .words - 1) ∷ v .span .start ∷ []
-
--- Table 36
-abbrev pub ofText : Vector → List ℕ
-ofText v = v .word ∷ v .damaged ∷ v .phase ∷ v .kind ∷ v .span .words ∷ v .span .start ∷ []
-
--- a vector's row prints the 0 in front of the word number, and no other bit unless its type says so
-vector-clear : (n : ℕ) → isVector n ≡ true → bitsAt 31 1 n ≡ 0
-vector-clear n e = top-clear n (at-most firstVectorID lastWordID (idOf n) e)
-
--- a numeric vector that was read is laid out again, up to its x bits
-pub numeric-back-and-there : (n : ℕ) → isVector n ≡ true → isNumeric (vectorType n) ≡ true → packed numericVector (ofNumeric (vectorRead n .fields)) ≡ bitAnd n (maskOf isRead numericVector)
-numeric-back-and-there n e numeric =
-    let shown : shows numericVector n ≡ true = shows-each numericVector n tt ∙ rw (eq-eqb (bitsAt 31 1 n) 0 (vector-clear n e)) refl in
-    let words : bitsAt 7 3 n + 1 - 1 ≡ bitsAt 7 3 n = omega arith in
-    rw (e, numeric, words) (packed-read numericVector n tt shown)
-
--- a type that brings text brings no numeric characters
-text-not-numeric : (v : ℕ) → isText v ≡ true → isNumeric v ≡ false
-text-not-numeric v e = ⊎-elim (λ first. ⊎-elim (λ z. of-type secureType z refl) (λ z. of-type alphanumericType z refl) (either-of (eqb v secureType) (eqb v alphanumericType) first)) (λ z. of-type hexType z refl) (either-of (eqb v secureType || eqb v alphanumericType) (eqb v hexType) e)
-  where
-    of-type : (kind : ℕ) → eqb v kind ≡ true → isNumeric kind ≡ false → isNumeric v ≡ false
-    of-type kind same none = ap isNumeric (eqb-true v kind same) ∙ none
-
--- .. and so is a secure, alphanumeric or hex/binary one
-pub text-back-and-there : (n : ℕ) → isVector n ≡ true → isText (vectorType n) ≡ true → packed textVector (ofText (vectorRead n .fields)) ≡ bitAnd n (maskOf isRead textVector)
-text-back-and-there n e text =
-    let shown : shows textVector n ≡ true = shows-each textVector n tt ∙ rw (eq-eqb (bitsAt 31 1 n) 0 (vector-clear n e)) refl in
-    rw (e, text-not-numeric (vectorType n) text, text) (packed-read textVector n tt shown)
-
--- Table 34, t 00
-abbrev pub ofCharacters : Vector → List ℕ
-ofCharacters v = v .word ∷ v .damaged ∷ v .phase ∷ v .«short_message» .third ∷ v .«short_message» .second ∷ v .«short_message» .first ∷ []
-
--- .. t 01
-abbrev pub ofSource : Vector → List ℕ
-ofSource v = v .word ∷ v .damaged ∷ v .phase ∷ v .«short_message» .source ∷ []
-
--- .. t 10
-abbrev pub ofNumbered : Vector → List ℕ
-ofNumbered v = v .word ∷ v .damaged ∷ v .phase ∷ v .«short_message» .retrieval ∷ v .«short_message» .message ∷ v .«short_message» .source ∷ []
-
--- .. t 11, the spare type, by Table 33
-abbrev pub ofSpare : Vector → List ℕ
-ofSpare v = v .word ∷ v .damaged ∷ v .phase ∷ v .kind ∷ v .«short_message» .unread ∷ v .«short_message» .kind ∷ []
-
--- each short message or tone-only vector that was read is laid out again, up to its x bits and its unused s bits
-pub characters-back-and-there : (n : ℕ) → isVector n ≡ true → vectorType n ≡ shortType → messageType n ≡ 0 → packed charactersVector (ofCharacters (vectorRead n .fields)) ≡ bitAnd n (maskOf isRead charactersVector)
-characters-back-and-there n e short t =
-    let shown : shows charactersVector n ≡ true =
-    shows-each charactersVector n tt ∙ rw (eq-eqb (bitsAt 31 1 n) 0 (vector-clear n e), eq-eqb (bitsAt 16 3 n) 2 short, eq-eqb (bitsAt 0 2 n) 0 t) refl in
-    rw (e, eq-eqb (vectorType n) shortType short, eq-eqb (messageType n) 0 t) (packed-read charactersVector n tt shown)
-
-pub source-back-and-there : (n : ℕ) → isVector n ≡ true → vectorType n ≡ shortType → messageType n ≡ 1 → packed sourceVector (ofSource (vectorRead n .fields)) ≡ bitAnd n (maskOf isRead sourceVector)
-source-back-and-there n e short t =
-    let shown : shows sourceVector n ≡ true =
-    shows-each sourceVector n tt ∙ rw (eq-eqb (bitsAt 31 1 n) 0 (vector-clear n e), eq-eqb (bitsAt 16 3 n) 2 short, eq-eqb (bitsAt 0 2 n) 1 t) refl in
-    rw (e, eq-eqb (vectorType n) shortType short, t) (packed-read sourceVector n tt shown)
-
-pub numbered-back-and-there : (n : ℕ) → isVector n ≡ true → vectorType n ≡ shortType → messageType n ≡ 2 → packed numberedVector (ofNumbered (vectorRead n .fields)) ≡ bitAnd n (maskOf isRead numberedVector)
-numbered-back-and-there n e short t =
-    let shown : shows numberedVector n ≡ true =
-    shows-each numberedVector n tt ∙ rw (eq-eqb (bitsAt 31 1 n) 0 (vector-clear n e), eq-eqb (bitsAt 16 3 n) 2 short, eq-eqb (bitsAt 0 2 n) 2 t) refl in
-    rw (e, eq-eqb (vectorType n) shortType short, t) (packed-read numberedVector n tt shown)
-
-pub spare-back-and-there : (n : ℕ) → isVector n ≡ true → vectorType n ≡ shortType → messageType n ≡ 3 → packed shortVector (ofSpare (vectorRead n .fields)) ≡ bitAnd n (maskOf isRead shortVector)
-spare-back-and-there n e short t =
-    let shown : shows shortVector n ≡ true = shows-each shortVector n tt ∙ rw (eq-eqb (bitsAt 31 1 n) 0 (vector-clear n e)) refl in
-    rw (e, eq-eqb (vectorType n) shortType short, t) (ap (λ (v : ℕ). packed shortVector (bitsAt 24 7 n ∷ bitsAt 23 1 n ∷ bitsAt 21 2 n ∷ bitsAt 16 3 n ∷ bitsAt 2 12 n ∷ v ∷ [])) (sym t) ∙ packed-read shortVector n tt shown)
-
--- Table 38, i 000
-abbrev pub ofTemporary : Vector → List ℕ
-ofTemporary v = v .word ∷ v .damaged ∷ v .phase ∷ (v .instruction .address - 16) ∷ v .instruction .frame ∷ []
-
--- .. a reserved type, by Table 37
-abbrev pub ofReserved : Vector → List ℕ
-ofReserved v = v .word ∷ v .damaged ∷ v .phase ∷ v .kind ∷ v .instruction .unread ∷ v .instruction .kind ∷ []
-
--- each short instruction vector that was read is laid out again, up to its x bits
-pub temporary-back-and-there : (n : ℕ) → isVector n ≡ true → vectorType n ≡ instructionType → instructionKind n ≡ 0 → packed temporaryVector (ofTemporary (vectorRead n .fields)) ≡ bitAnd n (maskOf isRead temporaryVector)
-temporary-back-and-there n e instruction i =
-    let shown : shows temporaryVector n ≡ true =
-    shows-each temporaryVector n tt ∙ rw (eq-eqb (bitsAt 31 1 n) 0 (vector-clear n e), eq-eqb (bitsAt 16 3 n) 1 instruction, eq-eqb (bitsAt 0 3 n) 0 i) refl in
-    let index : bitsAt 10 4 n + 16 - 16 ≡ bitsAt 10 4 n = omega arith in
-    rw (e, eq-eqb (vectorType n) instructionType instruction, eq-eqb (instructionKind n) 0 i, index) (packed-read temporaryVector n tt shown)
-
-pub reserved-back-and-there : (n : ℕ) → isVector n ≡ true → vectorType n ≡ instructionType → eqb (instructionKind n) 0 ≡ false → packed instructionVector (ofReserved (vectorRead n .fields)) ≡ bitAnd n (maskOf isRead instructionVector)
-reserved-back-and-there n e instruction i =
-    let shown : shows instructionVector n ≡ true = shows-each instructionVector n tt ∙ rw (eq-eqb (bitsAt 31 1 n) 0 (vector-clear n e)) refl in
-    rw (e, eq-eqb (vectorType n) instructionType instruction, i) (packed-read instructionVector n tt shown)

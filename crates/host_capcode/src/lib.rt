@@ -1,16 +1,16 @@
-// CAPCODEs, as C and Rust link them: numbers, slices and structs by value over `capcode`, and nothing but
-// it behind them. Every function takes any input. `number` is 0, or 01's number of the refusal; every
+// CAPCODEs, as C and Rust link them: numbers, slices and structs by value over `capcode` and `label`, and
+// nothing but these behind them. Every function takes any input. `number` is 0, or 01's number of the refusal; every
 // other field is then 0.
 ghost use mathlib.Core.Path.{_≡_};
 ghost use lib.ListN.{length};
 ghost use Rattle.capcode.specs.Assigned.{assigned, toldAssign};
 ghost use Rattle.capcode.specs.Reads.{readOf, toldRead};
-ghost use Rattle.capcode.specs.Text.{printOf, bufferAfter, toldPrint};
+ghost use Rattle.label.specs.Printed.{printOf, bufferAfter, toldPrint};
 ghost use Rattle.host_capcode.specs.Flat.{capcodeOf, capcodeFrom, assignmentFrom, lengthFrom};
 use capcode::AssignAnswer;
 use capcode::Capcode;
-use capcode::PrintAnswer;
 use capcode::ReadAnswer;
+use label::PrintAnswer;
 
 // A CAPCODE: its letter, the three frame digits of U to Y (0 with A to H), its collapse and address; and
 // the phase (0 to 3 for A to D, 4 for any-phase) and base frame that it assigns.
@@ -139,5 +139,5 @@ pub extern "C" fn mortisevane_capcode_print(
         collapse,
         address,
     };
-    length_told(capcode::print(c, out))
+    length_told(label::print(c, out))
 }

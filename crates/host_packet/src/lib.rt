@@ -4,14 +4,20 @@
 ghost use mathlib.Core.Path.{_≡_};
 ghost use Rattle.packet.specs.Tables.{checksum, configuration, control, allFrameMode, receiverLines, shutDown, frameAssignment, userAddress, addressEnable, partId};
 ghost use Rattle.packet.specs.Fields.{builtBy, ofChecksum, ofConfiguration, ofControl, ofAllFrameMode, ofReceiverLines, ofShutDown, ofFrameAssignment, ofUserAddress, ofAddressEnable, ofPartId};
-ghost use Rattle.sent.specs.Reads.{checksumRead, configurationRead, controlRead, allFrameModeRead, receiverLinesRead, shutDownRead, frameAssignmentRead, userAddressRead, addressEnableRead};
+ghost use Rattle.sent.specs.Reads.{checksumRead, configurationRead, controlRead, allFrameModeRead};
+ghost use Rattle.assigned.specs.Reads.{receiverLinesRead, shutDownRead, frameAssignmentRead, userAddressRead, addressEnableRead};
 ghost use Rattle.sending.specs.Rule.{sendOf};
-ghost use Rattle.heard.specs.Reads.{partIdRead, statusRead, addressRead, vectorRead, messageRead};
+ghost use Rattle.heard.specs.Reads.{partIdRead, statusRead, addressRead, messageRead};
+ghost use Rattle.vector.specs.Reads.{vectorRead};
+use assigned::AddressEnableRead;
+use assigned::FrameAssignmentRead;
+use assigned::ReceiverLinesRead;
+use assigned::ShutDownRead;
+use assigned::UserAddressRead;
 use heard::AddressRead;
 use heard::MessageRead;
 use heard::PartIdRead;
 use heard::StatusRead;
-use heard::VectorRead;
 use packet::AddressEnable;
 use packet::AllFrameMode;
 use packet::Built;
@@ -24,15 +30,11 @@ use packet::PartId;
 use packet::ReceiverLines;
 use packet::ShutDown;
 use packet::UserAddress;
-use sent::AddressEnableRead;
 use sent::AllFrameModeRead;
 use sent::ChecksumRead;
 use sent::ConfigurationRead;
 use sent::ControlRead;
-use sent::FrameAssignmentRead;
-use sent::ReceiverLinesRead;
-use sent::ShutDownRead;
-use sent::UserAddressRead;
+use vector::VectorRead;
 
 // Builds a checksum packet.
 #[no_mangle]
@@ -151,7 +153,7 @@ pub extern "C" fn mortisevane_read_all_frame_mode(packet: u32) -> AllFrameModeRe
 pub extern "C" fn mortisevane_read_receiver_lines(packet: u32) -> ReceiverLinesRead
     ensures { λ r. ⌜ r ≡ receiverLinesRead packet ⌝ }
 {
-    sent::read_receiver_lines(Packet { bits: packet })
+    assigned::read_receiver_lines(Packet { bits: packet })
 }
 
 // Reads a receiver shut-down packet.
@@ -159,7 +161,7 @@ pub extern "C" fn mortisevane_read_receiver_lines(packet: u32) -> ReceiverLinesR
 pub extern "C" fn mortisevane_read_shut_down(packet: u32) -> ShutDownRead
     ensures { λ r. ⌜ r ≡ shutDownRead packet ⌝ }
 {
-    sent::read_shut_down(Packet { bits: packet })
+    assigned::read_shut_down(Packet { bits: packet })
 }
 
 // Reads a frame assignment packet.
@@ -167,7 +169,7 @@ pub extern "C" fn mortisevane_read_shut_down(packet: u32) -> ShutDownRead
 pub extern "C" fn mortisevane_read_frame_assignment(packet: u32) -> FrameAssignmentRead
     ensures { λ r. ⌜ r ≡ frameAssignmentRead packet ⌝ }
 {
-    sent::read_frame_assignment(Packet { bits: packet })
+    assigned::read_frame_assignment(Packet { bits: packet })
 }
 
 // Reads a user address assignment packet.
@@ -175,7 +177,7 @@ pub extern "C" fn mortisevane_read_frame_assignment(packet: u32) -> FrameAssignm
 pub extern "C" fn mortisevane_read_user_address(packet: u32) -> UserAddressRead
     ensures { λ r. ⌜ r ≡ userAddressRead packet ⌝ }
 {
-    sent::read_user_address(Packet { bits: packet })
+    assigned::read_user_address(Packet { bits: packet })
 }
 
 // Reads a user address enable packet.
@@ -183,7 +185,7 @@ pub extern "C" fn mortisevane_read_user_address(packet: u32) -> UserAddressRead
 pub extern "C" fn mortisevane_read_address_enable(packet: u32) -> AddressEnableRead
     ensures { λ r. ⌜ r ≡ addressEnableRead packet ⌝ }
 {
-    sent::read_address_enable(Packet { bits: packet })
+    assigned::read_address_enable(Packet { bits: packet })
 }
 
 // Reads a part ID packet.
@@ -215,7 +217,7 @@ pub extern "C" fn mortisevane_read_address(packet: u32) -> AddressRead
 pub extern "C" fn mortisevane_read_vector(packet: u32) -> VectorRead
     ensures { λ r. ⌜ r ≡ vectorRead packet ⌝ }
 {
-    heard::read_vector(Packet { bits: packet })
+    vector::read_vector(Packet { bits: packet })
 }
 
 // Reads a message packet.

@@ -35,7 +35,7 @@ shownEach (field w ∷ row) n = shownEach row n
 shownEach (unused w ∷ row) n = shownEach row n
 
 -- the number that stands in a part, where these values are still to be placed; where none is left for a field, one that fits none
-abbrev numberIn : Part → List ℕ → ℕ
+abbrev pub numberIn : Part → List ℕ → ℕ
 numberIn (printed w p) values = p
 numberIn (zeros w) values = 0
 numberIn (field w) [] = 2 ^ w
@@ -43,7 +43,7 @@ numberIn (field w) (v ∷ values) = v
 numberIn (unused w) values = 0
 
 -- the values that are still to be placed behind it
-abbrev behind : Part → List ℕ → List ℕ
+abbrev pub behind : Part → List ℕ → List ℕ
 behind (printed w p) values = values
 behind (zeros w) values = values
 behind (field w) [] = []
@@ -51,7 +51,7 @@ behind (field w) (v ∷ values) = values
 behind (unused w) values = values
 
 -- the numbers of all parts, each times the weight of its place
-abbrev sumOf : Layout → List ℕ → ℕ
+abbrev pub sumOf : Layout → List ℕ → ℕ
 sumOf [] values = 0
 sumOf (part ∷ row) values = numberIn part values * 2 ^ size row + sumOf row (behind part values)
 
@@ -167,8 +167,16 @@ fit-last-after so (field u ∷ row) (v ∷ values) w k = fit-last-after (so && l
 fit-last-after so (unused u ∷ row) values w k = fit-last-after so row values w k
 
 -- numbers fit a row with a field behind it where those before the last fit the row and the last fits the field
-pub fit-last : (row : Layout) (values : List ℕ) (w k : ℕ) → fit (row ++ field w ∷ []) (values ++ k ∷ []) ≡ (fit row values && ltb k (2 ^ w))
+fit-last : (row : Layout) (values : List ℕ) (w k : ℕ) → fit (row ++ field w ∷ []) (values ++ k ∷ []) ≡ (fit row values && ltb k (2 ^ w))
 fit-last row values w k = fit-last-after true row values w k
+
+-- .. so that where all fit, those before the last fit the row
+pub fit-before : (row : Layout) (values : List ℕ) (w k : ℕ) → fit (row ++ field w ∷ []) (values ++ k ∷ []) ≡ true → fit row values ≡ true
+fit-before row values w k e = and-eq-true-iff (fit row values) (ltb k (2 ^ w)) .0 (sym (fit-last row values w k) ∙ e) .0
+
+-- .. and fit with any other number that fits the field
+pub fit-other : (row : Layout) (values : List ℕ) (w k other : ℕ) → fit (row ++ field w ∷ []) (values ++ k ∷ []) ≡ true → other < 2 ^ w → fit (row ++ field w ∷ []) (values ++ other ∷ []) ≡ true
+fit-other row values w k other e small = fit-last row values w other ∙ rw (fit-before row values w k e, lt-ltb other (2 ^ w) small)
 
 -- the sum of the row stands above the last number
 sum-last : (row : Layout) (values : List ℕ) (w k : ℕ) → Fits row values → sumOf (row ++ field w ∷ []) (values ++ k ∷ []) ≡ sumOf row values * 2 ^ w + k
@@ -358,7 +366,7 @@ each-fits : (row : Layout) (values : List ℕ) → T (laid row) → fit row valu
 each-fits row values t e = fits true row values (and-yes (leb (size row) 32) (printedFit row) t .1) e .1
 
 -- what was built is the sum of its numbers
-packed-is : (row : Layout) (values : List ℕ) → T (laid row) → fit row values ≡ true → packed row values ≡ sumOf row values
+pub packed-is : (row : Layout) (values : List ℕ) → T (laid row) → fit row values ≡ true → packed row values ≡ sumOf row values
 packed-is row values t e = packed-sum row values (each-fits row values t e) (at-most-32 row t)
 
 -- .. and has no more bits than the row

@@ -1,13 +1,15 @@
--- Rows: a test of all, a search, a sum.
-use Prim.Native.Nat.{ℕ, zero, suc, _+_, _<_}
-use mathlib.Core.Bool.{Bool, true, false, _&&_, and-assoc}
+-- Rows: a test of all, also number by number from the front, a search, a sum.
+use Prim.Native.Nat.{ℕ, zero, suc, _+_, _*_, _≤_, _<_}
+use mathlib.Core.Bool.{Bool, true, false, _&&_, and-assoc, and-eq-true-iff}
 use mathlib.Core.List.{List, [], _∷_, _++_, map}
-use mathlib.Core.Path.{_≡_, refl, sym, ap}
+use mathlib.Core.Path.{_≡_, refl, sym, ap, _∙_}
+use native.Mathlib.Nat.{add-assoc, zero-add}
+use native.Mathlib.Numerals.{add-one}
 use native.Mathlib.Omega.{arith}
 use borrow.Author.Tests.{eqb-true}
 use lib.Dec.{eqb}
-use lib.ListN.{length, getD, drop, replicate}
-use lib.Seq.{drop-cons}
+use lib.ListN.{length, getD, take, drop, replicate, drop-of-length-le, take-append-drop}
+use lib.Seq.{take-add, drop-cons, drop-drop}
 use Rattle.laws.specs.Choice.{pick}
 use Rattle.laws.specs.Lists.{placeIn, all, sumBy}
 
@@ -16,6 +18,31 @@ pub all-append : (test : ℕ → Bool) (xs ys : List ℕ) → all test (xs ++ ys
 unfolding all
 all-append test [] ys = refl
 all-append test (x ∷ xs) ys = rw (all-append test xs ys) (sym (and-assoc (test x) (all test xs) (all test ys)))
+
+-- .. so that where all of what is joined pass, all of each row do
+pub all-parts : (test : ℕ → Bool) (xs ys : List ℕ) → all test (xs ++ ys) ≡ true → (all test xs ≡ true) × (all test ys ≡ true)
+all-parts test xs ys e = and-eq-true-iff (all test xs) (all test ys) .0 (sym (all-append test xs ys) ∙ e)
+
+-- a number of a row that all pass does
+pub all-at : (test : ℕ → Bool) (row : List ℕ) (k : ℕ) → all test row ≡ true → k < length row → test (getD row k 0) ≡ true
+unfolding all
+all-at test [] k e h = absurd (omega arith)
+all-at test (x ∷ row) zero e h = and-eq-true-iff (test x) (all test row) .0 e .0
+all-at test (x ∷ row) (suc k) e h = all-at test row k (and-eq-true-iff (test x) (all test row) .0 e .1) (omega arith)
+
+-- .. and so do all of a part of a row
+pub all-part : (test : ℕ → Bool) (row : List ℕ) (n place : ℕ) → all test row ≡ true → all test (take n (drop place row)) ≡ true
+all-part test row n place e =
+    let behind = all-parts test (take place row) (drop place row) (rw (take-append-drop place row) e) .1 in
+    all-parts test (take n (drop place row)) (drop n (drop place row)) (rw (take-append-drop n (drop place row)) behind) .0
+
+-- what passes a test passes one that asks less
+pub all-weaker : (test other : ℕ → Bool) (row : List ℕ) → ((x : ℕ) → test x ≡ true → other x ≡ true) → all test row ≡ true → all other row ≡ true
+unfolding all
+all-weaker test other [] less e = refl
+all-weaker test other (x ∷ row) less e =
+    let both = and-eq-true-iff (test x) (all test row) .0 e in
+    rw (less x (both .0)) (all-weaker test other row less (both .1))
 
 -- a row of one number passes where the number does
 pub all-replicate : (test : ℕ → Bool) (n a : ℕ) → test a ≡ true → all test (replicate n a) ≡ true
@@ -28,6 +55,25 @@ pub all-map : (test : ℕ → Bool) (rule : ℕ → ℕ) (row : List ℕ) → al
 unfolding all
 all-map test rule [] = refl
 all-map test rule (x ∷ row) = rw (all-map test rule row)
+
+module _ (test : ℕ → Bool) (row : List ℕ) (i : ℕ) where
+  -- the number there, and all behind it
+  all-from : i < length row → all test (drop i row) ≡ (test (getD row i 0) && all test (drop (i + 1) row))
+  unfolding all
+  all-from within = rw (add-one, drop-cons row i 0 within)
+
+  -- a number that passes: all behind it are still to be asked
+  pub passes : i < length row → test (getD row i 0) ≡ true → all test (drop (i + 1) row) ≡ all test (drop i row)
+  passes within good = rw (all-from within, good)
+
+  -- a number that does not: not all pass
+  pub fails : i < length row → test (getD row i 0) ≡ false → false ≡ all test (drop i row)
+  fails within bad = rw (all-from within, bad)
+
+  -- at the end none is still to be asked
+  pub all-asked : length row ≤ i → true ≡ all test (drop i row)
+  unfolding all
+  all-asked done = rw (drop-of-length-le row done)
 
 -- what a rule makes of a row, at a place of the row
 pub map-at : (rule : ℕ → ℕ) (row : List ℕ) (k : ℕ) → k < length row → getD (map rule row) k 0 ≡ rule (getD row k 0)
@@ -50,3 +96,16 @@ place-found (x ∷ row) n h = by-test (eqb n x) refl (λ l. place-found row n l)
 pub sum-from : (rule : ℕ → ℕ) (row : List ℕ) (k : ℕ) → k < length row → sumBy rule (drop k row) ≡ rule (getD row k 0) + sumBy rule (drop (suc k) row)
 unfolding sumBy
 sum-from rule row k h = ap (sumBy rule) (drop-cons row k 0 h)
+
+-- the sum of what is joined is the sum of both
+pub sum-join : (rule : ℕ → ℕ) (xs ys : List ℕ) → sumBy rule (xs ++ ys) ≡ sumBy rule xs + sumBy rule ys
+unfolding sumBy
+sum-join rule [] ys = sym (zero-add (sumBy rule ys))
+sum-join rule (x ∷ xs) ys = rw (sum-join rule xs ys) (sym (add-assoc (rule x) (sumBy rule xs) (sumBy rule ys)))
+
+-- of a row in parts of a size, so many parts from one on: that part, and those behind it
+pub parts-next : (size : ℕ) (row : List ℕ) (part count : ℕ) → take (size * suc count) (drop (size * part) row) ≡ take size (drop (size * part) row) ++ take (size * count) (drop (size * suc part) row)
+parts-next size row part count =
+    let many : size * suc count ≡ size + size * count = omega arith in
+    let next : size * part + size ≡ size * suc part = omega arith in
+    rw (many, take-add size (size * count) (drop (size * part) row), drop-drop size (size * part) row, next)

@@ -6,7 +6,7 @@ use native.Mathlib.Nat.{add-zero, add-assoc}
 use native.Mathlib.Numerals.{add-one}
 use native.Mathlib.Omega.{arith}
 use lib.ListN.{length, take, drop, set, length-append, take-append-drop, length-drop}
-use lib.Seq.{length-take-le, take-at, drop-at, take-take, drop-drop, take-append-le, drop-append-add, set-split, append-snoc}
+use lib.Seq.{length-take-le, take-at, drop-at, take-take, drop-drop, take-append-le, drop-append-le, drop-append-add, set-split, append-snoc}
 use Rattle.laws.specs.Lists.{put}
 
 module _ {ℓ} {A : Type ℓ} where
@@ -28,6 +28,10 @@ module _ {ℓ} {A : Type ℓ} where
       let rest : drop (place + length xs + length ys) (front ++ back) ≡ drop (place + length xs + length ys) buffer =
       ap (λ (n : ℕ). drop (n + length ys) (front ++ back)) (sym here) ∙ drop-append-add front back (length ys) ∙ drop-drop (length ys) (place + length xs) buffer in
       rw (take-at front back (place + length xs) here, rest, length-append xs ys, ← add-assoc place (length xs) (length ys)) (simp append-assoc)
+
+  -- .. also where what was put, and where it ends, is known by name
+  pub put-on : (buffer after xs ys : List A) (place next : ℕ) → place ≤ length buffer → after ≡ put buffer place xs → next ≡ place + length xs → put after next ys ≡ put buffer place (xs ++ ys)
+  put-on buffer after xs ys place next within is there = rw (is, there) (put-behind buffer xs ys place within)
 
   -- a store, and a text behind it
   pub put-next : (buffer text : List A) (place : ℕ) (a : A) → place < length buffer → put (set buffer place a) (suc place) text ≡ put buffer place (a ∷ text)
@@ -65,3 +69,8 @@ module _ {ℓ} {A : Type ℓ} where
   take-joined zero xs ys = refl
   take-joined (suc n) [] ys = refl
   take-joined (suc n) (x ∷ xs) ys = rw (take-joined n xs ys)
+
+  -- a part of what is joined that ends within the first row is a part of it
+  pub part-joined : (n place : ℕ) (xs ys : List A) → place + n ≤ length xs → take n (drop place (xs ++ ys)) ≡ take n (drop place xs)
+  part-joined n place xs ys within =
+      rw (drop-append-le place xs ys (omega arith)) (take-append-le n (drop place xs) ys (simp length-drop (omega arith)))

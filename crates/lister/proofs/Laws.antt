@@ -4,14 +4,13 @@ use mathlib.Core.Bool.{Bool, true, false}
 use mathlib.Core.Path.{_≡_, refl, sym, ap, _∙_}
 use mathlib.Core.List.{List, [], _∷_, _++_, append-assoc}
 use native.Mathlib.Omega.{arith}
-use lib.Dec.{leb, ltb}
-use lib.ListN.{length, take, getD, length-append}
-use borrow.Author.Tests.{leb-true, le-leb, ltb-false}
+use lib.Dec.{leb}
+use lib.ListN.{length, take, length-append}
+use borrow.Author.Tests.{leb-true, le-leb}
 use Rattle.laws.specs.Choice.{pick}
 use Rattle.laws.specs.Texts.{bytesOf}
-use Rattle.refusal.specs.declared.Refusal.the-variants.{Text, Room}
-use Rattle.refusal.specs.Told.{refused, given, ask}
-use Rattle.refusal.proofs.Laws.{toldValues, given-not-refused, refused-tells}
+use Rattle.refusal.specs.declared.Refusal.the-variants.{Text}
+use Rattle.refusal.specs.Told.{refused}
 use Rattle.address.specs.Ranges.{rows, classIn, classOf}
 use Rattle.address.specs.Words.{wordsOf}
 use Rattle.capcode.specs.Assigned.{asked}
@@ -19,10 +18,11 @@ use Rattle.capcode.specs.Text.{digits}
 use Rattle.capcode.specs.declared.Capcode.{Capcode}
 use Rattle.capcode.specs.declared.Form.{Form}
 use Rattle.capcode.specs.Reads.{stepOf, follow, formOf, readOf}
+use Rattle.opening.specs.Stands.{Stand, standOf, fresh}
+use Rattle.opening.specs.Texts.{header}
 use Rattle.lister.specs.declared.Fed.{Fed}
-use Rattle.lister.specs.declared.Written.{Written}
-use Rattle.lister.specs.Lines.{header, shown, verdictOf, withoutReturn, listedFrom, listing}
-use Rattle.lister.specs.Portions.{Stand, standOf, fresh, kept, writes, next, writesAll, nextAll, mostWritten, takenOf, closes, toldWritten, Answered, FedAll}
+use Rattle.lister.specs.Lines.{shown, verdictOf, withoutReturn, listedFrom, listing}
+use Rattle.lister.specs.Portions.{kept, writes, next, writesAll, nextAll, mostWritten, takenOf, closes, FedAll}
 use Rattle.lister.proofs.Lengths.{writes-short}
 use Rattle.lister.proofs.Progress.{next-joined, writes-joined}
 use Rattle.lister.proofs.Said.{said-shown}
@@ -89,27 +89,6 @@ pub fed-within : (s : Stand) (input buffer : List ℕ) (fed : Fed) (after : List
     → (fed .taken ≤ length input) × (fed .written ≤ length buffer)
 fed-within s input buffer fed after f =
     (rw (f .taken) (taken-within s (length buffer) input), omega (arith, f .wrote .ends, written-within s (length buffer) input))
-
--- a length or a refusal is told as itself alone
-pub written-tells : (a b : Written) → toldWritten a ≡ toldWritten b → a ≡ b
-written-tells (Written.Length n) (Written.Length m) e = ap Written.Length (ap (λ (values : List ℕ). getD values 0 0) (ap toldValues e))
-written-tells (Written.Length n) (Written.Refused r) e = absurd (given-not-refused (n ∷ []) r e)
-written-tells (Written.Refused r) (Written.Length m) e = absurd (given-not-refused (m ∷ []) r (sym e))
-written-tells (Written.Refused r) (Written.Refused q) e = ap Written.Refused (refused-tells r q e)
-
--- a length that is told lies within the buffer
-pub told-within : (buffer text : List ℕ) (written : Written) (after : List ℕ) (n : ℕ) → Answered buffer text written after → written ≡ Written.Length n → n ≤ length buffer
-told-within buffer text written after n a e = by-test (ltb (length buffer) (length text)) refl (ap toldWritten (sym e) ∙ a .tells)
-  where
-    by-test : (b : Bool) → ltb (length buffer) (length text) ≡ b → given (n ∷ []) ≡ ask b Room (given (length text ∷ [])) → n ≤ length buffer
-    by-test true h f = absurd (given-not-refused (n ∷ []) Room f)
-    by-test false h f =
-        let same : n ≡ length text = ap (λ (values : List ℕ). getD values 0 0) (ap toldValues f) in
-        omega (arith, ltb-false (length buffer) (length text) h)
-
--- `close` and `title` have one answer, and leave one buffer
-pub answered-one : (buffer text : List ℕ) (a b : Written) (after other : List ℕ) → Answered buffer text a after → Answered buffer text b other → (a ≡ b) × (after ≡ other)
-answered-one buffer text a b after other p q = (written-tells a b (p .tells ∙ sym (q .tells)), p .holds ∙ sym (q .holds))
 
 -- `feed` takes and writes so much and no other, leaves one buffer, and stands at one place
 pub fed-one : (s : Stand) (input buffer : List ℕ) (n : ℕ) (a b : Fed) (after other : List ℕ) → FedAll s input buffer n a after → FedAll s input buffer n b other

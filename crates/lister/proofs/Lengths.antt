@@ -11,8 +11,10 @@ use Rattle.refusal.specs.Told.{Told, told}
 use Rattle.address.specs.Words.{wordsOf}
 use Rattle.capcode.specs.Text.{digits}
 use Rattle.capcode.specs.Reads.{readOf}
+use Rattle.opening.specs.Stands.{Stand, stand}
+use Rattle.opening.specs.Texts.{Wrote}
 use Rattle.lister.specs.Lines.{lineFeed, shownByte, secondShown, wordsShown, acceptedEnd, plain, refusedEnd, verdictBy, verdictOf}
-use Rattle.lister.specs.Portions.{Stand, stand, heldShown, writes, mostWritten, Wrote}
+use Rattle.lister.specs.Portions.{heldShown, writes, mostWritten}
 use Rattle.lister.proofs.Writes.{held-length}
 
 -- of two short texts the one that is picked is short

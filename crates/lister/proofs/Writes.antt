@@ -7,12 +7,13 @@ use native.Mathlib.Omega.{arith}
 use lib.Dec.{leb}
 use lib.ListN.{length, take, drop, length-append}
 use lib.Seq.{take-at}
-use borrow.Author.Tests.{eq-eqb, ne-eqb, lt-ltb, le-ltb}
+use borrow.Author.Tests.{eq-eqb, ne-eqb}
 use Rattle.laws.proofs.Writing.{put-nothing, put-behind}
-use Rattle.refusal.specs.declared.Refusal.the-variants.{Room}
+use Rattle.opening.specs.Stands.{stand}
+use Rattle.opening.specs.Texts.{Answered, Wrote}
 use Rattle.lister.specs.Lines.{hexDigit, shownByte, verdictOf}
-use Rattle.lister.specs.declared.Written.{Written}
-use Rattle.lister.specs.Portions.{stand, kept, heldBytes, heldShown, writes, closedText, closes, Answered, Wrote}
+use Rattle.opening.specs.declared.Written.{Written}
+use Rattle.lister.specs.Portions.{kept, heldBytes, heldShown, writes, closedText, closes}
 
 -- the same text by another name
 pub wrote-same : (buffer : List ℕ) (place : ℕ) (text other : List ℕ) (behind : ℕ) (after : List ℕ) → text ≡ other → Wrote buffer place text behind after → Wrote buffer place other behind after
@@ -71,17 +72,6 @@ module _ (text : List ℕ) (held : Bool) (byte : ℕ) where
   pub writes-byte : (byte ≡ 10 → ⊥) → (byte ≡ 13 → ⊥) → heldShown held ++ shownByte byte ≡ writes (stand text held) byte
   unfolding writes
   writes-byte no-feed no-return = rw (ne-eqb byte 10 no-feed, ne-eqb byte 13 no-return)
-
-module _ (buffer text : List ℕ) where
-  -- a buffer that is shorter than the text
-  pub room-lacks : length buffer < length text → Answered buffer text (Written.Refused Room) buffer
-  room-lacks short = record { tells = rw (lt-ltb _ _ short); holds = rw (lt-ltb _ _ short) }
-
-  -- a buffer in which it was written
-  pub room-there : (n : ℕ) (after : List ℕ) → length text ≤ length buffer → Wrote buffer 0 text n after → Answered buffer text (Written.Length n) after
-  room-there n after fits w =
-      let long : n ≡ length text = omega (arith, w .ends) in
-      record { tells = rw (le-ltb _ _ fits, long); holds = rw (le-ltb _ _ fits) (w .holds) }
 
 module _ (text : List ℕ) (held : Bool) (whole : List ℕ) (is-whole : whole ≡ kept (text ++ heldBytes held)) where
   -- nothing is closed where no byte is kept

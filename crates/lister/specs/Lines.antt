@@ -11,6 +11,7 @@ use Rattle.refusal.specs.Told.{Told, told}
 use Rattle.address.specs.Words.{wordsOf}
 use Rattle.capcode.specs.Text.{digits}
 use Rattle.capcode.specs.Reads.{readOf}
+use Rattle.opening.specs.Texts.{header}
 
 -- the byte that ends a line
 abbrev pub lineFeed : ℕ
@@ -19,10 +20,6 @@ lineFeed = code "\n"
 -- the byte that is dropped before it
 abbrev pub carriageReturn : ℕ
 carriageReturn = code "\r"
-
--- the first line
-unfoldable pub header : List ℕ
-header = bytesOf "ADDRESS FIRST SECOND PHASE FRAME COLLAPSE\n"
 
 -- a hexadecimal digit as a byte, capitals
 abbrev pub hexDigit : ℕ → ℕ

@@ -4,38 +4,19 @@ use Prim.Native.Char.{code}
 use mathlib.Core.Bool.{Bool, true, false, not, _&&_}
 use mathlib.Core.Path.{_≡_}
 use mathlib.Core.List.{List, [], _∷_, _++_}
-use lib.Dec.{leb, ltb, eqb}
+use lib.Dec.{leb, eqb}
 use lib.ListN.{length, take, drop, getD}
 use Rattle.laws.specs.Choice.{pick}
-use Rattle.laws.specs.Lists.{put}
-use Rattle.refusal.specs.declared.Refusal.the-variants.{Room}
-use Rattle.refusal.specs.Told.{Told, refused, given, ask}
-use Rattle.lister.specs.declared.Lister.{Lister}
+use Rattle.opening.specs.Stands.{Stand, stand, standOf, fresh}
+use Rattle.opening.specs.Texts.{Wrote}
 use Rattle.lister.specs.declared.Fed.{Fed}
 use Rattle.lister.specs.declared.Course.{Course}
-use Rattle.lister.specs.declared.Written.{Written}
 use Rattle.lister.specs.declared.Line.{Line}
 use Rattle.lister.specs.Lines.{lineFeed, carriageReturn, printable, shownByte, shown, verdictOf}
 
 -- a byte that the listing shows as it is
 abbrev pub asItIs : ℕ → Bool
 asItIs byte = printable byte && not (eqb byte (code "\\"))
-
--- where a listing stands: the bytes of the present line that are kept, and whether a carriage return is held back
-pub data Stand : Type 0 where
-  stand : List ℕ → Bool → Stand
-
--- the bytes that a lister keeps of the present line; a count over sixteen stands for sixteen
-abbrev pub keptOf : Lister → List ℕ
-keptOf l = take (l .count) (l .line)
-
--- where a lister stands
-abbrev pub standOf : Lister → Stand
-standOf l = stand (keptOf l) (l .held)
-
--- before the first byte, and behind a line feed
-abbrev pub fresh : Stand
-fresh = stand [] false
 
 -- the bytes kept of a line: no correct text has more than fifteen, so sixteen tell all
 unfoldable pub kept : List ℕ → List ℕ
@@ -92,29 +73,6 @@ closedText (b ∷ text) held = heldShown held ++ verdictOf (b ∷ text)
 -- .. from where the listing stands
 unfoldable pub closes : Stand → List ℕ
 closes (stand text held) = closedText (kept (text ++ heldBytes held)) held
-
--- what is answered when a text is written at the start of a buffer: its length, or 1 where the buffer is shorter
-abbrev pub answerOf : List ℕ → List ℕ → Told
-answerOf buffer text = ask (ltb (length buffer) (length text)) Room (given (length text ∷ []))
-
--- what the buffer holds then: the text at its start, or after a refusal what it held
-abbrev pub bufferAfter : List ℕ → List ℕ → List ℕ
-bufferAfter buffer text = pick (ltb (length buffer) (length text)) buffer (put buffer 0 text)
-
--- how it is told
-abbrev pub toldWritten : Written → Told
-toldWritten (Written.Length n) = given (n ∷ [])
-toldWritten (Written.Refused r) = refused r
-
--- a text was written at a buffer's start, or refused: what is told, and what the buffer holds
-pub record Answered (buffer text : List ℕ) (written : Written) (after : List ℕ) : Type 0 where
-  pub tells : toldWritten written ≡ answerOf buffer text
-  pub holds : after ≡ bufferAfter buffer text
-
--- a text was written at a place: `behind` is the place behind it, and `after` what the buffer holds
-pub record Wrote (buffer : List ℕ) (place : ℕ) (text : List ℕ) (behind : ℕ) (after : List ℕ) : Type 0 where
-  pub ends : behind ≡ place + length text
-  pub holds : after ≡ put buffer place text
 
 -- where the listing of a portion stands, with the bytes of the line beside it
 abbrev pub standAt : List ℕ → Course → Stand

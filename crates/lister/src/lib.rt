@@ -1,7 +1,7 @@
 // The listing of CAPCODE lines (document 01, "The listing program"), by portions of any size: bytes of
 // lines in, bytes of the listing out.
 ghost use mathlib.Core.Path.{_≡_};
-ghost use mathlib.Core.Bool.{true, false, not, _&&_};
+ghost use mathlib.Core.Bool.{true, not, _&&_};
 ghost use mathlib.Core.List.{[], _∷_, _++_};
 ghost use Prim.Native.Nat.{_+_, _^_, _≤_, _<_};
 ghost use lib.ListN.{length, take, getD};
@@ -9,22 +9,17 @@ ghost use lib.Dec.{eqb};
 ghost use Rattle.refusal.specs.Told.{refused};
 ghost use Rattle.capcode.specs.Text.{digits};
 ghost use Rattle.capcode.specs.Reads.{toldRead};
-ghost use Rattle.lister.specs.Lines.{lineFeed, header, hexDigit, shownByte, sixDigits, phaseShown, verdictBy, verdictOf};
-ghost use Rattle.lister.specs.Portions.{stand, standOf, standAt, fresh, kept, heldBytes, heldShown, writes, next, closes, mostWritten, takenOf, asItIs, Answered, Wrote, FedByte, Ahead, LineWritten, FedOn, FedAll};
+ghost use Rattle.opening.specs.Stands.{stand, standOf};
+ghost use Rattle.opening.specs.Texts.{Answered, Wrote};
+ghost use Rattle.lister.specs.Lines.{lineFeed, hexDigit, shownByte, sixDigits, phaseShown, verdictBy, verdictOf};
+ghost use Rattle.lister.specs.Portions.{standAt, kept, heldBytes, heldShown, writes, next, closes, mostWritten, takenOf, asItIs, FedByte, Ahead, LineWritten, FedOn, FedAll};
 use address::Worded;
 use capcode::Assignment;
 use capcode::Capcode;
 use capcode::ReadAnswer;
+use opening::Lister;
+use opening::Written;
 use refusal::Refusal;
-
-// Where a listing stands inside a line: the line's first sixteen bytes (no correct text is longer than
-// fifteen), how many of them came, and whether a carriage return is held back: it is dropped if the line
-// ends right behind it, and is a byte of the line if not.
-pub struct Lister {
-    pub line: [u8; 16],
-    pub count: usize,
-    pub held: bool,
-}
 
 // What was done with a portion: where the listing stands, how many bytes were taken and how many written.
 pub struct Fed {
@@ -40,12 +35,6 @@ struct Course {
     held: bool,
     taken: usize,
     written: usize,
-}
-
-// How many bytes were written, or the refusal.
-pub enum Written {
-    Length(usize),
-    Refused(Refusal),
 }
 
 // Whether a line was written: the place behind it, or nothing because its text is not an accepted one.
@@ -270,17 +259,6 @@ fn keep_byte(line: &mut [u8], count: usize, held: bool, added: u8) -> usize
     keep(line, before, added)
 }
 
-// Where a listing stands before the first byte, and behind each line feed.
-pub fn start() -> Lister
-    ensures { λ r. ⌜ standOf r ≡ fresh ⌝ }
-{
-    Lister {
-        line: [0; 16],
-        count: 0,
-        held: false,
-    }
-}
-
 // Whether the listing shows a byte as it is.
 fn is_shown_as_it_is(byte: u8) -> bool
     ensures { λ r. ⌜ r ≡ asItIs byte ⌝ }
@@ -454,14 +432,4 @@ pub fn close(lister: Lister, out: &mut [u8]) -> Written
         return Written::Length(0);
     }
     write_last(&line, count, lister.held, out)
-}
-
-// Writes the listing's first line.
-pub fn title(out: &mut [u8]) -> Written
-    ensures { λ r. ⌜ Answered (now (out .entry)) header r (now (out .exit)) ⌝ }
-{
-    if out.len() < 42 {
-        return Written::Refused(Refusal::Room);
-    }
-    Written::Length(copy(b"ADDRESS FIRST SECOND PHASE FRAME COLLAPSE\n", out, 0))
 }

@@ -2,10 +2,10 @@
 use Prim.Native.Nat.{ℕ, zero, suc, _+_, _*_, _/_, _%_, _^_, _≤_, _<_}
 use mathlib.Core.Bool.{Bool, true, false}
 use mathlib.Core.List.{List, [], _∷_, _++_, map}
-use mathlib.Core.Path.{_≡_, refl, sym, ap, ap₂, _∙_}
+use mathlib.Core.Path.{_≡_, refl, ap, ap₂, _∙_}
 use native.Mathlib.Nat.{add-comm, add-mul-mod-self-left, lt-of-lt-of-le, mod-eq-of-lt, mul-comm}
 use native.Mathlib.Omega.{arith}
-use borrow.Author.Tests.{lt-ltb, ltb-true}
+use borrow.Author.Tests.{ltb-true}
 use lib.Arith.{digits-div, digits-lt}
 use lib.Dec.{T, ltb}
 use lib.ListN.{length, getD, length-append, length-map, length-replicate}
@@ -13,12 +13,13 @@ use lib.Pow.{pow-add, pow-mono}
 use Rattle.laws.specs.Layouts.{Layout, field, size, fit, packed}
 use Rattle.laws.specs.Lists.{placeIn, all}
 use Rattle.laws.specs.Numerals.{number, digits, areDigits}
-use Rattle.laws.proofs.Layouts.{laid, fit-last, packed-last, packed-lt, read-ending}
+use Rattle.laws.proofs.Layouts.{laid, fit-before, fit-other, packed-last, packed-lt, read-ending}
 use Rattle.laws.proofs.Numerals.{length-digits, digits-at, digits-number, number-below, number-digits, pow-mul}
 use Rattle.laws.proofs.Rows.{all-map, place-found}
 use Rattle.laws.proofs.Tests.{first-of, second-of}
 use Rattle.sums.specs.Sums.{binarySum, complement, unkeyed, folded, sixBits}
-use Rattle.numeric.specs.Pages.{Set, wordBits, headOf, roomOf, wordsFor, filled, codesOf, rowOf, wordsWith, checkOf, inWord, pageOf, headIn, textIn, inSet}
+use Rattle.sums.specs.Words.{wordBits}
+use Rattle.numeric.specs.Pages.{Set, headOf, roomOf, wordsFor, filled, codesOf, rowOf, wordsWith, checkOf, inWord, pageOf, headIn, textIn, inSet}
 
 -- ---- how many words
 
@@ -65,13 +66,11 @@ laid-head false = tt
 
 -- numbers that fit the head fit above K5 and K4
 flags-fit : (numbered : Bool) (flags : List ℕ) → fit (headOf numbered) (flags ++ 0 ∷ []) ≡ true → fit (aboveK numbered) flags ≡ true
-flags-fit numbered flags e =
-    first-of (fit (aboveK numbered) flags) true (sym (fit-last (aboveK numbered) flags 2 0) ∙ (rw (head-parts numbered) at e))
+flags-fit numbered flags e = fit-before (aboveK numbered) flags 2 0 (rw (head-parts numbered) at e)
 
 -- .. and fit with any K5 and K4
 fit-with : (numbered : Bool) (flags : List ℕ) (k : ℕ) → fit (headOf numbered) (flags ++ 0 ∷ []) ≡ true → k < 4 → fit (headOf numbered) (flags ++ k ∷ []) ≡ true
-fit-with numbered flags k e h =
-    rw (head-parts numbered) (fit-last (aboveK numbered) flags 2 k ∙ rw (flags-fit numbered flags e, lt-ltb k 4 h))
+fit-with numbered flags k e h = rw (head-parts numbered) (fit-other (aboveK numbered) flags 2 0 k (rw (head-parts numbered) at e) h)
 
 -- the bits of a page above K5 and K4, as one number
 abbrev pub aboveOf : Set → Bool → List ℕ → List ℕ → ℕ

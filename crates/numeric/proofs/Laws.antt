@@ -20,12 +20,13 @@ use Rattle.laws.proofs.Numerals.{digits-are, digits-low, digit-bits, pow-mul}
 use Rattle.laws.proofs.Rows.{all-append, all-replicate, map-at}
 use Rattle.laws.proofs.Tests.{first-of, second-of}
 use Rattle.sums.specs.Sums.{sixBits}
-use Rattle.heard.specs.Reads.{isNumeric}
+use Rattle.vector.specs.Reads.{isNumeric}
 use Rattle.refusal.specs.declared.Refusal.the-variants as refusals
 use Rattle.refusal.specs.Told.{refused, given, numberTold}
 use Rattle.refusal.proofs.Laws.{passed}
 use Rattle.numeric.specs.declared.Numbering.{Numbering}
-use Rattle.numeric.specs.Pages.{Set, standardSet, wordBits, mostWords, headOf, roomOf, wordsFor, filled, rowOf, wordsWith, checkOf, inVector, pageOf, textIn, isNumbered, inSet, headed, undamaged, checked}
+use Rattle.sums.specs.Words.{wordBits, undamaged}
+use Rattle.numeric.specs.Pages.{Set, standardSet, mostWords, headOf, roomOf, wordsFor, filled, rowOf, wordsWith, checkOf, inVector, pageOf, textIn, isNumbered, inSet, headed, checked}
 use Rattle.numeric.specs.Answers.{flagsOf, writtenOf, wordsAfter, asWritten, readOf, textAfter, asRead}
 use Rattle.numeric.proofs.Bits.{some-word, room-enough, page-length, filled-length, head-read, k-of-page, k-in-word, headSent, codes-digits, row-below, number-page, above-head, text-read}
 

@@ -1,4 +1,3 @@
-pub mod Asking
 pub mod Bits
 pub mod Codes
 pub mod Examples

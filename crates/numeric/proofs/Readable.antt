@@ -11,8 +11,9 @@ use Rattle.laws.proofs.Tests.{first-of, second-of}
 use Rattle.refusal.specs.declared.Refusal.the-variants as refusals
 use Rattle.refusal.specs.Told.{told, numberTold}
 use Rattle.refusal.proofs.Laws.{passed, plain-ask}
-use Rattle.heard.specs.Reads.{isNumeric}
-use Rattle.numeric.specs.Pages.{Set, roomOf, isNumbered, vectorFits, isSize, undamaged, checked}
+use Rattle.vector.specs.Reads.{isNumeric}
+use Rattle.sums.specs.Words.{undamaged}
+use Rattle.numeric.specs.Pages.{Set, roomOf, isNumbered, vectorFits, isSize, checked}
 use Rattle.numeric.specs.Answers.{readTold, readOf}
 
 -- what the first two questions say

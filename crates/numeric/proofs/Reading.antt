@@ -13,7 +13,7 @@ use Rattle.laws.specs.Lists.{put}
 use Rattle.laws.specs.Numerals.{number, digits}
 use Rattle.laws.proofs.Numerals.{digits-next, number-drop, pow-mul}
 use Rattle.laws.proofs.Writing.{put-next}
-use Rattle.numeric.specs.Pages.{undamaged}
+use Rattle.sums.specs.Words.{undamaged}
 
 -- a word and those behind it, from a bit of the word on
 from-bit : (place word rest : ℕ) → place < 21 → (word + 2 ^ 21 * rest) / 2 ^ place ≡ word / 2 ^ place + 2 ^ (21 - place) * rest

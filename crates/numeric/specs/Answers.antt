@@ -6,10 +6,11 @@ use lib.Dec.{ltb}
 use lib.ListN.{length, getD}
 use Rattle.refusal.specs.declared.Refusal.the-variants.{Room, Packet, Size, Damaged, Checksum, TooLong, Character}
 use Rattle.refusal.specs.Told.{Told, given, ask, numberTold, valueTold, writtenBy}
+use Rattle.sums.specs.Words.{undamaged}
 use Rattle.numeric.specs.declared.Numbering.{Numbering}
 use Rattle.numeric.specs.declared.Written.{Written}
 use Rattle.numeric.specs.declared.PageRead.{PageRead}
-use Rattle.numeric.specs.Pages.{Set, mostWords, roomOf, checkOf, inVector, pageOf, headIn, textIn, isNumbered, inSet, headed, vectorFits, isSize, undamaged, checked}
+use Rattle.numeric.specs.Pages.{Set, mostWords, roomOf, checkOf, inVector, pageOf, headIn, textIn, isNumbered, inSet, headed, vectorFits, isSize, checked}
 
 -- the numbers S, R and N, as the head has them
 abbrev pub flagsOf : Numbering → List ℕ

@@ -7,11 +7,12 @@ use lib.Dec.{leb, ltb, eqb}
 use lib.ListN.{length, replicate, getD}
 use Rattle.laws.specs.Layouts.{Layout, field, size, fieldsOf, fit, packed}
 use Rattle.laws.specs.Lists.{placeIn, all}
-use Rattle.laws.specs.Numerals.{number, digits, areDigits}
+use Rattle.laws.specs.Numerals.{number, digits}
 use Rattle.laws.specs.Texts.{bytesOf}
-use Rattle.heard.specs.Tables.{numberedType}
-use Rattle.heard.specs.Reads.{isNumeric}
+use Rattle.vector.specs.Tables.{numberedType}
+use Rattle.vector.specs.Reads.{isNumeric}
 use Rattle.sums.specs.Sums.{sixBits}
+use Rattle.sums.specs.Words.{wordBits}
 
 -- a set of sixteen characters, each at the place of its code
 abbrev pub Set : Type 0
@@ -20,10 +21,6 @@ Set = List ℕ
 -- Table 39 with the option off; 01: "`?` stands for the spare code"
 unfoldable pub standardSet : Set
 standardSet = bytesOf "0123456789?U -]["
-
--- a word has 21 bits
-abbrev pub wordBits : ℕ
-wordBits = 21
 
 -- 01: "w words (1 to 8)"
 abbrev pub mostWords : ℕ
@@ -106,10 +103,6 @@ vectorFits kind check = isNumeric kind && ltb check 16
 -- 01's table, 9: whether a page has so many words
 abbrev pub isSize : ℕ → Bool
 isSize words = leb 1 words && leb words mostWords
-
--- 01's table, 10: whether no word has more than 21 bits
-abbrev pub undamaged : List ℕ → Bool
-undamaged words = areDigits (2 ^ wordBits) words
 
 -- 01's table, 11: whether K as it came, K0 to K3 in the vector, K4 and K5 in the two lowest bits of the first word, is that of the words
 abbrev pub checked : ℕ → List ℕ → Bool

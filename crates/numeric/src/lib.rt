@@ -9,18 +9,17 @@ ghost use Rattle.laws.specs.Layouts.{size, fieldsOf, fit, packed};
 ghost use Rattle.laws.specs.Lists.{put, placeIn};
 ghost use Rattle.laws.specs.Numerals.{number, digits};
 ghost use Rattle.refusal.specs.Told.{numberTold};
-ghost use Rattle.heard.specs.Reads.{isNumeric};
-ghost use Rattle.numeric.specs.Pages.{standardSet, headOf, roomOf, wordsFor, spaced, codesOf, textIn, inSet, headed, vectorFits, isSize, undamaged, checked};
+ghost use Rattle.vector.specs.Reads.{isNumeric};
+ghost use Rattle.numeric.specs.Pages.{standardSet, headOf, roomOf, wordsFor, spaced, codesOf, textIn, inSet, headed, vectorFits, isSize, checked};
+ghost use Rattle.sums.specs.Words.{undamaged};
 ghost use Rattle.numeric.specs.Pieces.{threeFrom};
 ghost use Rattle.numeric.specs.Answers.{flagsOf, asNumbering, writtenOf, wordsAfter, asWritten, readOf, textAfter, asRead};
-use heard::Vector;
 use refusal::Refusal;
+use sums::WORD_LIMIT;
+use vector::Vector;
 
 // 01: "w words (1 to 8)".
 const MOST_WORDS: usize = 8;
-
-// A word has 21 bits: it is below this.
-const WORD_LIMIT: u32 = 0x20_0000;
 
 // What the head of a numbered page says: N, the message number, 0 to 63; R, whether the pager expects its
 // messages to be numbered; S, whether a special format shows it. All 0 with the other kinds.
@@ -109,20 +108,6 @@ fn in_set(text: &[u8]) -> bool
     let mut i: usize = 0;
     while i < text.len() {
         if code_of(text[i]) > 15 {
-            return false;
-        }
-        i += 1;
-    }
-    true
-}
-
-// 01's table, 10: whether no word has more than 21 bits.
-fn undamaged(words: &[u32]) -> bool
-    ensures { λ r. ⌜ r ≡ undamaged (now (words .entry)) ⌝ }
-{
-    let mut i: usize = 0;
-    while i < words.len() {
-        if words[i] >= WORD_LIMIT {
             return false;
         }
         i += 1;
@@ -327,7 +312,7 @@ fn judge_reading(kind: u32, check: u32, words: &[u32], lent: usize) -> u32
     if !is_size(words.len()) {
         return Refusal::Size.number();
     }
-    if !undamaged(words) {
+    if !sums::undamaged(words) {
         return Refusal::Damaged.number();
     }
     if !checked(check, words) {

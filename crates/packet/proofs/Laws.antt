@@ -1,13 +1,17 @@
--- What is built by a table is read by it, and what is read is built again: one law, which each packet cites.
-use Prim.Native.Nat.{ℕ, zero, suc, _-_, _^_, _<_}
+-- What is built by a table is read by it, and what is read is built again: one law, which each packet cites. Beside it what IDs say of a packet's bits.
+use Prim.Native.Nat.{ℕ, zero, suc, _-_, _^_, _≤_, _<_}
 use mathlib.Core.Bool.{true, false}
 use mathlib.Core.List.{List, [], _∷_}
 use mathlib.Core.Path.{_≡_, refl, ap₂}
 use native.Mathlib.Nat.{zero-div, zero-mod}
-use lib.Dec.{T}
+use native.Mathlib.Omega.{arith}
+use borrow.Author.Tests.{leb-true}
+use lib.Dec.{T, leb}
 use lib.ListN.{length, replicate}
 use Rattle.laws.specs.Layouts.{Layout, printed, zeros, field, unused, size, bitsAt, fieldsOf, maskOf, isRead, shows, fit, packed}
 use Rattle.laws.proofs.Layouts.{laid, fit-read, packed-read-whole, read-packed, shows-packed}
+use Rattle.laws.proofs.Tests.{second-of}
+use Rattle.packet.specs.Names.{idOf, among, lastWordID}
 use Rattle.packet.specs.Fields.{builtOf, builtBy, numberBy, fieldsBy}
 
 -- fields that fit are built
@@ -49,3 +53,11 @@ no-fields (unused w ∷ row) = no-fields row
 -- after a refusal every field that is told is 0
 pub refused-fields : (row : Layout) (n : ℕ) → shows row n ≡ false → fieldsBy row n ≡ replicate (length (fieldsBy row n)) 0
 refused-fields row n e = rw e (no-fields row)
+
+-- an ID of at most 57H has a 0 in front of the word number, as the tables of vectors and messages print it
+pub top-clear : (n : ℕ) → idOf n ≤ lastWordID → bitsAt 31 1 n ≡ 0
+top-clear n h = omega arith
+
+-- the last of a row of IDs
+pub at-most : (first last id : ℕ) → among first last id ≡ true → id ≤ last
+at-most first last id e = leb-true id last (second-of (leb first id) (leb id last) e)

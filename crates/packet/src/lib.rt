@@ -5,7 +5,7 @@
 ghost use mathlib.Core.Path.{_≡_};
 ghost use Rattle.packet.specs.Names.{allIDs};
 ghost use Rattle.packet.specs.Tables.{checksum, configuration, control, allFrameMode, receiverLines, shutDown, frameAssignment, userAddress, addressEnable, partId};
-ghost use Rattle.packet.specs.Fields.{builtOf, builtBy, draftBy, ofChecksum, ofConfiguration, ofControl, ofAllFrameMode, ofReceiverLines, ofShutDown, ofFrameAssignment, ofUserAddress, ofAddressEnable, ofPartId};
+ghost use Rattle.packet.specs.Fields.{builtOf, builtBy, ofChecksum, ofConfiguration, ofControl, ofAllFrameMode, ofReceiverLines, ofShutDown, ofFrameAssignment, ofUserAddress, ofAddressEnable, ofPartId};
 use refusal::Refusal;
 use refusal::kept;
 
@@ -126,136 +126,6 @@ fn finished(draft: Draft) -> Built
     }
 }
 
-fn checksum_draft(f: Checksum) -> Draft
-    ensures { λ r. ⌜ r ≡ draftBy checksum (ofChecksum f) ⌝ }
-{
-    Draft {
-        fits: f.value < 0x100_0000,
-        bits: Packet::CHECKSUM << 24 | f.value,
-    }
-}
-
-fn configuration_draft(f: Configuration) -> Draft
-    ensures { λ r. ⌜ r ≡ draftBy configuration (ofConfiguration f) ⌝ }
-{
-    Draft {
-        fits: (f.oscillator < 4)
-            & (f.polarity < 4)
-            & (f.synchronous_mode < 2)
-            & (f.maximum_off_time < 2)
-            & (f.clock_output_disable < 2)
-            & (f.minute_timer < 2)
-            & (f.low_battery_polarity < 2),
-        bits: Packet::CONFIGURATION << 24
-            | f.oscillator << 16
-            | f.polarity << 8
-            | f.synchronous_mode << 7
-            | f.maximum_off_time << 6
-            | f.clock_output_disable << 5
-            | f.minute_timer << 4
-            | f.low_battery_polarity << 3,
-    }
-}
-
-fn control_draft(f: Control) -> Draft
-    ensures { λ r. ⌜ r ≡ draftBy control (ofControl f) ⌝ }
-{
-    Draft {
-        fits: (f.forced_frames < 0x100)
-            & (f.single_phase < 2)
-            & (f.phase < 4)
-            & (f.block_information < 2)
-            & (f.minute_timer_clear < 2)
-            & (f.on < 2),
-        bits: Packet::CONTROL << 24
-            | f.forced_frames << 16
-            | f.single_phase << 14
-            | f.phase << 12
-            | f.block_information << 6
-            | f.minute_timer_clear << 4
-            | f.on,
-    }
-}
-
-fn all_frame_mode_draft(f: AllFrameMode) -> Draft
-    ensures { λ r. ⌜ r ≡ draftBy allFrameMode (ofAllFrameMode f) ⌝ }
-{
-    Draft {
-        fits: (f.decrement < 2) & (f.force < 2) & (f.decrement_temporary < 0x1_0000),
-        bits: Packet::ALL_FRAME_MODE << 24
-            | f.decrement << 23
-            | f.force << 22
-            | f.decrement_temporary,
-    }
-}
-
-fn receiver_lines_draft(f: ReceiverLines) -> Draft
-    ensures { λ r. ⌜ r ≡ draftBy receiverLines (ofReceiverLines f) ⌝ }
-{
-    Draft {
-        fits: (f.forced < 0x100) & (f.settings < 0x100),
-        bits: Packet::RECEIVER_LINES << 24 | f.forced << 8 | f.settings,
-    }
-}
-
-fn shut_down_draft(f: ShutDown) -> Draft
-    ensures { λ r. ⌜ r ≡ draftBy shutDown (ofShutDown f) ⌝ }
-{
-    Draft {
-        fits: (f.setting < 2)
-            & (f.enable < 2)
-            & (f.low_battery_check < 2)
-            & (f.lines < 0x100)
-            & (f.time < 0x40),
-        bits: Packet::SHUT_DOWN_1 << 24
-            | f.setting << 24
-            | f.enable << 23
-            | f.low_battery_check << 19
-            | f.lines << 8
-            | f.time,
-    }
-}
-
-fn frame_assignment_draft(f: FrameAssignment) -> Draft
-    ensures { λ r. ⌜ r ≡ draftBy frameAssignment (ofFrameAssignment f) ⌝ }
-{
-    Draft {
-        fits: (f.range < 8) & (f.frames < 0x1_0000),
-        bits: Packet::FIRST_FRAMES << 24 | f.range << 24 | f.frames,
-    }
-}
-
-fn user_address_draft(f: UserAddress) -> Draft
-    ensures { λ r. ⌜ r ≡ draftBy userAddress (ofUserAddress f) ⌝ }
-{
-    Draft {
-        fits: (f.location < 16) & (f.long_address < 2) & (f.tone_only < 2) & (f.word < 0x20_0000),
-        bits: Packet::FIRST_USER_ADDRESS << 24
-            | f.location << 24
-            | f.long_address << 22
-            | f.tone_only << 21
-            | f.word,
-    }
-}
-
-fn address_enable_draft(f: AddressEnable) -> Draft
-    ensures { λ r. ⌜ r ≡ draftBy addressEnable (ofAddressEnable f) ⌝ }
-{
-    Draft {
-        fits: f.enabled < 0x1_0000,
-        bits: Packet::ADDRESS_ENABLE << 24 | f.enabled,
-    }
-}
-
-fn part_id_draft(f: PartId) -> Draft
-    ensures { λ r. ⌜ r ≡ draftBy partId (ofPartId f) ⌝ }
-{
-    Draft {
-        fits: (f.model < 4) & (f.compatibility < 0x4000) & (f.revision < 0x100),
-        bits: Packet::PART_ID << 24 | f.model << 22 | f.compatibility << 8 | f.revision,
-    }
-}
-
 impl Packet {
     // What the host sends (Table 2).
     pub const CHECKSUM: u32 = 0x00;
@@ -336,69 +206,147 @@ impl Packet {
     pub fn checksum(fields: Checksum) -> Built
         ensures { λ r. ⌜ r ≡ builtBy checksum (ofChecksum fields) ⌝ }
     {
-        finished(checksum_draft(fields))
+        finished(Draft {
+            fits: fields.value < 0x100_0000,
+            bits: Packet::CHECKSUM << 24 | fields.value,
+        })
     }
 
     // What stays as it is while the decoder works. A decoder that is on ignores it.
     pub fn configuration(fields: Configuration) -> Built
         ensures { λ r. ⌜ r ≡ builtBy configuration (ofConfiguration fields) ⌝ }
     {
-        finished(configuration_draft(fields))
+        finished(Draft {
+            fits: (fields.oscillator < 4)
+                & (fields.polarity < 4)
+                & (fields.synchronous_mode < 2)
+                & (fields.maximum_off_time < 2)
+                & (fields.clock_output_disable < 2)
+                & (fields.minute_timer < 2)
+                & (fields.low_battery_polarity < 2),
+            bits: Packet::CONFIGURATION << 24
+                | fields.oscillator << 16
+                | fields.polarity << 8
+                | fields.synchronous_mode << 7
+                | fields.maximum_off_time << 6
+                | fields.clock_output_disable << 5
+                | fields.minute_timer << 4
+                | fields.low_battery_polarity << 3,
+        })
     }
 
     // What may change while the decoder works, and whether it is on.
     pub fn control(fields: Control) -> Built
         ensures { λ r. ⌜ r ≡ builtBy control (ofControl fields) ⌝ }
     {
-        finished(control_draft(fields))
+        finished(Draft {
+            fits: (fields.forced_frames < 0x100)
+                & (fields.single_phase < 2)
+                & (fields.phase < 4)
+                & (fields.block_information < 2)
+                & (fields.minute_timer_clear < 2)
+                & (fields.on < 2),
+            bits: Packet::CONTROL << 24
+                | fields.forced_frames << 16
+                | fields.single_phase << 14
+                | fields.phase << 12
+                | fields.block_information << 6
+                | fields.minute_timer_clear << 4
+                | fields.on,
+        })
     }
 
     // The counters of fragmented messages and temporary addresses, and whether every frame is decoded.
     pub fn all_frame_mode(fields: AllFrameMode) -> Built
         ensures { λ r. ⌜ r ≡ builtBy allFrameMode (ofAllFrameMode fields) ⌝ }
     {
-        finished(all_frame_mode_draft(fields))
+        finished(Draft {
+            fits: (fields.decrement < 2)
+                & (fields.force < 2)
+                & (fields.decrement_temporary < 0x1_0000),
+            bits: Packet::ALL_FRAME_MODE << 24
+                | fields.decrement << 23
+                | fields.force << 22
+                | fields.decrement_temporary,
+        })
     }
 
     // The host's hold on the receiver control lines.
     pub fn receiver_lines(fields: ReceiverLines) -> Built
         ensures { λ r. ⌜ r ≡ builtBy receiverLines (ofReceiverLines fields) ⌝ }
     {
-        finished(receiver_lines_draft(fields))
+        finished(Draft {
+            fits: (fields.forced < 0x100) & (fields.settings < 0x100),
+            bits: Packet::RECEIVER_LINES << 24 | fields.forced << 8 | fields.settings,
+        })
     }
 
     // A step of the receiver's shut-down.
     pub fn shut_down(fields: ShutDown) -> Built
         ensures { λ r. ⌜ r ≡ builtBy shutDown (ofShutDown fields) ⌝ }
     {
-        finished(shut_down_draft(fields))
+        finished(Draft {
+            fits: (fields.setting < 2)
+                & (fields.enable < 2)
+                & (fields.low_battery_check < 2)
+                & (fields.lines < 0x100)
+                & (fields.time < 0x40),
+            bits: Packet::SHUT_DOWN_1 << 24
+                | fields.setting << 24
+                | fields.enable << 23
+                | fields.low_battery_check << 19
+                | fields.lines << 8
+                | fields.time,
+        })
     }
 
     // Sixteen of the frames listened to.
     pub fn frame_assignment(fields: FrameAssignment) -> Built
         ensures { λ r. ⌜ r ≡ builtBy frameAssignment (ofFrameAssignment fields) ⌝ }
     {
-        finished(frame_assignment_draft(fields))
+        finished(Draft {
+            fits: (fields.range < 8) & (fields.frames < 0x1_0000),
+            bits: Packet::FIRST_FRAMES << 24 | fields.range << 24 | fields.frames,
+        })
     }
 
     // One address word of the pager.
     pub fn user_address(fields: UserAddress) -> Built
         ensures { λ r. ⌜ r ≡ builtBy userAddress (ofUserAddress fields) ⌝ }
     {
-        finished(user_address_draft(fields))
+        finished(Draft {
+            fits: (fields.location < 16)
+                & (fields.long_address < 2)
+                & (fields.tone_only < 2)
+                & (fields.word < 0x20_0000),
+            bits: Packet::FIRST_USER_ADDRESS << 24
+                | fields.location << 24
+                | fields.long_address << 22
+                | fields.tone_only << 21
+                | fields.word,
+        })
     }
 
     // Which address words are looked for.
     pub fn address_enable(fields: AddressEnable) -> Built
         ensures { λ r. ⌜ r ≡ builtBy addressEnable (ofAddressEnable fields) ⌝ }
     {
-        finished(address_enable_draft(fields))
+        finished(Draft {
+            fits: fields.enabled < 0x1_0000,
+            bits: Packet::ADDRESS_ENABLE << 24 | fields.enabled,
+        })
     }
 
     // What a decoder that is not talking sends; a host builds it to set a mirror or a test up.
     pub fn part_id(fields: PartId) -> Built
         ensures { λ r. ⌜ r ≡ builtBy partId (ofPartId fields) ⌝ }
     {
-        finished(part_id_draft(fields))
+        finished(Draft {
+            fits: (fields.model < 4) & (fields.compatibility < 0x4000) & (fields.revision < 0x100),
+            bits: Packet::PART_ID << 24
+                | fields.model << 22
+                | fields.compatibility << 8
+                | fields.revision,
+        })
     }
 }

@@ -2,16 +2,16 @@
 // with a bit set that its table prints as 0.
 ghost use mathlib.Core.Path.{_≡_};
 ghost use Rattle.sending.specs.Rule.{neverSent, zerosRight, sendOf};
+use assigned::ADDRESS_ENABLE_PRINTED;
+use assigned::FRAME_ASSIGNMENT_PRINTED;
+use assigned::RECEIVER_LINES_PRINTED;
+use assigned::SHUT_DOWN_PRINTED;
+use assigned::USER_ADDRESS_PRINTED;
 use packet::Packet;
 use refusal::Refusal;
-use sent::ADDRESS_ENABLE_PRINTED;
 use sent::ALL_FRAME_MODE_PRINTED;
 use sent::CONFIGURATION_PRINTED;
 use sent::CONTROL_PRINTED;
-use sent::FRAME_ASSIGNMENT_PRINTED;
-use sent::RECEIVER_LINES_PRINTED;
-use sent::SHUT_DOWN_PRINTED;
-use sent::USER_ADDRESS_PRINTED;
 
 // Whether no packet with this ID is ever sent: the reserved ones and the special ones (Table 2).
 fn never_sent(id: u32) -> bool

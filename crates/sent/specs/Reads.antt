@@ -1,16 +1,11 @@
--- Reading back what the host sends (document 01, "Packets and the handshake").
+-- Reading back what the host sends to the decoder itself (document 01, "Packets and the handshake").
 use Prim.Native.Nat.{ℕ}
-use Rattle.packet.specs.Tables.{checksum, configuration, control, allFrameMode, receiverLines, shutDown, frameAssignment, userAddress, addressEnable}
-use Rattle.packet.specs.Fields.{numberBy, fieldsBy, asChecksum, asConfiguration, asControl, asAllFrameMode, asReceiverLines, asShutDown, asFrameAssignment, asUserAddress, asAddressEnable}
+use Rattle.packet.specs.Tables.{checksum, configuration, control, allFrameMode}
+use Rattle.packet.specs.Fields.{numberBy, fieldsBy, asChecksum, asConfiguration, asControl, asAllFrameMode}
 use Rattle.sent.specs.declared.ChecksumRead.{ChecksumRead}
 use Rattle.sent.specs.declared.ConfigurationRead.{ConfigurationRead}
 use Rattle.sent.specs.declared.ControlRead.{ControlRead}
 use Rattle.sent.specs.declared.AllFrameModeRead.{AllFrameModeRead}
-use Rattle.sent.specs.declared.ReceiverLinesRead.{ReceiverLinesRead}
-use Rattle.sent.specs.declared.ShutDownRead.{ShutDownRead}
-use Rattle.sent.specs.declared.FrameAssignmentRead.{FrameAssignmentRead}
-use Rattle.sent.specs.declared.UserAddressRead.{UserAddressRead}
-use Rattle.sent.specs.declared.AddressEnableRead.{AddressEnableRead}
 
 -- Table 9
 abbrev pub checksumRead : ℕ → ChecksumRead
@@ -27,23 +22,3 @@ controlRead n = record { number = numberBy control n; fields = asControl (fields
 -- Table 56
 abbrev pub allFrameModeRead : ℕ → AllFrameModeRead
 allFrameModeRead n = record { number = numberBy allFrameMode n; fields = asAllFrameMode (fieldsBy allFrameMode n) }
-
--- Table 19
-abbrev pub receiverLinesRead : ℕ → ReceiverLinesRead
-receiverLinesRead n = record { number = numberBy receiverLines n; fields = asReceiverLines (fieldsBy receiverLines n) }
-
--- Table 21
-abbrev pub shutDownRead : ℕ → ShutDownRead
-shutDownRead n = record { number = numberBy shutDown n; fields = asShutDown (fieldsBy shutDown n) }
-
--- Table 29
-abbrev pub frameAssignmentRead : ℕ → FrameAssignmentRead
-frameAssignmentRead n = record { number = numberBy frameAssignment n; fields = asFrameAssignment (fieldsBy frameAssignment n) }
-
--- Table 26
-abbrev pub userAddressRead : ℕ → UserAddressRead
-userAddressRead n = record { number = numberBy userAddress n; fields = asUserAddress (fieldsBy userAddress n) }
-
--- Table 27
-abbrev pub addressEnableRead : ℕ → AddressEnableRead
-addressEnableRead n = record { number = numberBy addressEnable n; fields = asAddressEnable (fieldsBy addressEnable n) }

@@ -1,20 +1,13 @@
-// What the host sends, read back into its fields (document 01, "Packets and the handshake"). A packet whose ID is another's, or that has a bit set which its table
-// prints as 0, is refused (7), and its fields read 0.
+// What the host sends to the decoder itself, read back into its fields: checksum, configuration, control
+// and all frame mode (document 01, "Packets and the handshake"; S8.4, S8.8). A packet whose ID is
+// another's, or that has a bit set which its table prints as 0, is refused (7), and its fields read 0.
 ghost use mathlib.Core.Path.{_≡_};
-ghost use Rattle.laws.specs.Layouts.{fieldsOf};
-ghost use Rattle.packet.specs.Tables.{checksum, configuration, control, allFrameMode, receiverLines, shutDown, frameAssignment, userAddress, addressEnable};
-ghost use Rattle.packet.specs.Fields.{asChecksum, asConfiguration, asControl, asAllFrameMode, asReceiverLines, asShutDown, asFrameAssignment, asUserAddress, asAddressEnable};
-ghost use Rattle.sent.specs.Reads.{checksumRead, configurationRead, controlRead, allFrameModeRead, receiverLinesRead, shutDownRead, frameAssignmentRead, userAddressRead, addressEnableRead};
-use packet::AddressEnable;
+ghost use Rattle.sent.specs.Reads.{checksumRead, configurationRead, controlRead, allFrameModeRead};
 use packet::AllFrameMode;
 use packet::Checksum;
 use packet::Configuration;
 use packet::Control;
-use packet::FrameAssignment;
 use packet::Packet;
-use packet::ReceiverLines;
-use packet::ShutDown;
-use packet::UserAddress;
 use refusal::Refusal;
 use refusal::kept;
 
@@ -46,41 +39,6 @@ pub struct AllFrameModeRead {
     pub fields: AllFrameMode,
 }
 
-// The fields of a receiver line control packet (Table 19), or its refusal.
-#[repr(C)]
-pub struct ReceiverLinesRead {
-    pub number: u32,
-    pub fields: ReceiverLines,
-}
-
-// The fields of a receiver shut-down packet (Table 21), or its refusal.
-#[repr(C)]
-pub struct ShutDownRead {
-    pub number: u32,
-    pub fields: ShutDown,
-}
-
-// The fields of a frame assignment packet (Table 29), or its refusal.
-#[repr(C)]
-pub struct FrameAssignmentRead {
-    pub number: u32,
-    pub fields: FrameAssignment,
-}
-
-// The fields of a user address assignment packet (Table 26), or its refusal.
-#[repr(C)]
-pub struct UserAddressRead {
-    pub number: u32,
-    pub fields: UserAddress,
-}
-
-// The fields of the user address enable packet (Table 27), or its refusal.
-#[repr(C)]
-pub struct AddressEnableRead {
-    pub number: u32,
-    pub fields: AddressEnable,
-}
-
 // The bits that each packet's table prints, its ID and every 0: the table as a mask.
 pub const CHECKSUM_PRINTED: u32 = 0xFF00_0000; // Table 9
 
@@ -90,47 +48,18 @@ pub const CONTROL_PRINTED: u32 = 0xFF00_8FAE; // Table 11
 
 pub const ALL_FRAME_MODE_PRINTED: u32 = 0xFF3F_0000; // Table 56
 
-pub const RECEIVER_LINES_PRINTED: u32 = 0xFFFF_0000; // Table 19
-
-pub const SHUT_DOWN_PRINTED: u32 = 0xFE77_00C0; // Table 21
-
-pub const FRAME_ASSIGNMENT_PRINTED: u32 = 0xF8FF_0000; // Table 29
-
-pub const USER_ADDRESS_PRINTED: u32 = 0xF080_0000; // Table 26
-
-pub const ADDRESS_ENABLE_PRINTED: u32 = 0xFFFF_0000; // Table 27
-
-fn checksum_of(bits: u32) -> Checksum
-    ensures { λ r. ⌜ r ≡ asChecksum (fieldsOf checksum bits) ⌝ }
-{
-    Checksum {
-        value: bits % 0x100_0000,
-    }
-}
-
 // Reads a checksum packet (Table 9).
 pub fn read_checksum(packet: Packet) -> ChecksumRead
     ensures { λ r. ⌜ r ≡ checksumRead (packet .bits) ⌝ }
 {
     let bits = packet.bits;
     let good = bits & CHECKSUM_PRINTED == Packet::CHECKSUM << 24;
+    let bits = kept(good, bits);
     ChecksumRead {
         number: Refusal::Packet.unless(good),
-        fields: checksum_of(kept(good, bits)),
-    }
-}
-
-fn configuration_of(bits: u32) -> Configuration
-    ensures { λ r. ⌜ r ≡ asConfiguration (fieldsOf configuration bits) ⌝ }
-{
-    Configuration {
-        oscillator: (bits >> 16) % 4,
-        polarity: (bits >> 8) % 4,
-        synchronous_mode: (bits >> 7) % 2,
-        maximum_off_time: (bits >> 6) % 2,
-        clock_output_disable: (bits >> 5) % 2,
-        minute_timer: (bits >> 4) % 2,
-        low_battery_polarity: (bits >> 3) % 2,
+        fields: Checksum {
+            value: bits % 0x100_0000,
+        },
     }
 }
 
@@ -140,22 +69,18 @@ pub fn read_configuration(packet: Packet) -> ConfigurationRead
 {
     let bits = packet.bits;
     let good = bits & CONFIGURATION_PRINTED == Packet::CONFIGURATION << 24;
+    let bits = kept(good, bits);
     ConfigurationRead {
         number: Refusal::Packet.unless(good),
-        fields: configuration_of(kept(good, bits)),
-    }
-}
-
-fn control_of(bits: u32) -> Control
-    ensures { λ r. ⌜ r ≡ asControl (fieldsOf control bits) ⌝ }
-{
-    Control {
-        forced_frames: (bits >> 16) % 0x100,
-        single_phase: (bits >> 14) % 2,
-        phase: (bits >> 12) % 4,
-        block_information: (bits >> 6) % 2,
-        minute_timer_clear: (bits >> 4) % 2,
-        on: bits % 2,
+        fields: Configuration {
+            oscillator: (bits >> 16) % 4,
+            polarity: (bits >> 8) % 4,
+            synchronous_mode: (bits >> 7) % 2,
+            maximum_off_time: (bits >> 6) % 2,
+            clock_output_disable: (bits >> 5) % 2,
+            minute_timer: (bits >> 4) % 2,
+            low_battery_polarity: (bits >> 3) % 2,
+        },
     }
 }
 
@@ -165,19 +90,17 @@ pub fn read_control(packet: Packet) -> ControlRead
 {
     let bits = packet.bits;
     let good = bits & CONTROL_PRINTED == Packet::CONTROL << 24;
+    let bits = kept(good, bits);
     ControlRead {
         number: Refusal::Packet.unless(good),
-        fields: control_of(kept(good, bits)),
-    }
-}
-
-fn all_frame_mode_of(bits: u32) -> AllFrameMode
-    ensures { λ r. ⌜ r ≡ asAllFrameMode (fieldsOf allFrameMode bits) ⌝ }
-{
-    AllFrameMode {
-        decrement: (bits >> 23) % 2,
-        force: (bits >> 22) % 2,
-        decrement_temporary: bits % 0x1_0000,
+        fields: Control {
+            forced_frames: (bits >> 16) % 0x100,
+            single_phase: (bits >> 14) % 2,
+            phase: (bits >> 12) % 4,
+            block_information: (bits >> 6) % 2,
+            minute_timer_clear: (bits >> 4) % 2,
+            on: bits % 2,
+        },
     }
 }
 
@@ -187,117 +110,13 @@ pub fn read_all_frame_mode(packet: Packet) -> AllFrameModeRead
 {
     let bits = packet.bits;
     let good = bits & ALL_FRAME_MODE_PRINTED == Packet::ALL_FRAME_MODE << 24;
+    let bits = kept(good, bits);
     AllFrameModeRead {
         number: Refusal::Packet.unless(good),
-        fields: all_frame_mode_of(kept(good, bits)),
-    }
-}
-
-fn receiver_lines_of(bits: u32) -> ReceiverLines
-    ensures { λ r. ⌜ r ≡ asReceiverLines (fieldsOf receiverLines bits) ⌝ }
-{
-    ReceiverLines {
-        forced: (bits >> 8) % 0x100,
-        settings: bits % 0x100,
-    }
-}
-
-// Reads a receiver line control packet (Table 19).
-pub fn read_receiver_lines(packet: Packet) -> ReceiverLinesRead
-    ensures { λ r. ⌜ r ≡ receiverLinesRead (packet .bits) ⌝ }
-{
-    let bits = packet.bits;
-    let good = bits & RECEIVER_LINES_PRINTED == Packet::RECEIVER_LINES << 24;
-    ReceiverLinesRead {
-        number: Refusal::Packet.unless(good),
-        fields: receiver_lines_of(kept(good, bits)),
-    }
-}
-
-fn shut_down_of(bits: u32) -> ShutDown
-    ensures { λ r. ⌜ r ≡ asShutDown (fieldsOf shutDown bits) ⌝ }
-{
-    ShutDown {
-        setting: (bits >> 24) % 2,
-        enable: (bits >> 23) % 2,
-        low_battery_check: (bits >> 19) % 2,
-        lines: (bits >> 8) % 0x100,
-        time: bits % 0x40,
-    }
-}
-
-// Reads a receiver shut-down packet (Table 21).
-pub fn read_shut_down(packet: Packet) -> ShutDownRead
-    ensures { λ r. ⌜ r ≡ shutDownRead (packet .bits) ⌝ }
-{
-    let bits = packet.bits;
-    let good = bits & SHUT_DOWN_PRINTED == Packet::SHUT_DOWN_1 << 24;
-    ShutDownRead {
-        number: Refusal::Packet.unless(good),
-        fields: shut_down_of(kept(good, bits)),
-    }
-}
-
-fn frame_assignment_of(bits: u32) -> FrameAssignment
-    ensures { λ r. ⌜ r ≡ asFrameAssignment (fieldsOf frameAssignment bits) ⌝ }
-{
-    FrameAssignment {
-        range: (bits >> 24) % 8,
-        frames: bits % 0x1_0000,
-    }
-}
-
-// Reads a frame assignment packet (Table 29).
-pub fn read_frame_assignment(packet: Packet) -> FrameAssignmentRead
-    ensures { λ r. ⌜ r ≡ frameAssignmentRead (packet .bits) ⌝ }
-{
-    let bits = packet.bits;
-    let good = bits & FRAME_ASSIGNMENT_PRINTED == Packet::FIRST_FRAMES << 24;
-    FrameAssignmentRead {
-        number: Refusal::Packet.unless(good),
-        fields: frame_assignment_of(kept(good, bits)),
-    }
-}
-
-fn user_address_of(bits: u32) -> UserAddress
-    ensures { λ r. ⌜ r ≡ asUserAddress (fieldsOf userAddress bits) ⌝ }
-{
-    UserAddress {
-        location: (bits >> 24) % 0x10,
-        long_address: (bits >> 22) % 2,
-        tone_only: (bits >> 21) % 2,
-        word: bits % 0x20_0000,
-    }
-}
-
-// Reads a user address assignment packet (Table 26).
-pub fn read_user_address(packet: Packet) -> UserAddressRead
-    ensures { λ r. ⌜ r ≡ userAddressRead (packet .bits) ⌝ }
-{
-    let bits = packet.bits;
-    let good = bits & USER_ADDRESS_PRINTED == Packet::FIRST_USER_ADDRESS << 24;
-    UserAddressRead {
-        number: Refusal::Packet.unless(good),
-        fields: user_address_of(kept(good, bits)),
-    }
-}
-
-fn address_enable_of(bits: u32) -> AddressEnable
-    ensures { λ r. ⌜ r ≡ asAddressEnable (fieldsOf addressEnable bits) ⌝ }
-{
-    AddressEnable {
-        enabled: bits % 0x1_0000,
-    }
-}
-
-// Reads the user address enable packet (Table 27).
-pub fn read_address_enable(packet: Packet) -> AddressEnableRead
-    ensures { λ r. ⌜ r ≡ addressEnableRead (packet .bits) ⌝ }
-{
-    let bits = packet.bits;
-    let good = bits & ADDRESS_ENABLE_PRINTED == Packet::ADDRESS_ENABLE << 24;
-    AddressEnableRead {
-        number: Refusal::Packet.unless(good),
-        fields: address_enable_of(kept(good, bits)),
+        fields: AllFrameMode {
+            decrement: (bits >> 23) % 2,
+            force: (bits >> 22) % 2,
+            decrement_temporary: bits % 0x1_0000,
+        },
     }
 }

@@ -1,10 +1,28 @@
 // Message sums (S8.8.6, Table 60): the six-bit K of a numeric page, the ten-bit K of a fragment and the
-// seven-bit signature of a text. Every function takes any words; bits above the 21 of a word are not looked
-// at, and a row of any length is summed.
+// seven-bit signature of a text. They take any words; bits above the 21 of a word are not looked at, and a row
+// of any length is summed. Beside them what is asked of words before they are summed: whether any is over 21 bits.
 ghost use mathlib.Core.Path.{_≡_};
 ghost use Prim.Native.Nat.{_+_, _≤_, _%_};
 ghost use lib.ListN.{drop};
 ghost use Rattle.sums.specs.Sums.{groupsOf, binarySum, unkeyed, sixBits, tenBits, signatureOf};
+ghost use Rattle.sums.specs.Words.{undamaged};
+
+// A word has 21 bits: it is below this.
+pub const WORD_LIMIT: u32 = 0x20_0000;
+
+// 01's table, 10: whether no word has more than 21 bits.
+pub fn undamaged(words: &[u32]) -> bool
+    ensures { λ r. ⌜ r ≡ undamaged (now (words .entry)) ⌝ }
+{
+    let mut at: usize = 0;
+    while at < words.len() {
+        if words[at] >= WORD_LIMIT {
+            return false;
+        }
+        at += 1;
+    }
+    true
+}
 
 // The three groups of a word, added: at most 541.
 pub fn groups(word: u32) -> u32

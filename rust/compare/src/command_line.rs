@@ -8,6 +8,7 @@ const DEFAULT_SEED: u64 = 5008;
 pub const USAGE: &str = "usage: compare exports EXCHANGE_COMMAND.. [--seed NUMBER]
        compare packets EXCHANGE_COMMAND.. [--seed NUMBER] [--full]
        compare pages EXCHANGE_COMMAND.. [--seed NUMBER]
+       compare fragments EXCHANGE_COMMAND.. [--seed NUMBER]
        compare start-up FILE EXCHANGE_COMMAND..
        compare lines LISTING_COMMAND.. [--count NUMBER] [--seed NUMBER]
        compare edges LISTING_COMMAND..
@@ -30,6 +31,10 @@ pub enum Task {
         extent: Extent,
     },
     Pages {
+        exchange: Vec<String>,
+        seed: u64,
+    },
+    Fragments {
         exchange: Vec<String>,
         seed: u64,
     },
@@ -69,15 +74,12 @@ pub fn read(words: &[String]) -> Option<Task> {
             let (exchange, seed) = command_and_seed(rest)?;
             Some(Task::Pages { exchange, seed })
         }
-        "start-up" => read_start_up(rest),
-        "lines" => {
-            let (listing, [count, seed]) = command_and_numbers(rest, ["--count", "--seed"])?;
-            Some(Task::Lines {
-                listing,
-                count: count.unwrap_or(DEFAULT_LINES),
-                seed: seed.unwrap_or(DEFAULT_SEED),
-            })
+        "fragments" => {
+            let (exchange, seed) = command_and_seed(rest)?;
+            Some(Task::Fragments { exchange, seed })
         }
+        "start-up" => read_start_up(rest),
+        "lines" => read_lines(rest),
         "edges" => {
             let (listing, []) = command_and_numbers(rest, [])?;
             Some(Task::Edges { listing })
@@ -115,6 +117,15 @@ fn read_start_up(words: &[String]) -> Option<Task> {
     Some(Task::StartUp {
         file: file.clone(),
         exchange,
+    })
+}
+
+fn read_lines(words: &[String]) -> Option<Task> {
+    let (listing, [count, seed]) = command_and_numbers(words, ["--count", "--seed"])?;
+    Some(Task::Lines {
+        listing,
+        count: count.unwrap_or(DEFAULT_LINES),
+        seed: seed.unwrap_or(DEFAULT_SEED),
     })
 }
 
@@ -185,14 +196,16 @@ mod tests {
     }
 
     #[test]
-    fn pages_may_have_a_seed() {
-        for (line, seed) in [
-            ("pages run exchange", DEFAULT_SEED),
-            ("pages run exchange --seed 7", 7),
-        ] {
+    fn pages_and_fragments_may_have_a_seed() {
+        for (options, seed) in [("", DEFAULT_SEED), (" --seed 7", 7)] {
             let exchange = words("run exchange");
             let task = Task::Pages { exchange, seed };
-            assert_eq!(read(&words(line)), Some(task), "{line}");
+            let line = format!("pages run exchange{options}");
+            assert_eq!(read(&words(&line)), Some(task), "{line}");
+            let exchange = words("run exchange");
+            let task = Task::Fragments { exchange, seed };
+            let line = format!("fragments run exchange{options}");
+            assert_eq!(read(&words(&line)), Some(task), "{line}");
         }
     }
 
@@ -239,6 +252,9 @@ mod tests {
             "pages",
             "pages --seed 1",
             "pages run --seed",
+            "fragments",
+            "fragments --seed 1",
+            "fragments run --seed",
             "start-up",
             "start-up table.md",
             "lines --count 5",

@@ -150,14 +150,14 @@ pub fn compare<R: Request>(
     command: &[String],
     requests: impl Iterator<Item = R> + Send,
 ) -> Result<usize, String> {
-    compare_and_show(command, requests, |_| {})
+    compare_and_show(command, requests, |_, _| {})
 }
 
-/// As `compare`, and shows each answer on which both agree.
+/// As `compare`, and shows each request with the answer on which both agree.
 pub fn compare_and_show<R: Request>(
     command: &[String],
     requests: impl Iterator<Item = R> + Send,
-    show: impl FnMut(&R::Answer),
+    show: impl FnMut(&R, &R::Answer),
 ) -> Result<usize, String> {
     let name = command.join(" ");
     let mut child = start(command).map_err(|error| format!("{name}: cannot start: {error}"))?;
@@ -210,14 +210,15 @@ fn ask<R: Request>(
 fn compare_answers<R: Request>(
     pieces: Receiver<Vec<R>>,
     output: ChildStdout,
-    mut show: impl FnMut(&R::Answer),
+    mut show: impl FnMut(&R, &R::Answer),
 ) -> Result<usize, Break> {
     let output = BufReader::with_capacity(READ_BYTES, output);
     let mut fields = Fields { output };
     let mut count = 0;
     for piece in pieces {
         for request in piece {
-            show(&compare_answer(&request, &mut fields, count)?);
+            let answer = compare_answer(&request, &mut fields, count)?;
+            show(&request, &answer);
             count += 1;
         }
     }
@@ -326,7 +327,7 @@ mod tests {
         let mut shown = Vec::new();
         let command = ["cat".to_string()];
         let requests = (0..5_000).map(|number| Echo { number });
-        let compared = compare_and_show(&command, requests, |answer| shown.push(answer.1));
+        let compared = compare_and_show(&command, requests, |_, answer| shown.push(answer.1));
         assert_eq!(compared, Ok(5_000));
         assert!(shown.into_iter().eq(0..5_000));
     }

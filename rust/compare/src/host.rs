@@ -5,6 +5,7 @@
 use std::fmt::{self, Debug, Formatter};
 use std::io;
 
+use second::fragment::{FragmentRead, TextCut};
 use second::numbers::Numbers;
 use second::numeric::{PageRead, Written};
 
@@ -167,8 +168,8 @@ impl MortisevaneWait {
     }
 }
 
-/// An answer of packets, of the mirror and of pages, all of which have one form:
-/// the number, and the fields that are told with it.
+/// An answer of packets, of the mirror, of pages and of fragments, all of which
+/// have one form: the number, and the fields that are told with it.
 #[derive(Clone, Copy, Debug, Default, PartialEq, Eq)]
 pub struct Told<F> {
     pub number: u32,
@@ -218,6 +219,24 @@ impl ToldOfRow for PageRead {
         Ok(PageRead {
             numbering: fields.numbers()?,
             characters: fields.count()?,
+        })
+    }
+}
+
+impl ToldOfRow for FragmentRead {
+    fn read(fields: &mut Fields) -> io::Result<Self> {
+        Ok(FragmentRead {
+            heading: fields.numbers()?,
+            characters: fields.count()?,
+        })
+    }
+}
+
+impl ToldOfRow for TextCut {
+    fn read(fields: &mut Fields) -> io::Result<Self> {
+        Ok(TextCut {
+            fragments: fields.count()?,
+            words: fields.count()?,
         })
     }
 }

@@ -7,6 +7,7 @@ mod command_line;
 mod edges;
 mod exchange;
 mod exports;
+mod fragments;
 mod host;
 mod lines;
 mod listing_program;
@@ -48,6 +49,7 @@ fn carry_out(task: &Task) -> Result<(), String> {
             extent,
         } => packets::compare(exchange, *seed, *extent)?,
         Task::Pages { exchange, seed } => pages::compare(exchange, *seed)?,
+        Task::Fragments { exchange, seed } => fragments::compare(exchange, *seed)?,
         Task::StartUp { file, exchange } => start_up::compare(file, exchange)?,
         Task::Lines {
             listing,

@@ -1,5 +1,6 @@
 //! How a packet's 32 bits are divided (Table 1: D31 to D24 are the ID, D23 to
 //! D0 the data bits), said once for those who build it and those who read it.
+//! Message words are divided into fields in the same way.
 
 use crate::numbers::Numbers;
 use crate::refusal::Refusal;
@@ -43,11 +44,17 @@ impl Field {
         (packet >> self.place) & self.largest()
     }
 
-    fn hold(self, number: u32) -> Result<u32, Refusal> {
+    /// A number that fits, in its bits.
+    pub const fn put(self, number: u32) -> u32 {
+        number << self.place
+    }
+
+    /// A number in its bits; one that does not fit is refused.
+    pub fn hold(self, number: u32) -> Result<u32, Refusal> {
         if number > self.largest() {
             return Err(Refusal::Packet);
         }
-        Ok(number << self.place)
+        Ok(self.put(number))
     }
 }
 

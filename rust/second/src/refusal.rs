@@ -17,7 +17,7 @@ pub enum Refusal {
     Offset = 6,
     /// A packet that is not to be sent or not of that kind, or with a 0 bit
     /// set; a field too large, such as a frame over 127 or a collapse over 5, or
-    /// a vector's K over 15.
+    /// a vector's K over 15 or an N over 63.
     Packet = 7,
     /// The address number is not 0 to 31.
     Address = 8,
@@ -29,7 +29,8 @@ pub enum Refusal {
     Checksum = 11,
     /// A text over the room.
     TooLong = 15,
-    /// A character that is not in the set.
+    /// A character that is not in the set or is over 7FH, or ETX in a text to
+    /// write.
     Character = 18,
 }
 

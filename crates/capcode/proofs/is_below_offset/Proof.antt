@@ -1,3 +1,4 @@
+use mathlib.Core.Path.{refl}
 use borrow.Author.Needs.{needs}
 use Rattle.capcode.proofs.is_below_offset.Statement.{statement}
 use Rattle.capcode.proofs.is_below_offset.Tie as tie
@@ -6,7 +7,7 @@ offset-of-requires : tie.Need-offset-of-requires
 offset-of-requires c κs = search needs
 
 returns : tie.Need-returns
-returns c = cc
+returns c = rw (c .before .offset-of .ensures) refl
 
 pub is-below-offset-spec : {M : Type 1} → statement M
 is-below-offset-spec = tie.close (tie.spec offset-of-requires returns)

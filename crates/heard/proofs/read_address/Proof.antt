@@ -4,12 +4,6 @@ use borrow.Author.Needs.{needs}
 use Rattle.heard.proofs.read_address.Statement.{statement}
 use Rattle.heard.proofs.read_address.Tie as tie
 
-address-right-requires : tie.Need-address-right-requires
-address-right-requires c κs = search needs
-
-is-index-requires : tie.Need-is-index-requires
-is-index-requires c κs = search needs
-
 address-refusal-requires : tie.Need-address-refusal-requires
 address-refusal-requires c κs = search needs
 
@@ -20,14 +14,12 @@ address-of-requires : tie.Need-address-of-requires
 address-of-requires c κs = search needs
 
 returns : tie.Need-returns
-returns c = rw (c .address-of .ensures, c .before .kept .ensures, c .before .before .address-refusal .ensures, c .before .before .before .is-index .ensures, c .before .before .before .before .address-right .ensures) refl
+returns c = rw (c .address-of .ensures, c .before .kept .ensures, c .before .before .address-refusal .ensures) refl
 
 pub read-address-spec : {M : Type 1} → statement M
 read-address-spec =
     tie.close
     (tie.spec
-    address-right-requires
-    is-index-requires
     address-refusal-requires
     kept-requires
     address-of-requires

@@ -4,17 +4,14 @@ use borrow.Author.Needs.{needs}
 use Rattle.heard.proofs.read_message.Statement.{statement}
 use Rattle.heard.proofs.read_message.Tie as tie
 
-unless-requires : tie.Need-unless-requires
-unless-requires c κs = search needs
-
 kept-requires : tie.Need-kept-requires
 kept-requires c κs = search needs
 
-message-of-requires : tie.Need-message-of-requires
-message-of-requires c κs = search needs
+unless-requires : tie.Need-unless-requires
+unless-requires c κs = search needs
 
 returns : tie.Need-returns
-returns c = rw (c .message-of .ensures, c .before .kept .ensures, c .before .before .unless .ensures) refl
+returns c = rw (c .unless .ensures, c .before .kept .ensures) refl
 
 pub read-message-spec : {M : Type 1} → statement M
-read-message-spec = tie.close (tie.spec unless-requires kept-requires message-of-requires returns)
+read-message-spec = tie.close (tie.spec kept-requires unless-requires returns)

@@ -4,17 +4,14 @@ use borrow.Author.Needs.{needs}
 use Rattle.heard.proofs.read_part_id.Statement.{statement}
 use Rattle.heard.proofs.read_part_id.Tie as tie
 
-unless-requires : tie.Need-unless-requires
-unless-requires c κs = search needs
-
 kept-requires : tie.Need-kept-requires
 kept-requires c κs = search needs
 
-part-id-of-requires : tie.Need-part-id-of-requires
-part-id-of-requires c κs = search needs
+unless-requires : tie.Need-unless-requires
+unless-requires c κs = search needs
 
 returns : tie.Need-returns
-returns c = rw (c .part-id-of .ensures, c .before .kept .ensures, c .before .before .unless .ensures) refl
+returns c = rw (c .unless .ensures, c .before .kept .ensures) refl
 
 pub read-part-id-spec : {M : Type 1} → statement M
-read-part-id-spec = tie.close (tie.spec unless-requires kept-requires part-id-of-requires returns)
+read-part-id-spec = tie.close (tie.spec kept-requires unless-requires returns)

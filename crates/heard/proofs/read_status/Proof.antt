@@ -4,17 +4,14 @@ use borrow.Author.Needs.{needs}
 use Rattle.heard.proofs.read_status.Statement.{statement}
 use Rattle.heard.proofs.read_status.Tie as tie
 
-unless-requires : tie.Need-unless-requires
-unless-requires c κs = search needs
-
 kept-requires : tie.Need-kept-requires
 kept-requires c κs = search needs
 
-status-of-requires : tie.Need-status-of-requires
-status-of-requires c κs = search needs
+unless-requires : tie.Need-unless-requires
+unless-requires c κs = search needs
 
 returns : tie.Need-returns
-returns c = rw (c .status-of .ensures, c .before .kept .ensures, c .before .before .unless .ensures) refl
+returns c = rw (c .unless .ensures, c .before .kept .ensures) refl
 
 pub read-status-spec : {M : Type 1} → statement M
-read-status-spec = tie.close (tie.spec unless-requires kept-requires status-of-requires returns)
+read-status-spec = tie.close (tie.spec kept-requires unless-requires returns)

@@ -1,4 +1,8 @@
 -- `mortisevane_address_class` meets its contract: what the core answers, told.
+use mathlib.Core.Path.{ap, _∙_}
+use Rattle.address.specs.declared.Classed.{Classed}
+use Rattle.address.specs.Ranges.{toldClassed}
+use Rattle.host_address.specs.Flat.{classFrom}
 use borrow.Author.Needs.{needs}
 use Rattle.host_address.proofs.mortisevane_address_class.Statement.{statement}
 use Rattle.host_address.proofs.mortisevane_address_class.Tie as tie
@@ -10,7 +14,7 @@ class-told-requires : tie.Need-class-told-requires
 class-told-requires c κs = search needs
 
 returns : tie.Need-returns
-returns c = cc
+returns c = c .class-told .ensures ∙ ap (λ (answer : Classed). classFrom (toldClassed answer)) (c .before .class-of .ensures)
 
 pub mortisevane-address-class-spec : {M : Type 1} → statement M
 mortisevane-address-class-spec = tie.close (tie.spec class-of-requires class-told-requires returns)

@@ -1,4 +1,6 @@
 -- `mortisevane_address_words` meets its contract: what the core answers, told.
+use mathlib.Core.Path.{ap, _∙_}
+use Rattle.host_address.specs.Flat.{wordsFrom}
 use borrow.Author.Needs.{needs}
 use Rattle.host_address.proofs.mortisevane_address_words.Statement.{statement}
 use Rattle.host_address.proofs.mortisevane_address_words.Tie as tie
@@ -10,7 +12,7 @@ words-told-requires : tie.Need-words-told-requires
 words-told-requires c κs = search needs
 
 returns : tie.Need-returns
-returns c = cc
+returns c = c .words-told .ensures ∙ ap wordsFrom (c .before .words-of .ensures)
 
 pub mortisevane-address-words-spec : {M : Type 1} → statement M
 mortisevane-address-words-spec = tie.close (tie.spec words-of-requires words-told-requires returns)

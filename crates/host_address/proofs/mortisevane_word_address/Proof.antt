@@ -1,4 +1,6 @@
 -- `mortisevane_word_address` meets its contract: what the core answers, told.
+use mathlib.Core.Path.{ap, _∙_}
+use Rattle.host_address.specs.Flat.{addressFrom}
 use borrow.Author.Needs.{needs}
 use Rattle.host_address.proofs.mortisevane_word_address.Statement.{statement}
 use Rattle.host_address.proofs.mortisevane_word_address.Tie as tie
@@ -10,7 +12,7 @@ address-told-requires : tie.Need-address-told-requires
 address-told-requires c κs = search needs
 
 returns : tie.Need-returns
-returns c = cc
+returns c = c .address-told .ensures ∙ ap addressFrom (c .before .word-address .ensures)
 
 pub mortisevane-word-address-spec : {M : Type 1} → statement M
 mortisevane-word-address-spec =

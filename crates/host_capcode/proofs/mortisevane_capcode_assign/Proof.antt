@@ -1,4 +1,6 @@
 -- `mortisevane_capcode_assign` meets its contract: what the core answers, told.
+use mathlib.Core.Path.{ap, _∙_}
+use Rattle.host_capcode.specs.Flat.{assignmentFrom}
 use borrow.Author.Needs.{needs}
 use Rattle.host_capcode.proofs.mortisevane_capcode_assign.Statement.{statement}
 use Rattle.host_capcode.proofs.mortisevane_capcode_assign.Tie as tie
@@ -10,7 +12,7 @@ assignment-told-requires : tie.Need-assignment-told-requires
 assignment-told-requires c κs = search needs
 
 returns : tie.Need-returns
-returns c = cc
+returns c = c .assignment-told .ensures ∙ ap assignmentFrom (c .before .assign .ensures)
 
 pub mortisevane-capcode-assign-spec : {M : Type 1} → statement M
 mortisevane-capcode-assign-spec =

@@ -1,4 +1,6 @@
 -- `mortisevane_capcode_read` meets its contract: what the core answers, told.
+use mathlib.Core.Path.{ap, _∙_}
+use Rattle.host_capcode.specs.Flat.{capcodeFrom}
 use borrow.Author.Needs.{needs}
 use Rattle.host_capcode.proofs.mortisevane_capcode_read.Statement.{statement}
 use Rattle.host_capcode.proofs.mortisevane_capcode_read.Tie as tie
@@ -10,7 +12,7 @@ capcode-told-requires : tie.Need-capcode-told-requires
 capcode-told-requires c κs = search needs
 
 returns : tie.Need-returns
-returns c = cc
+returns c = c .capcode-told .ensures ∙ ap capcodeFrom (c .before .read .ensures)
 
 pub mortisevane-capcode-read-spec : {M : Type 1} → statement M
 mortisevane-capcode-read-spec = tie.close (tie.spec read-requires capcode-told-requires returns)

@@ -1,4 +1,6 @@
 -- `mortisevane_frames_listened` meets its contract: what the core answers, told.
+use mathlib.Core.Path.{ap, _∙_}
+use Rattle.host_frames.specs.Flat.{framesFrom}
 use borrow.Author.Needs.{needs}
 use Rattle.host_frames.proofs.mortisevane_frames_listened.Statement.{statement}
 use Rattle.host_frames.proofs.mortisevane_frames_listened.Tie as tie
@@ -10,7 +12,7 @@ frames-told-requires : tie.Need-frames-told-requires
 frames-told-requires c κs = search needs
 
 returns : tie.Need-returns
-returns c = cc
+returns c = c .frames-told .ensures ∙ ap framesFrom (c .before .listen .ensures)
 
 pub mortisevane-frames-listened-spec : {M : Type 1} → statement M
 mortisevane-frames-listened-spec =

@@ -5,7 +5,8 @@ use mathlib.Core.Path.{_≡_, refl, sym}
 use native.Mathlib.Omega.{arith}
 use lib.ListN.{length, take, length-take}
 use borrow.Author.Needs.{needs}
-use Rattle.lister.proofs.Writes.{wrote-none, room-there, answered-same, closes-none, closes-some}
+use Rattle.opening.proofs.Writes.{room-there}
+use Rattle.lister.proofs.Writes.{wrote-none, answered-same, closes-none, closes-some}
 use Rattle.lister.proofs.close.Statement.{statement}
 use Rattle.lister.proofs.close.Tie as tie
 

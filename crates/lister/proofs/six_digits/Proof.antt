@@ -1,4 +1,5 @@
 -- `six_digits` meets its contract: each digit is one of the six.
+use mathlib.Core.Path.{refl}
 use borrow.Author.Needs.{needs}
 use Rattle.lister.proofs.six_digits.Statement.{statement}
 use Rattle.lister.proofs.six_digits.Tie as tie
@@ -22,7 +23,13 @@ hex-digit-requires-6 : tie.Need-hex-digit-requires-6
 hex-digit-requires-6 c κs = search needs
 
 returns : tie.Need-returns
-returns c = cc
+returns c =
+    let d = c .before in
+    let e = d .before in
+    let f = e .before in
+    let g = f .before in
+    let h = g .before in
+    rw (c .hex-digit6 .ensures, d .hex-digit5 .ensures, e .hex-digit4 .ensures, f .hex-digit3 .ensures, g .hex-digit2 .ensures, h .hex-digit .ensures) refl
 
 pub six-digits-spec : {M : Type 1} → statement M
 six-digits-spec =

@@ -5,10 +5,11 @@ use native.Mathlib.Omega.{arith}
 use lib.ListN.{take, length-append}
 use lib.Seq.{length-take-le}
 use borrow.Author.Needs.{needs}
+use Rattle.opening.proofs.Writes.{room-lacks, room-there}
 use Rattle.lister.specs.Portions.{heldShown}
 use Rattle.lister.specs.Lines.{verdictOf}
 use Rattle.lister.proofs.Lengths.{end-short}
-use Rattle.lister.proofs.Writes.{held-length, wrote-same, wrote-then, wrote-start, room-lacks, room-there}
+use Rattle.lister.proofs.Writes.{held-length, wrote-same, wrote-then, wrote-start}
 use Rattle.lister.proofs.write_last.Statement.{statement}
 use Rattle.lister.proofs.write_last.Tie as tie
 

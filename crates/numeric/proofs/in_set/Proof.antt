@@ -3,8 +3,8 @@ use Prim.Native.Nat.{_-_}
 use mathlib.Core.Path.{_≡_, refl, _∙_}
 use native.Mathlib.Omega.{arith}
 use lib.ListN.{length, drop}
+use Rattle.laws.proofs.Rows.{passes, fails, all-asked}
 use Rattle.numeric.specs.Pages.{standardSet, inSet}
-use Rattle.numeric.proofs.Asking.{passes, fails, all-asked}
 use Rattle.numeric.proofs.Codes.{in-place, in-no-place}
 use borrow.Author.Needs.{needs}
 use Rattle.numeric.proofs.in_set.Statement.{statement}

@@ -4,7 +4,8 @@ use mathlib.Core.Path.{_≡_, sym, _∙_}
 use native.Mathlib.Omega.{arith}
 use borrow.Author.Tests.{lt-ltb, le-ltb, not-true, not-false}
 use lib.ListN.{length}
-use Rattle.numeric.specs.Pages.{roomOf, isNumbered, vectorFits, isSize, undamaged, checked}
+use Rattle.sums.specs.Words.{undamaged}
+use Rattle.numeric.specs.Pages.{roomOf, isNumbered, vectorFits, isSize, checked}
 use Rattle.numeric.specs.Answers.{readOf}
 use Rattle.numeric.proofs.Readable.{check-limit, size-limits}
 use borrow.Author.Needs.{needs}

@@ -1,4 +1,5 @@
 -- `finished` meets its contract: number and bits are told by the same test.
+use mathlib.Core.Path.{refl}
 use Rattle.packet.specs.Fields.{builtOf}
 use borrow.Author.Needs.{needs}
 use Rattle.packet.proofs.finished.Statement.{statement}
@@ -12,7 +13,7 @@ kept-requires c κs = search needs
 
 returns : tie.Need-returns
 unfolding builtOf
-returns c = cc
+returns c = rw (c .kept .ensures, c .before .unless .ensures) refl
 
 pub finished-spec : {M : Type 1} → statement M
 finished-spec = tie.close (tie.spec unless-requires kept-requires returns)
