@@ -57,7 +57,7 @@ fn is_size(words: usize) -> bool
 fn is_text(character: u8) -> bool
     ensures { λ r. ⌜ r ≡ isText character ⌝ }
 {
-    (character < 0x80) & (character != 0x03)
+    ((character as u32) < CELL_LIMIT) & (character as u32 != ETX)
 }
 
 // 01's table, 18: whether every character can stand in a text.
@@ -120,7 +120,7 @@ fn signature_of(text: &[u8]) -> u32
     ensures small { λ r. ⌜ r < 128 ⌝ }
 {
     let fill = 2 - text.len() % 3;
-    (sums::signature(text) + 128 - ETX * fill as u32) % CELL_LIMIT
+    (sums::signature(text) + CELL_LIMIT - ETX * fill as u32) % CELL_LIMIT
 }
 
 // The cell at a place of the message: the signature, then the text, then fill.
@@ -150,7 +150,7 @@ fn word_at(text: &[u8], signature: u32, place: usize) -> u32
     let first = cell_at(text, signature, place);
     let second = cell_at(text, signature, place + 1);
     let third = cell_at(text, signature, place + 2);
-    first + 128 * (second + 128 * third)
+    first + CELL_LIMIT * (second + CELL_LIMIT * third)
 }
 
 // F of the fragment at a place: 3, then 0, 1, 2, 0 and so on.

@@ -13,6 +13,7 @@ ghost use Rattle.message.specs.Fragments.{isSize, cellsIn, isFirst, withoutFill
 ghost use Rattle.fragment.specs.Pieces.{unsigned, textFrom};
 ghost use Rattle.message.specs.Answers.{headingTold, headingOf, readOf, readAfter, textOf, textAfter};
 ghost use Rattle.fragment.specs.Answers.{asFragment, asText};
+use message::CELL_LIMIT;
 use message::ETX;
 use message::FEWEST_WORDS;
 use message::MOST_WORDS;
@@ -70,9 +71,9 @@ fn is_first(head: u32) -> bool
 fn count_in(word: u32) -> usize
     ensures { λ r. ⌜ r ≡ length (withoutFill (cellsIn word)) ⌝ }
 {
-    (word % 128 != ETX) as usize
-        + ((word >> 7) % 128 != ETX) as usize
-        + ((word >> 14) % 128 != ETX) as usize
+    (word % CELL_LIMIT != ETX) as usize
+        + ((word >> 7) % CELL_LIMIT != ETX) as usize
+        + ((word >> 14) % CELL_LIMIT != ETX) as usize
 }
 
 // A word's three cells added.
@@ -80,7 +81,7 @@ fn sum_in(word: u32) -> u32
     ensures sum { λ r. ⌜ r ≡ sumBy whole (cellsIn word) ⌝ }
     ensures small { λ r. ⌜ r ≤ 381 ⌝ }
 {
-    word % 128 + (word >> 7) % 128 + (word >> 14) % 128
+    word % CELL_LIMIT + (word >> 7) % CELL_LIMIT + (word >> 14) % CELL_LIMIT
 }
 
 // A second word with the signature of a first fragment taken as fill, so that it is no text.
@@ -88,7 +89,7 @@ fn unsigned(first: bool, word: u32) -> u32
     ensures { λ r. ⌜ r ≡ unsigned first word ⌝ }
 {
     if first {
-        return word / 128 * 128 + ETX;
+        return word / CELL_LIMIT * CELL_LIMIT + ETX;
     }
     word
 }
@@ -113,7 +114,7 @@ fn sum(words: &[u32]) -> u32
     let mut sum: u32 = 0;
     let mut i: usize = 1;
     while i < words.len() {
-        sum = (sum + sum_in(words[i])) % 128;
+        sum = (sum + sum_in(words[i])) % CELL_LIMIT;
         i += 1;
     }
     sum
@@ -140,7 +141,7 @@ fn heading_of(words: &[u32]) -> FragmentRead
         message_number: (head >> 13) % 64,
         retrieval: kept(first, (head >> 19) % 2),
         mail_drop: kept(first, (head >> 20) % 2),
-        signature: kept(first, words[1] % 128),
+        signature: kept(first, words[1] % CELL_LIMIT),
         sum: sum(words),
         characters: count(unsigned(first, words[1]), words),
     }
@@ -182,9 +183,9 @@ fn write_word(word: u32, text: &mut [u8], at: usize) -> usize
     ensures next { λ r. ⌜ r ≡ at + length (withoutFill (cellsIn word)) ⌝ }
     ensures buffer { λ r. ⌜ now (text .exit) ≡ put (now (text .entry)) at (withoutFill (cellsIn word)) ⌝ }
 {
-    let second = write_cell(word % 128, text, at);
-    let third = write_cell((word >> 7) % 128, text, second);
-    write_cell((word >> 14) % 128, text, third)
+    let second = write_cell(word % CELL_LIMIT, text, at);
+    let third = write_cell((word >> 7) % CELL_LIMIT, text, second);
+    write_cell((word >> 14) % CELL_LIMIT, text, third)
 }
 
 // The text that a second word begins, where there is room for it; how many characters.
