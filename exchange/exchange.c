@@ -71,6 +71,22 @@
  *                        text, a row of bytes; the lent row of words. The answer:
  *                        number, count of fragments, count of words, the lent row
  *
+ * Chains are their eight records; a record is whether it is open, address, message
+ * number, next fragment, sum, and a u64, the count of characters. Their lent buffer
+ * is kept from one request to the next, so that it need not come with each. A part
+ * is the place of its first byte in that buffer and its length; the answer ends with
+ * the part as it stands after. No other request of chains comes before the first 47.
+ *
+ *  47  chains_fresh      the buffer that is lent from now on: its length, at most
+ *                        16384, and what stands in it before. The answer: the
+ *                        chains
+ *  48  chain_step        the chains; how many of the buffer's bytes are lent; address;
+ *                        a row of words; a part. The answer: number, lost, begun,
+ *                        retrieval, mail drop, complete, u64 slot, u64 place, count
+ *                        of characters, the chains, the part
+ *  49  chain_drop        the chains; address, message number; a part. The answer:
+ *                        number, the chains, the part
+ *
  * Requests may be sent without waiting for answers. All answers so far are
  * written out before the program waits for more requests. The end of input
  * between two requests ends the program with status 0; a request that is cut,
@@ -424,6 +440,52 @@ struct fragment_read mortisevane_fragment_read(const uint32_t *words, size_t wor
 struct text_cut mortisevane_text_cut(const uint8_t *text, size_t text_length, struct marks marks,
                                      size_t largest, uint32_t *words, size_t words_length);
 
+/* ---- The exports of libhost_chain.a ---- */
+
+enum { CHAINS = 8 };
+
+struct chain {
+    uint32_t is_open;
+    uint32_t address;
+    uint32_t message_number;
+    uint32_t next_fragment;
+    uint32_t sum;
+    size_t characters;
+};
+
+struct chains {
+    struct chain slots[CHAINS];
+};
+
+struct chain_answer {
+    uint32_t number;
+    uint32_t lost;
+    uint32_t begun;
+    uint32_t retrieval;
+    uint32_t mail_drop;
+    uint32_t complete;
+    size_t slot;
+    size_t place;
+    size_t characters;
+};
+
+struct chain_step {
+    struct chain_answer answer;
+    struct chains chains;
+};
+
+struct chain_drop {
+    uint32_t number;
+    struct chains chains;
+};
+
+struct chains mortisevane_chains_fresh(void);
+struct chain_step mortisevane_chain_step(struct chains chains, uint8_t *buffer,
+                                         size_t buffer_length, uint32_t address,
+                                         const uint32_t *words, size_t words_length);
+struct chain_drop mortisevane_chain_drop(struct chains chains, uint32_t address,
+                                         uint32_t message_number);
+
 /* ---- What a compiler may call by itself, and no C library is here to give ---- */
 
 void *memcpy(void *restrict to, const void *restrict from, size_t length)
@@ -555,9 +617,19 @@ static uint8_t take_u8(void)
     return input[input_taken++];
 }
 
-static uint64_t take_number(size_t bytes)
+/*
+ * A number that lies in one piece is taken or given at once, since there are many
+ * and each step counts where the program is emulated. Its bytes are in the same
+ * order in memory.
+ */
+static inline uint64_t take_number(size_t bytes)
 {
     uint64_t number = 0;
+    if (input_length - input_taken >= bytes) {
+        __builtin_memcpy(&number, input + input_taken, bytes);
+        input_taken += bytes;
+        return number;
+    }
     for (size_t place = 0; place < bytes; place++)
         number |= (uint64_t)take_u8() << (8 * place);
     return number;
@@ -588,8 +660,13 @@ static void give_u8(uint8_t byte)
     output[output_length++] = byte;
 }
 
-static void give_number(uint64_t number, size_t bytes)
+static inline void give_number(uint64_t number, size_t bytes)
 {
+    if (PIECE - output_length >= bytes) {
+        __builtin_memcpy(output + output_length, &number, bytes);
+        output_length += bytes;
+        return;
+    }
     for (size_t place = 0; place < bytes; place++)
         give_u8((uint8_t)(number >> (8 * place)));
 }
@@ -993,6 +1070,107 @@ static void serve_text_cut(void)
     give_lent(&lent_for_writing);
 }
 
+/* ---- Chains, and the buffer that is lent to them ---- */
+
+static struct lent chain_buffer;
+
+/* Which bytes of the buffer an answer ends with. */
+struct part {
+    uint32_t from;
+    uint32_t length;
+};
+
+static struct part take_part(void)
+{
+    struct part part;
+    take_numbers(&part, sizeof part);
+    if (part.from > chain_buffer.length || part.length > chain_buffer.length - part.from)
+        fail("exchange: a request asks for what is not in the buffer\n");
+    return part;
+}
+
+static void give_part(struct part part)
+{
+    const uint8_t *buffer = row_of(&chain_buffer);
+    give_bytes(buffer + part.from, part.length);
+}
+
+static struct chains take_chains(void)
+{
+    struct chains chains;
+    for (size_t slot = 0; slot < CHAINS; slot++) {
+        struct chain *chain = &chains.slots[slot];
+        chain->is_open = take_u32();
+        chain->address = take_u32();
+        chain->message_number = take_u32();
+        chain->next_fragment = take_u32();
+        chain->sum = take_u32();
+        chain->characters = take_u64();
+    }
+    return chains;
+}
+
+static void give_chains(const struct chains *chains)
+{
+    for (size_t slot = 0; slot < CHAINS; slot++) {
+        const struct chain *chain = &chains->slots[slot];
+        give_u32(chain->is_open);
+        give_u32(chain->address);
+        give_u32(chain->message_number);
+        give_u32(chain->next_fragment);
+        give_u32(chain->sum);
+        give_u64(chain->characters);
+    }
+}
+
+static void serve_chains_fresh(void)
+{
+    uint32_t length = take_u32();
+    if (length > LONGEST_LENT)
+        fail("exchange: a request has a longer buffer than can be lent\n");
+    take_lent(&chain_buffer, length);
+    struct chains chains = mortisevane_chains_fresh();
+    give_chains(&chains);
+}
+
+static void serve_chain_step(void)
+{
+    struct chains chains = take_chains();
+    uint32_t lent = take_u32();
+    if (lent > chain_buffer.length)
+        fail("exchange: a request lends more than is in the buffer\n");
+    uint32_t address = take_u32();
+    size_t words = take_row(&lent_for_reading, sizeof(uint32_t));
+    struct part part = take_part();
+    struct chain_step step = mortisevane_chain_step(chains, row_of(&chain_buffer), lent, address,
+                                                    row_of(&lent_for_reading), words);
+    check_read(&lent_for_reading);
+    check_guards(&chain_buffer);
+    give_u32(step.answer.number);
+    give_u32(step.answer.lost);
+    give_u32(step.answer.begun);
+    give_u32(step.answer.retrieval);
+    give_u32(step.answer.mail_drop);
+    give_u32(step.answer.complete);
+    give_u64(step.answer.slot);
+    give_u64(step.answer.place);
+    give_u64(step.answer.characters);
+    give_chains(&step.chains);
+    give_part(part);
+}
+
+static void serve_chain_drop(void)
+{
+    struct chains chains = take_chains();
+    uint32_t address = take_u32();
+    uint32_t message_number = take_u32();
+    struct part part = take_part();
+    struct chain_drop drop = mortisevane_chain_drop(chains, address, message_number);
+    give_u32(drop.number);
+    give_chains(&drop.chains);
+    give_part(part);
+}
+
 /* ---- Which byte names which export ---- */
 
 static void (*const exports[])(void) = {
@@ -1042,6 +1220,9 @@ static void (*const exports[])(void) = {
     [44] = serve_fragment_heading,
     [45] = serve_fragment_read,
     [46] = serve_text_cut,
+    [47] = serve_chains_fresh,
+    [48] = serve_chain_step,
+    [49] = serve_chain_drop,
 };
 
 static void serve_request(uint8_t export)

@@ -1,13 +1,12 @@
 -- A fragment written word by word, and fragments one behind the other.
 use Prim.Native.Nat.{ℕ, zero, suc, _+_, _-_, _*_, _≤_, _<_, min}
 use mathlib.Core.Bool.{Bool, true}
-use mathlib.Core.List.{List, [], _∷_, _++_, append-nil, append-assoc, flatten}
+use mathlib.Core.List.{List, [], _∷_, _++_, append-nil, flatten}
 use mathlib.Core.Logic.{⊎-elim}
 use mathlib.Core.Path.{_≡_, refl, sym, ap, _∙_}
 use native.Mathlib.Nat.{div-le-self, mul-le-mul-left, eq-or-lt-of-le}
 use native.Mathlib.Numerals.{add-one}
 use native.Mathlib.Omega.{arith}
-use borrow.Rule.Slice.PartMut.{putMid, post-is}
 use lib.ListN.{length, getD, take, drop, set, length-take, length-drop, drop-of-length-le}
 use lib.Seq.{length-take-le}
 use Rattle.laws.specs.Layouts.{fit, packed}
@@ -128,12 +127,6 @@ module _ (largest : ℕ) (text : List ℕ) (place : ℕ) (two : 2 ≤ largest) (
   cells-taken =
       let row = drop (cellsFor largest * place) (messageOf text) in
       ap (λ (n : ℕ). take n row) (sym (cells-at-length largest text place) ∙ length-take (cellsFor largest) row) ∙ take-min (cellsFor largest) row
-
--- a part of a row, whose words are put back, is what was put at its place
-pub part-put : (words part : List ℕ) (start end : ℕ) → start ≤ end → end ≤ length words → length part ≡ end - start → putMid start (end - start) words part ≡ put words start part
-part-put words part start end before within same =
-    let behind : start + length part ≡ end = omega arith in
-    rw behind (ap (λ (rest : List ℕ). take start words ++ (part ++ rest)) (post-is start end words before) ∙ sym (append-assoc (take start words) part (drop end words)))
 
 module _ (marks : Marks) (largest : ℕ) (text : List ℕ) (two : 2 ≤ largest) where
   -- a fragment ends within the row

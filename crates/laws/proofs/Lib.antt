@@ -3,7 +3,9 @@ pub mod Counting
 pub mod LayoutExamples
 pub mod Layouts
 pub mod Numerals
+pub mod Parts
 pub mod Rows
+pub mod Searches
 pub mod Tests
 pub mod Writing
 pub mod Xor

@@ -10,8 +10,8 @@ use borrow.Author.Tests.{eqb-true}
 use lib.Dec.{eqb}
 use lib.ListN.{length, getD, take, drop, replicate, drop-of-length-le, take-append-drop}
 use lib.Seq.{take-add, drop-cons, drop-drop}
-use Rattle.laws.specs.Choice.{pick}
 use Rattle.laws.specs.Lists.{placeIn, all, sumBy}
+use Rattle.laws.proofs.Searches.{first-passes}
 
 -- all of what is joined pass a test if all of both rows do
 pub all-append : (test : ℕ → Bool) (xs ys : List ℕ) → all test (xs ++ ys) ≡ (all test xs && all test ys)
@@ -84,13 +84,7 @@ map-at rule (x ∷ row) (suc k) h = map-at rule row k (omega arith)
 -- what was found stands at its place
 pub place-found : (row : List ℕ) (n : ℕ) → placeIn row n < length row → getD row (placeIn row n) 0 ≡ n
 unfolding placeIn
-place-found [] n h = absurd (omega arith)
-place-found (x ∷ row) n h = by-test (eqb n x) refl (λ l. place-found row n l) h
-  where
-    by-test : (same : Bool) → eqb n x ≡ same → (placeIn row n < length row → getD row (placeIn row n) 0 ≡ n)
-        → pick same 0 (suc (placeIn row n)) < suc (length row) → getD (x ∷ row) (pick same 0 (suc (placeIn row n))) 0 ≡ n
-    by-test true e rest l = sym (eqb-true n x e)
-    by-test false e rest l = rest (omega arith)
+place-found row n h = sym (eqb-true n (getD row (placeIn row n) 0) (first-passes (eqb n) row 0 h))
 
 -- a sum from a place on: the number there, and the sum behind it
 pub sum-from : (rule : ℕ → ℕ) (row : List ℕ) (k : ℕ) → k < length row → sumBy rule (drop k row) ≡ rule (getD row k 0) + sumBy rule (drop (suc k) row)

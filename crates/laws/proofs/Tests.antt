@@ -1,7 +1,16 @@
 -- Tests joined by and, and by or: what one of them says of the others.
-use mathlib.Core.Bool.{Bool, true, false, _&&_, _||_}
-use mathlib.Core.Path.{_≡_, refl, sym}
+use mathlib.Core.Bool.{Bool, true, false, _&&_, _||_, true≢false}
+use mathlib.Core.Path.{_≡_, refl, sym, _∙_}
 use mathlib.Core.Logic.{_⊎_, inl, inr}
+
+-- a test holds or does not
+pub decided : (test : Bool) → (test ≡ true) ⊎ (test ≡ false)
+decided true = inl refl
+decided false = inr refl
+
+-- no test does both
+pub not-both : (test : Bool) → test ≡ true → test ≡ false → ⊥
+not-both test holds fails = true≢false (sym holds ∙ fails)
 
 -- of two tests that both hold, the first holds
 pub first-of : (a b : Bool) → (a && b) ≡ true → a ≡ true
@@ -13,6 +22,14 @@ pub second-of : (a b : Bool) → (a && b) ≡ true → b ≡ true
 second-of true b e = e
 second-of false true e = refl
 second-of false false e = e
+
+-- of five tests that all hold, each
+pub each-of-five : (a b c d e : Bool) → (a && b && c && d && e) ≡ true → (a ≡ true) × (b ≡ true) × (c ≡ true) × (d ≡ true) × (e ≡ true)
+each-of-five a b c d e all =
+    let four = first-of (a && b && c && d) e all in
+    let three = first-of (a && b && c) d four in
+    let two = first-of (a && b) c three in
+    (first-of a b two, second-of a b two, second-of (a && b) c three, second-of (a && b && c) d four, second-of (a && b && c && d) e all)
 
 -- of two tests of which one holds, the second if the first does not
 pub other-of : (a b : Bool) → (a || b) ≡ true → a ≡ false → b ≡ true

@@ -1,12 +1,12 @@
 -- Texts put into a buffer one after the other, from the front or from the back, and the first part of what is joined.
-use Prim.Native.Nat.{ℕ, zero, suc, _+_, _≤_, _<_}
+use Prim.Native.Nat.{ℕ, zero, suc, _+_, _-_, _≤_, _<_}
 use mathlib.Core.Path.{_≡_, refl, sym, ap, _∙_}
 use mathlib.Core.List.{List, [], _∷_, _++_, append-assoc, append-nil}
 use native.Mathlib.Nat.{add-zero, add-assoc}
 use native.Mathlib.Numerals.{add-one}
 use native.Mathlib.Omega.{arith}
 use lib.ListN.{length, take, drop, set, length-append, take-append-drop, length-drop}
-use lib.Seq.{length-take-le, take-at, drop-at, take-take, drop-drop, take-append-le, drop-append-le, drop-append-add, set-split, append-snoc}
+use lib.Seq.{length-take-le, take-all, take-add, take-at, drop-at, take-take, drop-drop, take-append-le, drop-append-le, drop-append-add, set-split, append-snoc}
 use Rattle.laws.specs.Lists.{put}
 
 module _ {ℓ} {A : Type ℓ} where
@@ -74,3 +74,41 @@ module _ {ℓ} {A : Type ℓ} where
   pub part-joined : (n place : ℕ) (xs ys : List A) → place + n ≤ length xs → take n (drop place (xs ++ ys)) ≡ take n (drop place xs)
   part-joined n place xs ys within =
       rw (drop-append-le place xs ys (omega arith)) (take-append-le n (drop place xs) ys (simp length-drop (omega arith)))
+
+  -- what was put leaves what stands before it
+  pub put-keeps-before : (buffer xs : List A) (place n from : ℕ) → from + n ≤ place → place ≤ length buffer → take n (drop from (put buffer place xs)) ≡ take n (drop from buffer)
+  put-keeps-before buffer xs place n from before within =
+      let here : length (take place buffer) ≡ place = length-take-le place buffer within in
+      let back = drop (place + length xs) buffer in
+      rw (append-assoc (take place buffer) xs back)
+      (part-joined n from (take place buffer) (xs ++ back) (omega arith)
+      ∙ sym (part-joined n from (take place buffer) (drop place buffer) (omega arith))
+      ∙ rw (take-append-drop place buffer))
+
+  -- .. and all that stands behind it
+  pub put-keeps-behind : (buffer xs : List A) (place from : ℕ) → place + length xs ≤ from → place ≤ length buffer → drop from (put buffer place xs) ≡ drop from buffer
+  put-keeps-behind buffer xs place from behind within =
+      let front = take place buffer ++ xs in
+      let here : length front ≡ place + length xs =
+      length-append (take place buffer) xs ∙ ap (λ (n : ℕ). n + length xs) (length-take-le place buffer within) in
+      let apart : from ≡ length front + (from - (place + length xs)) = omega arith in
+      let again : place + length xs + (from - (place + length xs)) ≡ from = omega arith in
+      ap (λ (n : ℕ). drop n (put buffer place xs)) apart
+      ∙ drop-append-add front (drop (place + length xs) buffer) (from - (place + length xs))
+      ∙ drop-drop (from - (place + length xs)) (place + length xs) buffer
+      ∙ rw again
+
+  -- so many from a place on, of the first up to their end
+  pub take-from : (buffer : List A) (place n : ℕ) → place ≤ length buffer → drop place (take (place + n) buffer) ≡ take n (drop place buffer)
+  take-from buffer place n within =
+      rw (take-add place n buffer) (drop-at (take place buffer) (take n (drop place buffer)) place (length-take-le place buffer within))
+
+  -- a text put behind what stands from a place on: from there on it is what stood there, then the text
+  pub put-grows : (buffer xs : List A) (place n : ℕ) → place + n ≤ length buffer → take (n + length xs) (drop place (put buffer (place + n) xs)) ≡ take n (drop place buffer) ++ xs
+  put-grows buffer xs place n within =
+      let front : length (take (place + n) buffer) ≡ place + n = length-take-le (place + n) buffer within in
+      let long : length (take (place + n) buffer ++ xs) ≡ place + n + length xs = length-append (take (place + n) buffer) xs ∙ ap (λ (k : ℕ). k + length xs) front in
+      let some : length (take n (drop place buffer)) ≡ n = length-take-le n (drop place buffer) (simp length-drop (omega arith)) in
+      part-joined (n + length xs) place (take (place + n) buffer ++ xs) (drop (place + n + length xs) buffer) (omega arith)
+      ∙ rw (drop-append-le place (take (place + n) buffer) xs (omega arith), take-from buffer place n (omega arith))
+      (take-all (n + length xs) (take n (drop place buffer) ++ xs) (simp length-append (omega arith)))

@@ -10,10 +10,15 @@ use Rattle.laws.specs.Choice.{pick}
 abbrev pub put {ℓ} : {A : Type ℓ} → List A → ℕ → List A → List A
 put buffer place text = take place buffer ++ text ++ drop (place + length text) buffer
 
--- the first place of a number in a row; the row's length where it has no place
+-- the place of the first of a row that passes a test; the row's length where none does
+unfoldable pub firstThat {ℓ} : {A : Type ℓ} → (A → Bool) → List A → ℕ
+firstThat test [] = 0
+firstThat test (x ∷ row) = pick (test x) 0 (suc (firstThat test row))
+
+-- the first place of a number in a row
 unfoldable pub placeIn : List ℕ → ℕ → ℕ
-placeIn [] n = 0
-placeIn (x ∷ row) n = pick (eqb n x) 0 (suc (placeIn row n))
+unfolding firstThat
+placeIn row n = firstThat (eqb n) row
 
 -- whether every number of a row passes a test
 unfoldable pub all : (ℕ → Bool) → List ℕ → Bool

@@ -19,7 +19,7 @@ use Rattle.laws.proofs.Tests.{first-of, second-of}
 use Rattle.sums.specs.Sums.{whole, tenBits}
 use Rattle.sums.specs.Words.{wordBits, undamaged}
 use Rattle.refusal.specs.declared.Refusal.the-variants as refusals
-use Rattle.refusal.specs.Told.{Told, told, given, numberTold, valueTold}
+use Rattle.refusal.specs.Told.{Told, told, given, ask, numberTold, valueTold}
 use Rattle.refusal.proofs.Laws.{passed, plain-ask, Plain}
 use Rattle.message.specs.Fragments.{isSize, firstNumber, headOf, headFor, fragmentWith, fragmentOf, headIn, numbersIn, messageNumberIn, fragmentNumberIn, continuedIn, checkIn, isFirst, mailDropIn, retrievalIn, cellsBehind, withoutFill, textIn, checked}
 use Rattle.message.specs.Answers.{headingTold, whenGood, headingOf, readOf, textOf}
@@ -43,7 +43,7 @@ pub record Good (words : List ℕ) : Type 0 where
 
 module _ (words : List ℕ) where
   -- of a good fragment the questions of every fragment are passed
-  good-passes : (rest : Told) → Good words → whenGood words rest ≡ rest
+  pub good-passes : (rest : Told) → Good words → whenGood words rest ≡ rest
   good-passes rest g = rw (g .size, g .intact, g .sum)
 
   -- .. and one that passes them is good, and so is what follows
@@ -74,6 +74,19 @@ module _ (words : List ℕ) where
   pub heading-plain : (numberTold (headingOf words) ≡ 0 → ⊥) → headingOf words ≡ told (numberTold (headingOf words)) []
   unfolding headingOf
   heading-plain some = ⊎-elim (λ none. absurd (some none)) (λ e. e) (when-plain (headingTold words) (inl refl))
+
+  -- .. whatever follows these questions
+  pub bad-stops : (rest : Told) → (numberTold (headingOf words) ≡ 0 → ⊥) → whenGood words rest ≡ told (numberTold (headingOf words)) []
+  unfolding headingOf
+  bad-stops rest some = by-tests (not (isSize (length words))) (not (undamaged words)) (not (checked words)) some
+    where
+      by-tests : (size damaged sum : Bool)
+          → let asked : Told → Told = λ t. ask size refusals.Size (ask damaged refusals.Damaged (ask sum refusals.Checksum t)) in
+          (numberTold (asked (headingTold words)) ≡ 0 → ⊥) → asked rest ≡ told (numberTold (asked (headingTold words))) []
+      by-tests true damaged sum some = refl
+      by-tests false true sum some = refl
+      by-tests false false true some = refl
+      by-tests false false false some = absurd (some refl)
 
   module _ (lent : ℕ) where
     -- the same of a fragment read with its text, for which there must be room

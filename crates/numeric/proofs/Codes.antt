@@ -1,15 +1,15 @@
 -- The set of characters of Table 39, as it is computed.
-use Prim.Native.Nat.{ℕ, suc, _+_, _-_, _≤_, _<_}
+use Prim.Native.Nat.{ℕ, _+_, _-_, _≤_, _<_}
 use mathlib.Core.Bool.{Bool, true, false, _&&_, _||_}
-use mathlib.Core.List.{List, [], _∷_, map}
+use mathlib.Core.List.{List, map}
 use mathlib.Core.Path.{_≡_, sym, ap, _∙_}
 use native.Mathlib.Omega.{arith}
 use borrow.Author.Tests.{lt-ltb, le-ltb, ne-eqb}
 use lib.Dec.{T, leb, ltb, eqb, eqb→eq}
 use lib.ListN.{length, getD, length-append, length-replicate, length-map, getD-replicate, List·getD-append, List·getD-eq-default}
 use lib.Seq.{getD-append-add}
-use Rattle.laws.specs.Choice.{pick}
 use Rattle.laws.specs.Lists.{placeIn}
+use Rattle.laws.proofs.Searches.{first-most}
 use Rattle.laws.proofs.Counting.{allBelow, of-all-below}
 use Rattle.laws.proofs.Rows.{map-at}
 use Rattle.numeric.specs.Pages.{standardSet, spaced}
@@ -48,20 +48,10 @@ no-code n small other ((((((_, a), b), c), d), e), f) =
     (rw (other, ne-eqb n 63 a, ne-eqb n 85 b, ne-eqb n 32 c, ne-eqb n 45 d, ne-eqb n 93 e, ne-eqb n 91 f) at
     (of-all-below (λ n. isDigit n || isOther n) 256 each-byte n small))
 
--- a place in a row is at most the row's length
-place-most : (row : List ℕ) (n : ℕ) → placeIn row n ≤ length row
-unfolding placeIn
-place-most [] n = omega arith
-place-most (x ∷ row) n = by-test (eqb n x) (place-most row n)
-  where
-    by-test : (same : Bool) → placeIn row n ≤ length row → pick same 0 (suc (placeIn row n)) ≤ suc (length row)
-    by-test true rest = omega arith
-    by-test false rest = omega arith
-
--- .. so that a code is at most 16
+-- a code is at most 16
 pub code-most : (n : ℕ) → placeIn standardSet n ≤ 16
-unfolding standardSet
-code-most n = place-most standardSet n
+unfolding standardSet placeIn
+code-most n = first-most (eqb n) standardSet
 
 -- a code below 16 is in the set
 pub in-place : (n code : ℕ) → code ≡ placeIn standardSet n → code ≤ 15 → ltb (placeIn standardSet n) (length standardSet) ≡ true

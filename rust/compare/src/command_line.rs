@@ -9,6 +9,7 @@ pub const USAGE: &str = "usage: compare exports EXCHANGE_COMMAND.. [--seed NUMBE
        compare packets EXCHANGE_COMMAND.. [--seed NUMBER] [--full]
        compare pages EXCHANGE_COMMAND.. [--seed NUMBER]
        compare fragments EXCHANGE_COMMAND.. [--seed NUMBER]
+       compare chains EXCHANGE_COMMAND.. [--seed NUMBER]
        compare start-up FILE EXCHANGE_COMMAND..
        compare lines LISTING_COMMAND.. [--count NUMBER] [--seed NUMBER]
        compare edges LISTING_COMMAND..
@@ -35,6 +36,10 @@ pub enum Task {
         seed: u64,
     },
     Fragments {
+        exchange: Vec<String>,
+        seed: u64,
+    },
+    Chains {
         exchange: Vec<String>,
         seed: u64,
     },
@@ -77,6 +82,10 @@ pub fn read(words: &[String]) -> Option<Task> {
         "fragments" => {
             let (exchange, seed) = command_and_seed(rest)?;
             Some(Task::Fragments { exchange, seed })
+        }
+        "chains" => {
+            let (exchange, seed) = command_and_seed(rest)?;
+            Some(Task::Chains { exchange, seed })
         }
         "start-up" => read_start_up(rest),
         "lines" => read_lines(rest),
@@ -196,7 +205,7 @@ mod tests {
     }
 
     #[test]
-    fn pages_and_fragments_may_have_a_seed() {
+    fn pages_fragments_and_chains_may_have_a_seed() {
         for (options, seed) in [("", DEFAULT_SEED), (" --seed 7", 7)] {
             let exchange = words("run exchange");
             let task = Task::Pages { exchange, seed };
@@ -205,6 +214,10 @@ mod tests {
             let exchange = words("run exchange");
             let task = Task::Fragments { exchange, seed };
             let line = format!("fragments run exchange{options}");
+            assert_eq!(read(&words(&line)), Some(task), "{line}");
+            let exchange = words("run exchange");
+            let task = Task::Chains { exchange, seed };
+            let line = format!("chains run exchange{options}");
             assert_eq!(read(&words(&line)), Some(task), "{line}");
         }
     }
@@ -255,6 +268,9 @@ mod tests {
             "fragments",
             "fragments --seed 1",
             "fragments run --seed",
+            "chains",
+            "chains --seed 1",
+            "chains run --seed",
             "start-up",
             "start-up table.md",
             "lines --count 5",

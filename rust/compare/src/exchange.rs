@@ -27,6 +27,12 @@ pub trait Request: Send {
     const EXPORT: u8;
     type Answer: PartialEq + Debug;
 
+    /// The same byte; only where one row of requests goes to several exports has
+    /// each request its own.
+    fn export(&self) -> u8 {
+        Self::EXPORT
+    }
+
     /// Adds the arguments, each little-endian, in their order.
     fn arguments(&self, bytes: &mut Vec<u8>);
     /// Takes the library's answer, field by field.
@@ -196,7 +202,7 @@ fn ask<R: Request>(
         let piece: Vec<R> = requests.by_ref().take(REQUESTS_IN_PIECE).collect();
         bytes.clear();
         for request in &piece {
-            bytes.push(R::EXPORT);
+            bytes.push(request.export());
             request.arguments(&mut bytes);
         }
         if piece.is_empty() || sender.send(piece).is_err() || stdin.write_all(&bytes).is_err() {

@@ -5,6 +5,7 @@
 use std::fmt::{self, Debug, Formatter};
 use std::io;
 
+use second::chain::{Chains, Key, Record};
 use second::fragment::{FragmentRead, TextCut};
 use second::numbers::Numbers;
 use second::numeric::{PageRead, Written};
@@ -251,4 +252,53 @@ impl<F: ToldOfRow, I: Item> Told<Lent<F, I>> {
             fields: Lent { told, row },
         })
     }
+}
+
+/// What a step of the chains tells. With a refusal `lost` may be told beside the
+/// number.
+#[derive(Clone, Copy, Debug, Default, PartialEq, Eq)]
+pub struct MortisevaneChain {
+    pub number: u32,
+    pub lost: u32,
+    pub begun: u32,
+    pub retrieval: u32,
+    pub mail_drop: u32,
+    pub complete: u32,
+    pub slot: usize,
+    pub place: usize,
+    pub characters: usize,
+}
+
+impl MortisevaneChain {
+    pub fn read(fields: &mut Fields) -> io::Result<Self> {
+        Ok(MortisevaneChain {
+            number: fields.u32()?,
+            lost: fields.u32()?,
+            begun: fields.u32()?,
+            retrieval: fields.u32()?,
+            mail_drop: fields.u32()?,
+            complete: fields.u32()?,
+            slot: fields.count()?,
+            place: fields.count()?,
+            characters: fields.count()?,
+        })
+    }
+}
+
+/// The records of all chains.
+pub fn read_chains(fields: &mut Fields) -> io::Result<Chains> {
+    let mut chains = Chains::default();
+    for record in &mut chains.slots {
+        *record = Record {
+            is_open: fields.u32()?,
+            key: Key {
+                address: fields.u32()?,
+                message_number: fields.u32()?,
+            },
+            next_fragment: fields.u32()?,
+            sum: fields.u32()?,
+            characters: fields.count()?,
+        };
+    }
+    Ok(chains)
 }

@@ -2,6 +2,7 @@
 //! second program. The first difference ends the run with exit code 1.
 
 mod boundaries;
+mod chains;
 mod child;
 mod command_line;
 mod edges;
@@ -50,6 +51,7 @@ fn carry_out(task: &Task) -> Result<(), String> {
         } => packets::compare(exchange, *seed, *extent)?,
         Task::Pages { exchange, seed } => pages::compare(exchange, *seed)?,
         Task::Fragments { exchange, seed } => fragments::compare(exchange, *seed)?,
+        Task::Chains { exchange, seed } => chains::compare(exchange, *seed)?,
         Task::StartUp { file, exchange } => start_up::compare(file, exchange)?,
         Task::Lines {
             listing,

@@ -16,6 +16,18 @@ pub struct Tally {
 }
 
 impl Tally {
+    pub fn new(export: impl Into<String>) -> Tally {
+        Tally {
+            export: export.into(),
+            outcomes: BTreeMap::new(),
+        }
+    }
+
+    /// One more answer with that number; the word is for what is not refused.
+    pub fn add(&mut self, number: u32, word: &'static str) {
+        *self.outcomes.entry((number, word)).or_default() += 1;
+    }
+
     pub fn compared(&self) -> usize {
         self.outcomes.values().sum()
     }
@@ -121,13 +133,9 @@ fn count<R, F>(
 where
     R: Request<Answer = Told<F>>,
 {
-    let mut tally = Tally {
-        export: export.into(),
-        outcomes: BTreeMap::new(),
-    };
+    let mut tally = Tally::new(export);
     exchange::compare_and_show(exchange, requests, |request, told| {
-        let outcome = (told.number, word(request, told));
-        *tally.outcomes.entry(outcome).or_default() += 1;
+        tally.add(told.number, word(request, told));
     })?;
     if !tally.any_accepted() {
         return Err(format!("{tally}\nnothing but refusals was compared"));

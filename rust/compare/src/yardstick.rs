@@ -2,14 +2,15 @@
 
 use second::address::{self, Words};
 use second::capcode::{self, Capcode};
+use second::chain::{Joined, NotJoined};
 use second::frames::{self, Listener};
 use second::mirror::Mirror;
 use second::refusal::Refusal;
 
 use crate::host::{
-    Lent, MortisevaneAddress, MortisevaneAssignment, MortisevaneCapcode, MortisevaneClass,
-    MortisevaneFrames, MortisevaneLength, MortisevaneListeners, MortisevaneWait, MortisevaneWords,
-    Told,
+    Lent, MortisevaneAddress, MortisevaneAssignment, MortisevaneCapcode, MortisevaneChain,
+    MortisevaneClass, MortisevaneFrames, MortisevaneLength, MortisevaneListeners, MortisevaneWait,
+    MortisevaneWords, Told,
 };
 
 /// An answer of no: its number, and 0 in every other field.
@@ -140,5 +141,42 @@ pub fn told_with_row<F: Default, I>(answer: Result<F, Refusal>, row: Vec<I>) -> 
     Told {
         number,
         fields: Lent { told: fields, row },
+    }
+}
+
+/// The answer of a step of the chains. What is not told is 0.
+pub fn chain_step(answer: Result<Joined, NotJoined>) -> MortisevaneChain {
+    let joined = match answer {
+        Ok(joined) => joined,
+        Err(NotJoined { refusal, lost }) => {
+            return MortisevaneChain {
+                lost: u32::from(lost),
+                ..refused!(MortisevaneChain, refusal)
+            }
+        }
+    };
+    let mut told = MortisevaneChain {
+        lost: u32::from(joined.lost),
+        ..Default::default()
+    };
+    if let Some(begun) = joined.begun {
+        told.begun = 1;
+        told.retrieval = begun.retrieval;
+        told.mail_drop = begun.mail_drop;
+    }
+    if let Some(complete) = joined.complete {
+        told.complete = 1;
+        told.slot = complete.slot;
+        told.place = complete.place;
+        told.characters = complete.characters;
+    }
+    told
+}
+
+/// The answer of a drop, which has a number alone.
+pub fn chain_drop(answer: Result<(), Refusal>) -> MortisevaneChain {
+    MortisevaneChain {
+        number: told(answer).number,
+        ..Default::default()
     }
 }

@@ -35,6 +35,8 @@ pub const ETX: u8 = 0x03;
 /// How many words a fragment has.
 pub const SIZES: RangeInclusive<usize> = 2..=85;
 pub const LONGEST_TEXT: usize = 1_008;
+/// In the largest fragment, where no cell is S: three in each word but the first.
+pub const MOST_CHARACTERS: usize = 252;
 
 numbers! {
     /// What a message has beside its text.
@@ -132,11 +134,37 @@ fn fragments(text: &[u8], marks: u32, largest: usize) -> Vec<Vec<u32>> {
     let last = shares.len() - 1;
     let fragment = |(place, share): (usize, &[u32])| {
         let first_word = first_word(place, place < last, marks);
-        let mut words = [&[first_word], share].concat();
-        words[0] |= sums::ten_bit(&words);
-        words
+        with_check(first_word, share)
     };
     shares.enumerate().map(fragment).collect()
+}
+
+/// A fragment of a first word with K as 0 and of the words behind it.
+fn with_check(first_word: u32, share: &[u32]) -> Vec<u32> {
+    let mut words = [&[first_word], share].concat();
+    words[0] |= sums::ten_bit(&words);
+    words
+}
+
+/// One fragment by itself, whatever its message is: for whoever needs one that no
+/// text is cut into. S stands in front of the characters in a first one, fill
+/// behind them up to the end of the last word. U and V of a later one are set
+/// where R and M are; the sum is what the cells make it.
+pub fn build(heading: &Heading, characters: &[u8]) -> Vec<u32> {
+    let first_word = CONTINUED.put(heading.continued)
+        | FRAGMENT_NUMBER.put(heading.fragment_number)
+        | MESSAGE_NUMBER.put(heading.message_number)
+        | RETRIEVAL.put(heading.retrieval)
+        | MAIL_DROP.put(heading.mail_drop);
+    let mut cells = Vec::new();
+    if heading.fragment_number == FIRST {
+        cells.push(heading.signature as u8);
+    }
+    cells.extend(characters);
+    let words = cells.len().div_ceil(CELLS.len()).max(1);
+    cells.resize(words * CELLS.len(), ETX);
+    let share: Vec<u32> = cells.chunks(CELLS.len()).map(word).collect();
+    with_check(first_word, &share)
 }
 
 /// All words of the message but the fragments' first ones.
@@ -361,6 +389,27 @@ mod tests {
             ..Heading::default()
         };
         assert_eq!(text_of(&ABCD[1]), (heading, b"CD".to_vec()));
+    }
+
+    /// The same one by one, and a later one with nothing but fill, of which a
+    /// fragment has at least a word. With C = 1, F = 2, N = 32, U and V it begins
+    /// 1C1400. K: 00 + 14 + 1C and 83 + C1 + 00 are 30 + 144 = 174, and 3FF - 174
+    /// = 28B.
+    #[test]
+    fn one_by_itself() {
+        let (first, part) = text_of(&ABCD[0]);
+        assert_eq!(build(&first, &part), ABCD[0]);
+        let (second, part) = text_of(&ABCD[1]);
+        assert_eq!(build(&second, &part), ABCD[1]);
+        let heading = Heading {
+            continued: 1,
+            fragment_number: 2,
+            message_number: 32,
+            retrieval: 1,
+            mail_drop: 1,
+            ..Heading::default()
+        };
+        assert_eq!(build(&heading, b""), [0x1C_168B, 0x00_C183]);
     }
 
     /// C and F of eight fragments, 2 and then 3 characters in each.

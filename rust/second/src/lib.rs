@@ -5,6 +5,7 @@
 
 pub mod address;
 pub mod capcode;
+pub mod chain;
 pub mod fragment;
 pub mod frames;
 pub mod heard;

@@ -5,7 +5,8 @@
 pub enum Refusal {
     /// A lent buffer is shorter than the answer needs.
     Room = 1,
-    /// The mirror's register has over 24 bits.
+    /// The mirror's register has over 24 bits; a record of the chains is out of
+    /// its limits, or closed and not all zero, or two open ones have one key.
     State = 2,
     /// A CAPCODE text is not in the form.
     Text = 3,
@@ -27,8 +28,16 @@ pub enum Refusal {
     Damaged = 10,
     /// K differs.
     Checksum = 11,
+    /// No free slot.
+    Full = 12,
+    /// A continuation, or a drop, of a key not open.
+    NoChain = 13,
+    /// F is not the next.
+    OutOfTurn = 14,
     /// A text over the room.
     TooLong = 15,
+    /// The total of a message's last fragment differs.
+    Signature = 16,
     /// A character that is not in the set or is over 7FH, or ETX in a text to
     /// write.
     Character = 18,

@@ -5,12 +5,13 @@ use native.Mathlib.Omega.{arith}
 use lib.Dec.{eqb}
 use lib.ListN.{length, take, drop}
 use borrow.Rule.Slice.PartMut.{midOf, putMid, mid-len, same-len-mid}
+use Rattle.laws.proofs.Parts.{part-put}
 use Rattle.message.specs.Fragments.{fragmentOf}
 use Rattle.message.proofs.Laws.{size-limits}
 use Rattle.cutting.specs.Cutting.{messageOf, wordsFor, headAt, fragmentsFor, fragmentAt}
 use Rattle.cutting.proofs.Counts.{wordsAt, message-length, fragment-length}
 use Rattle.cutting.proofs.Laws.{Cuttable, accepted}
-use Rattle.cutting.proofs.Writing.{starts-within, part-size, cells-within, cells-taken, part-put}
+use Rattle.cutting.proofs.Writing.{starts-within, part-size, cells-within, cells-taken}
 use Rattle.cutting.proofs.write_at.Statement.{statement}
 use Rattle.cutting.proofs.write_at.Tie as tie
 
@@ -131,7 +132,7 @@ returns c =
     let fragment = fragmentAt (start .args .marks) largest (start .args .text .now) (start .args .place) in
     let size : length fragment ≡ at .end-of .result - from = fragment-length largest (start .args .text .now) (start .args .place) (start .args .marks) ∙ omega (arith, ends at .0) in
     ap (putMid from (at .end-of .result - from) (start .args .words .now)) (written (c .before .before))
-    ∙ part-put (start .args .words .now) fragment from (at .end-of .result) (omega (arith, ends at .0)) (ends at .1) size
+    ∙ part-put (start .args .words .now) from (at .end-of .result) (omega (arith, ends at .0)) (ends at .1) fragment size
 
 pub write-at-spec : {M : Type 1} → statement M
 write-at-spec =

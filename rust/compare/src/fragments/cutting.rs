@@ -23,7 +23,7 @@ const LONGER_TEXTS: [usize; 3] = [1_010, 2_016, 4_096];
 /// What 1,008 characters need in fragments of two words: 2 stand in the first
 /// one, 3 in each other.
 const MOST_FRAGMENTS: usize = 337;
-const MOST_WORDS: usize = 674;
+pub const MOST_WORDS: usize = 674;
 
 pub struct Cut {
     text: Vec<u8>,

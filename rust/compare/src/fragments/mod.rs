@@ -1,9 +1,9 @@
 //! Fragments: cutting texts into them and reading them, the exports beside the
 //! second program.
 
-mod cutting;
+pub mod cutting;
 mod reading;
-mod rows;
+pub mod rows;
 
 use crate::tally::Tally;
 

@@ -7,8 +7,8 @@ use crate::random::Random;
 
 use super::cutting::{allowed_size, fitting_marks, seeded_text};
 
-const WORD_BITS: u64 = 21;
-const CELL_BITS: u64 = 7;
+pub const WORD_BITS: u64 = 21;
+pub const CELL_BITS: u64 = 7;
 pub const CELLS_IN_WORD: usize = 3;
 const CHECK_BITS: u64 = 10;
 /// Beyond the largest fragment.
@@ -31,9 +31,9 @@ pub const ANOTHER_CHECK: &str = "another K";
 pub const ANY_WORDS: &str = "any words";
 
 /// Changes a fragment.
-type Damage = fn(&mut Random, &mut Vec<u32>);
+pub type Damage = fn(&mut Random, &mut Vec<u32>);
 
-const DAMAGES: [(&str, Damage); 4] = [
+pub const DAMAGES: [(&str, Damage); 4] = [
     (BIT_TURNED, |random, words| turn_bit(random, words)),
     (OVER_21_BITS, |random, words| set_high_bit(random, words)),
     (WORDS_LOST, lose_words),
@@ -109,7 +109,7 @@ fn any_word(random: &mut Random) -> u32 {
     random.below(1 << WORD_BITS) as u32
 }
 
-fn set_check(words: &mut [u32]) {
+pub fn set_check(words: &mut [u32]) {
     let check = sums::ten_bit(words);
     if let Some(first) = words.first_mut() {
         *first = *first >> CHECK_BITS << CHECK_BITS | check;
@@ -165,7 +165,7 @@ fn change_check(random: &mut Random, words: &mut [u32]) {
 }
 
 /// Every other row has the right K.
-fn any_words(random: &mut Random) -> Vec<u32> {
+pub fn any_words(random: &mut Random) -> Vec<u32> {
     let words = random.between(0, LONGEST_ROW) as usize;
     let mut row = Vec::new();
     match random.below(3) {

@@ -1,0 +1,278 @@
+// Chains of fragments in eight slots (document 01, "A chain is known by .."): the records go in and come back by
+// value, the texts lie in a lent buffer of 8,064 bytes. A fragment is asked after before anything is written, and writes
+// its text once, at its chain's end.
+ghost use mathlib.Core.Path.{_≡_};
+ghost use Prim.Native.Nat.{_+_, _*_, _≤_, _<_};
+ghost use mathlib.Core.Bool.{true};
+ghost use mathlib.Core.List.{[], _∷_};
+ghost use lib.ListN.{length, getD, take, drop, set};
+ghost use Rattle.laws.specs.Choice.{bitOf};
+ghost use Rattle.laws.specs.Lists.{put};
+ghost use Rattle.refusal.specs.Told.{told};
+ghost use Rattle.message.specs.Fragments.{mostCharacters, textIn};
+ghost use Rattle.slots.specs.Chains.{blank, sound, slotCount, fresh};
+ghost use Rattle.slots.specs.Steps.{headingIn};
+ghost use Rattle.slots.specs.Answers.{asAnswer, asStep, asDrop, stepOf, chainsAfter, bufferAfter, dropOf, droppedFrom};
+ghost use Rattle.chain.specs.Pieces.{turnOf, takenOf, joinOf, joinedRow, joinedBytes};
+use fragment::FragmentRead;
+use message::MOST_CHARACTERS;
+use refusal::Refusal;
+use slots::BLANK;
+use slots::Chain;
+use slots::ChainAnswer;
+use slots::ChainDrop;
+use slots::ChainStep;
+use slots::Chains;
+use slots::FIRST_FRAGMENT;
+use slots::LAST_ADDRESS;
+use slots::LAST_MESSAGE;
+use slots::SLOTS;
+
+// Where a fragment goes: the records without the older chain of a first one, the slot, the chain before it, and whether
+// an open chain of its key was found.
+struct Turn {
+    slots: [Chain; SLOTS],
+    slot: usize,
+    chain: Chain,
+    known: bool,
+}
+
+// The state after a reset: no chain is open.
+pub fn fresh() -> Chains
+    ensures { λ r. ⌜ r ≡ record { slots = fresh slotCount } ⌝ }
+{
+    let slots = [BLANK; SLOTS];
+    Chains { slots: slots }
+}
+
+// The records with one of them changed; as they were where there is no such slot.
+fn stored(slots: [Chain; SLOTS], slot: usize, chain: Chain) -> [Chain; SLOTS]
+    ensures { λ r. ⌜ r ≡ set slots slot chain ⌝ }
+{
+    let mut after = slots;
+    if slot < SLOTS {
+        after[slot] = chain;
+    }
+    after
+}
+
+// The record of a slot; that of a closed one where there is no such slot.
+fn record_of(slots: [Chain; SLOTS], slot: usize) -> Chain
+    ensures { λ r. ⌜ r ≡ getD slots slot blank ⌝ }
+{
+    if slot < SLOTS {
+        return slots[slot];
+    }
+    BLANK
+}
+
+// Where a fragment goes. A first one closes an open chain of its key and takes the lowest-numbered free slot, and its
+// chain awaits it; a later one stays in its chain's slot.
+fn turn_of(slots: [Chain; SLOTS], address: u32, heading: FragmentRead) -> Turn
+    ensures { λ r. ⌜ r ≡ turnOf slots address heading ⌝ }
+{
+    let older = finding::find(slots, address, heading.message_number);
+    if heading.fragment_number == FIRST_FRAGMENT {
+        let cleared = stored(slots, older, BLANK);
+        return Turn {
+            slots: cleared,
+            slot: finding::first_free(cleared),
+            chain: Chain {
+                is_open: 1,
+                address: address,
+                message_number: heading.message_number,
+                next_fragment: FIRST_FRAGMENT,
+                sum: 0,
+                characters: 0,
+            },
+            known: older < SLOTS,
+        };
+    }
+    Turn {
+        slots: slots,
+        slot: older,
+        chain: record_of(slots, older),
+        known: older < SLOTS,
+    }
+}
+
+// A refusal tells its number, and whether an open chain was closed with it.
+fn refused(number: u32, lost: bool) -> ChainAnswer
+    ensures { λ r. ⌜ r ≡ asAnswer (told number (bitOf lost ∷ [])) ⌝ }
+{
+    ChainAnswer {
+        number: number,
+        lost: lost as u32,
+        begun: 0,
+        retrieval: 0,
+        mail_drop: 0,
+        complete: 0,
+        slot: 0,
+        place: 0,
+        characters: 0,
+    }
+}
+
+// A refusal that changes nothing.
+fn unchanged(slots: [Chain; SLOTS], number: u32) -> ChainStep
+    ensures { λ r. ⌜ r ≡ asStep (told number []) slots ⌝ }
+{
+    ChainStep {
+        answer: refused(number, false),
+        chains: Chains { slots: slots },
+    }
+}
+
+// What a fragment tells that was taken in a slot: of a first one R and M, of a last one where the text is.
+fn taken(turn: Turn, heading: FragmentRead) -> ChainAnswer
+    requires { ⌜ turn .slot < slotCount ⌝ }
+    requires { ⌜ turn .chain .characters + heading .characters ≤ mostCharacters ⌝ }
+    ensures { λ r. ⌜ r ≡ asAnswer (takenOf turn heading) ⌝ }
+{
+    let first = heading.fragment_number == FIRST_FRAGMENT;
+    if heading.continued != 0 {
+        return ChainAnswer {
+            number: 0,
+            lost: (first & turn.known) as u32,
+            begun: first as u32,
+            retrieval: heading.retrieval,
+            mail_drop: heading.mail_drop,
+            complete: 0,
+            slot: 0,
+            place: 0,
+            characters: 0,
+        };
+    }
+    ChainAnswer {
+        number: 0,
+        lost: (first & turn.known) as u32,
+        begun: first as u32,
+        retrieval: heading.retrieval,
+        mail_drop: heading.mail_drop,
+        complete: 1,
+        slot: turn.slot,
+        place: turn.slot * MOST_CHARACTERS,
+        characters: turn.chain.characters + heading.characters,
+    }
+}
+
+// The text of a fragment at a place of the lent buffer.
+fn write_at(words: &[u32], buffer: &mut [u8], place: usize)
+    requires { ⌜ place + length (textIn (now words)) ≤ length (now buffer) ⌝ }
+    ensures { λ r. ⌜ now (buffer .exit) ≡ put (now (buffer .entry)) place (textIn (now (words .entry))) ⌝ }
+{
+    let _written = fragment::write_text(words, &mut buffer[place..]);
+}
+
+// A good fragment joined: 13, 14, 15, 16 and 12 of 01's table, or its text written at its chain's end.
+fn join(
+    slots: [Chain; SLOTS],
+    buffer: &mut [u8],
+    address: u32,
+    heading: FragmentRead,
+    words: &[u32],
+) -> ChainStep
+    requires { ⌜ sound slots ≡ true ⌝ }
+    requires { ⌜ slotCount * mostCharacters ≤ length (now buffer) ⌝ }
+    requires { ⌜ heading ≡ headingIn (now words) ⌝ }
+    ensures told { λ r. ⌜ r ≡ asStep (joinOf slots address (headingIn (now (words .entry)))) (joinedRow slots address (headingIn (now (words .entry)))) ⌝ }
+    ensures buffer { λ r. ⌜ now (buffer .exit) ≡ joinedBytes slots address (now (words .entry)) (now (buffer .entry)) ⌝ }
+{
+    let turn = turn_of(slots, address, heading);
+    if (heading.fragment_number != FIRST_FRAGMENT) & !turn.known {
+        return unchanged(slots, Refusal::NoChain.number());
+    }
+    let cleared = turn.slots;
+    let fate = fate::fate(turn.chain, heading);
+    let after = stored(cleared, turn.slot, fate.chain);
+    if fate.number != 0 {
+        return ChainStep {
+            answer: refused(fate.number, turn.known),
+            chains: Chains { slots: after },
+        };
+    }
+    if turn.slot == SLOTS {
+        return unchanged(after, Refusal::Full.number());
+    }
+    let end = turn.slot * MOST_CHARACTERS + turn.chain.characters;
+    write_at(words, buffer, end);
+    ChainStep {
+        answer: taken(turn, heading),
+        chains: Chains { slots: after },
+    }
+}
+
+// A fragment for an address number: the answer, the records then, and its text in the lent buffer at its chain's end
+// unless it is refused.
+pub fn step(chains: Chains, buffer: &mut [u8], address: u32, words: &[u32]) -> ChainStep
+    ensures told { λ r. ⌜ r ≡ asStep (stepOf (length (now (buffer .entry))) (chains .slots) address (now (words .entry))) (chainsAfter (length (now (buffer .entry))) (chains .slots) address (now (words .entry))) ⌝ }
+    ensures buffer { λ r. ⌜ now (buffer .exit) ≡ bufferAfter (chains .slots) address (now (words .entry)) (now (buffer .entry)) ⌝ }
+{
+    let slots = chains.slots;
+    if buffer.len() < SLOTS * MOST_CHARACTERS {
+        return unchanged(slots, Refusal::Room.number());
+    }
+    if !finding::sound(slots) {
+        return unchanged(slots, Refusal::State.number());
+    }
+    if address > LAST_ADDRESS {
+        return unchanged(slots, Refusal::Address.number());
+    }
+    let heading = fragment::heading(words);
+    if heading.number != 0 {
+        return unchanged(slots, heading.number);
+    }
+    join(slots, buffer, address, heading, words)
+}
+
+// The chain of a key closed at the caller's wish.
+pub fn drop_chain(chains: Chains, address: u32, message_number: u32) -> ChainDrop
+    ensures { λ r. ⌜ r ≡ asDrop (dropOf (chains .slots) address «message_number») (droppedFrom (chains .slots) address «message_number») ⌝ }
+{
+    let slots = chains.slots;
+    if !finding::sound(slots) {
+        return ChainDrop {
+            number: Refusal::State.number(),
+            chains: chains,
+        };
+    }
+    if message_number > LAST_MESSAGE {
+        return ChainDrop {
+            number: Refusal::Packet.number(),
+            chains: chains,
+        };
+    }
+    if address > LAST_ADDRESS {
+        return ChainDrop {
+            number: Refusal::Address.number(),
+            chains: chains,
+        };
+    }
+    let slot = finding::find(slots, address, message_number);
+    if slot == SLOTS {
+        return ChainDrop {
+            number: Refusal::NoChain.number(),
+            chains: chains,
+        };
+    }
+    ChainDrop {
+        number: 0,
+        chains: Chains {
+            slots: stored(slots, slot, BLANK),
+        },
+    }
+}
+
+// A text as a part of the lent buffer: so many characters from a place on, as far as the buffer goes.
+pub fn text(buffer: &[u8], place: usize, characters: usize) -> &[u8]
+    ensures { λ r. ⌜ now r ≡ take characters (drop place (now (buffer .entry))) ⌝ }
+{
+    if buffer.len() <= place {
+        return &buffer[0..0];
+    }
+    if buffer.len() - place < characters {
+        return &buffer[place..];
+    }
+    let end = place + characters;
+    &buffer[place..end]
+}

@@ -1,0 +1,29 @@
+-- A part of lent memory, lent on to a function and given back.
+use Prim.Native.Nat.{ℕ, _+_, _-_, _≤_}
+use mathlib.Core.List.{List, _++_, append-assoc}
+use mathlib.Core.Path.{_≡_, sym, ap, _∙_}
+use native.Mathlib.Nat.{zero-add}
+use native.Mathlib.Omega.{arith}
+use borrow.Rule.Slice.PartMut.{midOf, putMid, post-is, mid-len}
+use lib.ListN.{length, take, drop, take-append-drop}
+use lib.Seq.{drop-append-le, drop-drop}
+use Rattle.laws.specs.Lists.{put}
+
+module _ {A : Type 0} (buffer : List A) (start end : ℕ) (before : start ≤ end) (within : end ≤ length buffer) where
+  -- a part whose elements are given back is what was put at its place
+  pub part-put : (part : List A) → length part ≡ end - start → putMid start (end - start) buffer part ≡ put buffer start part
+  part-put part same =
+      let behind : start + length part ≡ end = omega arith in
+      rw behind (ap (λ (rest : List A). take start buffer ++ (part ++ rest)) (post-is start end buffer before) ∙ sym (append-assoc (take start buffer) part (drop end buffer)))
+
+  -- a text that is put at the start of a part is put at the part's place
+  pub part-written : (text : List A) → length text ≤ end - start → putMid start (end - start) buffer (put (midOf start (end - start) buffer) 0 text) ≡ put buffer start text
+  part-written text fits =
+      let part = midOf start (end - start) buffer in
+      let size : length part ≡ end - start = mid-len start end buffer within in
+      let rest : drop (length text) part ++ drop (end - start) (drop start buffer) ≡ drop (start + length text) buffer =
+      sym (drop-append-le (length text) part (drop (end - start) (drop start buffer)) (omega arith))
+      ∙ ap (drop (length text)) (take-append-drop (end - start) (drop start buffer))
+      ∙ drop-drop (length text) start buffer in
+      let behind = drop (end - start) (drop start buffer) in
+      rw (zero-add (length text), append-assoc text (drop (length text) part) behind, rest) (sym (append-assoc (take start buffer) text (drop (start + length text) buffer)))

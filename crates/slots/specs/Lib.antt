@@ -1,0 +1,4 @@
+pub mod Answers
+pub mod Chains
+pub mod Runs
+pub mod Steps
