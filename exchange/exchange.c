@@ -87,6 +87,23 @@
  *  49  chain_drop        the chains; address, message number; a part. The answer:
  *                        number, the chains, the part
  *
+ * Calls are a u64, how many are open, and their eight records, each of the numbers of
+ * its struct below in their order. Their lent memory is kept as the chains' buffer is,
+ * and a part of it is told in the same way, in bytes. No request of calls but 50 and 54
+ * comes before the first 50.
+ *
+ *  50  calls_fresh       the memory that is lent from now on, a row of words. The
+ *                        answer: the calls
+ *  51  call_open         the calls; packet. The answer: number, opened, u64 call, the
+ *                        fields of read_address, the calls
+ *  52  call_hear         the calls; how many of the memory's words are lent; packet; a
+ *                        part. The answer: number, whether it is a vector, u64 call,
+ *                        kind, check, completed, the calls, the part
+ *  53  call_end          the calls; how many of the memory's words are lent; a part. The
+ *                        answer: number, the calls that are incomplete, the calls, the
+ *                        part
+ *  54  call_place        a record. The answer: u64 place
+ *
  * Requests may be sent without waiting for answers. All answers so far are
  * written out before the program waits for more requests. The end of input
  * between two requests ends the program with status 0; a request that is cut,
@@ -485,6 +502,69 @@ struct chain_step mortisevane_chain_step(struct chains chains, uint8_t *buffer,
                                          const uint32_t *words, size_t words_length);
 struct chain_drop mortisevane_chain_drop(struct chains chains, uint32_t address,
                                          uint32_t message_number);
+
+/* ---- The exports of libhost_call.a ---- */
+
+enum { CALLS = 8 };
+
+struct call {
+    uint32_t phase;
+    uint32_t vector;
+    uint32_t address;
+    uint32_t priority;
+    uint32_t long_address;
+    uint32_t has_vector;
+    uint32_t kind;
+    uint32_t check;
+    uint32_t start;
+    uint32_t words;
+    uint32_t area;
+};
+
+struct calls {
+    size_t size;
+    struct call calls[CALLS];
+};
+
+struct call_opened {
+    uint32_t number;
+    uint32_t opened;
+    size_t call;
+    struct address fields;
+};
+
+struct call_opening {
+    struct call_opened answer;
+    struct calls calls;
+};
+
+struct call_heard {
+    uint32_t number;
+    uint32_t is_vector;
+    size_t call;
+    uint32_t kind;
+    uint32_t check;
+    uint32_t completed;
+};
+
+struct call_hearing {
+    struct call_heard answer;
+    struct calls calls;
+};
+
+struct frame_end {
+    uint32_t number;
+    struct calls incomplete;
+    struct calls calls;
+};
+
+struct calls mortisevane_calls_fresh(void);
+struct call_opening mortisevane_call_open(struct calls calls, uint32_t packet);
+struct call_hearing mortisevane_call_hear(struct calls calls, uint32_t *memory,
+                                          size_t memory_length, uint32_t packet);
+struct frame_end mortisevane_call_end(struct calls calls, const uint32_t *memory,
+                                      size_t memory_length);
+size_t mortisevane_call_place(struct call call);
 
 /* ---- What a compiler may call by itself, and no C library is here to give ---- */
 
@@ -1070,30 +1150,41 @@ static void serve_text_cut(void)
     give_lent(&lent_for_writing);
 }
 
-/* ---- Chains, and the buffer that is lent to them ---- */
+/* ---- Memory that is kept from one request to the next ---- */
 
-static struct lent chain_buffer;
+/* How much of it is lent, in what it is made of. */
+static size_t take_lent_count(const struct lent *kept, size_t size_of_each)
+{
+    uint32_t count = take_u32();
+    if (count > kept->length / size_of_each)
+        fail("exchange: a request lends more than is in the buffer\n");
+    return count;
+}
 
-/* Which bytes of the buffer an answer ends with. */
+/* Which bytes of it an answer ends with. */
 struct part {
     uint32_t from;
     uint32_t length;
 };
 
-static struct part take_part(void)
+static struct part take_part(const struct lent *kept)
 {
     struct part part;
     take_numbers(&part, sizeof part);
-    if (part.from > chain_buffer.length || part.length > chain_buffer.length - part.from)
+    if (part.from > kept->length || part.length > kept->length - part.from)
         fail("exchange: a request asks for what is not in the buffer\n");
     return part;
 }
 
-static void give_part(struct part part)
+static void give_part(struct lent *kept, struct part part)
 {
-    const uint8_t *buffer = row_of(&chain_buffer);
+    const uint8_t *buffer = row_of(kept);
     give_bytes(buffer + part.from, part.length);
 }
+
+/* ---- Chains, and the buffer that is lent to them ---- */
+
+static struct lent chain_buffer;
 
 static struct chains take_chains(void)
 {
@@ -1136,12 +1227,10 @@ static void serve_chains_fresh(void)
 static void serve_chain_step(void)
 {
     struct chains chains = take_chains();
-    uint32_t lent = take_u32();
-    if (lent > chain_buffer.length)
-        fail("exchange: a request lends more than is in the buffer\n");
+    size_t lent = take_lent_count(&chain_buffer, sizeof(uint8_t));
     uint32_t address = take_u32();
     size_t words = take_row(&lent_for_reading, sizeof(uint32_t));
-    struct part part = take_part();
+    struct part part = take_part(&chain_buffer);
     struct chain_step step = mortisevane_chain_step(chains, row_of(&chain_buffer), lent, address,
                                                     row_of(&lent_for_reading), words);
     check_read(&lent_for_reading);
@@ -1156,7 +1245,7 @@ static void serve_chain_step(void)
     give_u64(step.answer.place);
     give_u64(step.answer.characters);
     give_chains(&step.chains);
-    give_part(part);
+    give_part(&chain_buffer, part);
 }
 
 static void serve_chain_drop(void)
@@ -1164,11 +1253,88 @@ static void serve_chain_drop(void)
     struct chains chains = take_chains();
     uint32_t address = take_u32();
     uint32_t message_number = take_u32();
-    struct part part = take_part();
+    struct part part = take_part(&chain_buffer);
     struct chain_drop drop = mortisevane_chain_drop(chains, address, message_number);
     give_u32(drop.number);
     give_chains(&drop.chains);
-    give_part(part);
+    give_part(&chain_buffer, part);
+}
+
+/* ---- Calls, and the memory that is lent to them ---- */
+
+static struct lent call_memory;
+
+/* Records hold numbers of 32 bits alone, and theirs are the bytes of a request. */
+static struct calls take_calls(void)
+{
+    struct calls calls;
+    calls.size = take_u64();
+    take_bytes((uint8_t *)calls.calls, sizeof calls.calls);
+    return calls;
+}
+
+static void give_calls(const struct calls *calls)
+{
+    give_u64(calls->size);
+    give_bytes((const uint8_t *)calls->calls, sizeof calls->calls);
+}
+
+static void serve_calls_fresh(void)
+{
+    take_row(&call_memory, sizeof(uint32_t));
+    struct calls calls = mortisevane_calls_fresh();
+    give_calls(&calls);
+}
+
+static void serve_call_open(void)
+{
+    struct calls calls = take_calls();
+    uint32_t packet = take_u32();
+    struct call_opening opening = mortisevane_call_open(calls, packet);
+    give_u32(opening.answer.number);
+    give_u32(opening.answer.opened);
+    give_u64(opening.answer.call);
+    give_numbers(&opening.answer.fields, sizeof opening.answer.fields);
+    give_calls(&opening.calls);
+}
+
+static void serve_call_hear(void)
+{
+    struct calls calls = take_calls();
+    size_t lent = take_lent_count(&call_memory, sizeof(uint32_t));
+    uint32_t packet = take_u32();
+    struct part part = take_part(&call_memory);
+    struct call_hearing hearing =
+        mortisevane_call_hear(calls, row_of(&call_memory), lent, packet);
+    check_guards(&call_memory);
+    give_u32(hearing.answer.number);
+    give_u32(hearing.answer.is_vector);
+    give_u64(hearing.answer.call);
+    give_u32(hearing.answer.kind);
+    give_u32(hearing.answer.check);
+    give_u32(hearing.answer.completed);
+    give_calls(&hearing.calls);
+    give_part(&call_memory, part);
+}
+
+static void serve_call_end(void)
+{
+    struct calls calls = take_calls();
+    size_t lent = take_lent_count(&call_memory, sizeof(uint32_t));
+    struct part part = take_part(&call_memory);
+    struct frame_end end = mortisevane_call_end(calls, row_of(&call_memory), lent);
+    check_guards(&call_memory);
+    give_u32(end.number);
+    give_calls(&end.incomplete);
+    give_calls(&end.calls);
+    give_part(&call_memory, part);
+}
+
+static void serve_call_place(void)
+{
+    struct call call;
+    take_numbers(&call, sizeof call);
+    give_u64(mortisevane_call_place(call));
 }
 
 /* ---- Which byte names which export ---- */
@@ -1223,6 +1389,11 @@ static void (*const exports[])(void) = {
     [47] = serve_chains_fresh,
     [48] = serve_chain_step,
     [49] = serve_chain_drop,
+    [50] = serve_calls_fresh,
+    [51] = serve_call_open,
+    [52] = serve_call_hear,
+    [53] = serve_call_end,
+    [54] = serve_call_place,
 };
 
 static void serve_request(uint8_t export)

@@ -5,21 +5,21 @@ use mathlib.Core.Path.{_≡_, refl, ap, sym, _∙_, subst}
 use mathlib.Core.List.{List, [], _∷_, map}
 use mathlib.Core.Logic.{_⊎_, inl, inr, ⊎-elim}
 use lib.Dec.{eqb}
-use lib.ListN.{getD}
 use native.Mathlib.Omega.{arith}
 use borrow.Author.Tests.{eq-eqb, eqb-true, le-leb, lt-leb}
 use Rattle.laws.specs.Choice.{pick}
 use Rattle.refusal.specs.declared.Refusal.the-variants.{Range}
 use Rattle.refusal.specs.Told.{Told, told, refused, given}
-use Rattle.refusal.proofs.Laws.{given-not-refused, refused-tells, toldValues}
-use Rattle.address.specs.declared.Class.{Class}
-use Rattle.address.specs.declared.Class.the-variants.{Short, InformationService, Network, Operator, Set12, Set13, Set14, Set23Country, Set23InformationService}
-use Rattle.address.specs.declared.Classed.{Classed}
+use Rattle.refusal.proofs.Laws.{given-not-refused, given-head, given-tells, refused-tells}
+use Rattle.ranges.specs.declared.Class.{Class}
+use Rattle.ranges.specs.declared.Class.the-variants.{Short, InformationService, Network, Operator, Set12, Set13, Set14, Set23Country, Set23InformationService}
+use Rattle.ranges.specs.declared.Classed.{Classed}
 use Rattle.address.specs.declared.Worded.{Worded}
 use Rattle.address.specs.declared.Addressed.{Addressed}
-use Rattle.address.specs.Ranges.{rows, classIn, classOf, classNumber, toldClassed}
+use Rattle.ranges.specs.Ranges.{rows, classIn, classOf}
+use Rattle.ranges.proofs.Bounds.{rowOf, class-bounds}
 use Rattle.address.specs.Words.{pair12, pair13, pair23, layoutOf, wordsAs, wordsBy, wordsOf, same, gives, fromWord, fromPair, confirmed, addressOf, toldWorded, toldAddressed}
-use Rattle.address.proofs.Bounds.{rowOf, class-bounds, known-class}
+use Rattle.address.proofs.Fits.{known-class}
 
 -- a list is the same as itself
 same-self : (words : List ℕ) → same words words ≡ true
@@ -95,14 +95,6 @@ row-back Set13 address low high = back13 address (omega arith) (omega arith)
 row-back Set14 address low high = back13 address (omega arith) (omega arith)
 row-back Set23Country address low high = back23 address (omega arith)
 row-back Set23InformationService address low high = back23 address (omega arith)
-
--- a single value told alike is the same
-given-head : (a b : ℕ) → given (a ∷ []) ≡ given (b ∷ []) → a ≡ b
-given-head a b e = cc
-
--- given values that are told alike are the same
-given-tells : (xs ys : List ℕ) → given xs ≡ given ys → xs ≡ ys
-given-tells xs ys e = ap toldValues e
 
 -- an address whose class is known leads to its words and back
 class-back : (found : Classed) (address : ℕ) (words : List ℕ) → classOf address ≡ found → wordsBy found address ≡ given words → leadsTo words ≡ address
@@ -202,33 +194,6 @@ class-codewords (Classed.Refused r) address words e w = absurd (given-not-refuse
 -- the words of an accepted address are words that the decoder can be given
 pub words-sendable : (address : ℕ) (words : List ℕ) → wordsOf address ≡ given words → Codewords words
 words-sendable address words e = class-codewords (classOf address) address words refl (known-class address refl ∙ e)
-
--- the class of a number of 01's rows
-abbrev classOfNumber : ℕ → Class
-classOfNumber n =
-    getD
-    (Short ∷ Short ∷ InformationService ∷ Network ∷ Operator ∷ Set12 ∷ Set13 ∷ Set14 ∷ Set23Country ∷ Set23InformationService ∷ [])
-    n
-    Short
-
-class-number-back : (class : Class) → classOfNumber (classNumber class) ≡ class
-class-number-back Short = refl
-class-number-back InformationService = refl
-class-number-back Network = refl
-class-number-back Operator = refl
-class-number-back Set12 = refl
-class-number-back Set13 = refl
-class-number-back Set14 = refl
-class-number-back Set23Country = refl
-class-number-back Set23InformationService = refl
-
--- a class is told as itself alone
-pub classed-tells : (a b : Classed) → toldClassed a ≡ toldClassed b → a ≡ b
-classed-tells (Classed.In a) (Classed.In b) e =
-    ap Classed.In (sym (class-number-back a) ∙ ap classOfNumber (given-head (classNumber a) (classNumber b) e) ∙ class-number-back b)
-classed-tells (Classed.In a) (Classed.Refused r) e = absurd (given-not-refused (classNumber a ∷ []) r e)
-classed-tells (Classed.Refused r) (Classed.In b) e = absurd (given-not-refused (classNumber b ∷ []) r (sym e))
-classed-tells (Classed.Refused r) (Classed.Refused s) e = ap Classed.Refused (refused-tells r s e)
 
 -- words are told as themselves alone
 pub worded-tells : (a b : Worded) → toldWorded a ≡ toldWorded b → a ≡ b

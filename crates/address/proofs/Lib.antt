@@ -1,4 +1,3 @@
-pub mod Lookup
 pub mod Given
-pub mod Bounds
+pub mod Fits
 pub mod Laws

@@ -6,14 +6,14 @@ use lib.Dec.{leb, eqb}
 use Rattle.laws.specs.Choice.{pick}
 use Rattle.refusal.specs.declared.Refusal.the-variants.{Range}
 use Rattle.refusal.specs.Told.{Told, told, refused, given}
-use Rattle.address.specs.declared.Class.{Class}
-use Rattle.address.specs.declared.Class.the-variants.{Short, InformationService, Network, Operator, Set12, Set13, Set14, Set23Country, Set23InformationService}
+use Rattle.ranges.specs.declared.Class.{Class}
+use Rattle.ranges.specs.declared.Class.the-variants.{Short, InformationService, Network, Operator, Set12, Set13, Set14, Set23Country, Set23InformationService}
 use Rattle.address.specs.declared.Layout.{Layout}
 use Rattle.address.specs.declared.Layout.the-variants.{OneWord, Words12, Words13, Words23}
-use Rattle.address.specs.declared.Classed.{Classed}
+use Rattle.ranges.specs.declared.Classed.{Classed}
 use Rattle.address.specs.declared.Worded.{Worded}
 use Rattle.address.specs.declared.Addressed.{Addressed}
-use Rattle.address.specs.Ranges.{classOf}
+use Rattle.ranges.specs.Ranges.{classOf}
 
 -- 01: "one word, address + 8000"
 abbrev pub oneWord : ℕ → List ℕ

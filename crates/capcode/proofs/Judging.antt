@@ -10,7 +10,7 @@ use Rattle.refusal.specs.declared.Refusal.{Refusal}
 use Rattle.refusal.specs.declared.Refusal.the-variants.{Text, «Type», Range, Offset, Packet}
 use Rattle.refusal.specs.Told.{Told, refused, given, ask}
 use Rattle.refusal.proofs.Laws.{given-not-refused}
-use Rattle.address.specs.Ranges.{accepted}
+use Rattle.ranges.specs.Ranges.{accepted}
 use Rattle.capcode.specs.declared.Capcode.{Capcode}
 use Rattle.capcode.specs.declared.Judged.{Judged}
 use Rattle.capcode.specs.Assigned.{Fine, standard, framed, allPhase, offsetOf, fieldsFit, asked, toldJudged}

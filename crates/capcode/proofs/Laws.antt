@@ -10,7 +10,7 @@ use lib.Dec.{leb}
 use Rattle.laws.proofs.Tests.{first-of, second-of, other-of, neither}
 use Rattle.refusal.specs.Told.{Told}
 use Rattle.refusal.proofs.Laws.{toldValues, given-not-refused, refused-tells}
-use Rattle.address.proofs.Bounds.{accepted-below}
+use Rattle.ranges.proofs.Bounds.{accepted-below}
 use Rattle.capcode.specs.declared.Capcode.{Capcode}
 use Rattle.capcode.specs.declared.AssignAnswer.{AssignAnswer}
 use Rattle.capcode.specs.declared.ReadAnswer.{ReadAnswer}

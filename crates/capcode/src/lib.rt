@@ -4,11 +4,11 @@ ghost use mathlib.Core.Path.{_≡_};
 ghost use lib.Dec.{ltb};
 ghost use lib.ListN.{drop};
 ghost use Rattle.refusal.specs.Told.{Told};
-ghost use Rattle.address.specs.Ranges.{accepted};
+ghost use Rattle.ranges.specs.Ranges.{accepted};
 ghost use Rattle.capcode.specs.Assigned.{Fine, standard, framed, anyPhase, allPhase, offsetOf, phaseOf, baseOf, fieldsFit, asked, assigned, toldJudged, toldAssign};
 ghost use Rattle.capcode.specs.Reads.{isDigit, headGoesOn, letterGoesOn, addressGoesOn, Bounded, headDigit, theLetter, addressDigit, stepOf, going, follow, isWhole, saidBy, endOf, formOf, readBy, readOf, toldRead};
 ghost use Rattle.capcode.specs.Underway.{Sound};
-use address::Classed;
+use ranges::Classed;
 use refusal::Refusal;
 
 // What a CAPCODE says. The letter is its byte. `frame` is the three frame digits of U to Z; A to L have
@@ -116,7 +116,7 @@ fn is_below_offset(c: Capcode) -> bool
 fn is_accepted(address: u64) -> bool
     ensures { λ r. ⌜ r ≡ accepted address ⌝ }
 {
-    match address::class_of(address) {
+    match ranges::class_of(address) {
         Classed::In(_) => true,
         Classed::Refused(_) => false,
     }

@@ -5,12 +5,12 @@ ghost use mathlib.Core.Path.{_≡_};
 ghost use Prim.Native.Nat.{_+_, _*_, _≤_, _<_};
 ghost use mathlib.Core.Bool.{true};
 ghost use mathlib.Core.List.{[], _∷_};
-ghost use lib.ListN.{length, getD, take, drop, set};
+ghost use lib.ListN.{length, getD, set};
 ghost use Rattle.laws.specs.Choice.{bitOf};
 ghost use Rattle.laws.specs.Lists.{put};
 ghost use Rattle.refusal.specs.Told.{told};
 ghost use Rattle.message.specs.Fragments.{mostCharacters, textIn};
-ghost use Rattle.slots.specs.Chains.{blank, sound, slotCount, fresh};
+ghost use Rattle.slots.specs.Chains.{blank, sound, slotCount};
 ghost use Rattle.slots.specs.Steps.{headingIn};
 ghost use Rattle.slots.specs.Answers.{asAnswer, asStep, asDrop, stepOf, chainsAfter, bufferAfter, dropOf, droppedFrom};
 ghost use Rattle.chain.specs.Pieces.{turnOf, takenOf, joinOf, joinedRow, joinedBytes};
@@ -35,14 +35,6 @@ struct Turn {
     slot: usize,
     chain: Chain,
     known: bool,
-}
-
-// The state after a reset: no chain is open.
-pub fn fresh() -> Chains
-    ensures { λ r. ⌜ r ≡ record { slots = fresh slotCount } ⌝ }
-{
-    let slots = [BLANK; SLOTS];
-    Chains { slots: slots }
 }
 
 // The records with one of them changed; as they were where there is no such slot.
@@ -261,18 +253,4 @@ pub fn drop_chain(chains: Chains, address: u32, message_number: u32) -> ChainDro
             slots: stored(slots, slot, BLANK),
         },
     }
-}
-
-// A text as a part of the lent buffer: so many characters from a place on, as far as the buffer goes.
-pub fn text(buffer: &[u8], place: usize, characters: usize) -> &[u8]
-    ensures { λ r. ⌜ now r ≡ take characters (drop place (now (buffer .entry))) ⌝ }
-{
-    if buffer.len() <= place {
-        return &buffer[0..0];
-    }
-    if buffer.len() - place < characters {
-        return &buffer[place..];
-    }
-    let end = place + characters;
-    &buffer[place..end]
 }

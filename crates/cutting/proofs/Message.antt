@@ -9,7 +9,7 @@ use lib.Dec.{ltb, eqb}
 use lib.ListN.{length, getD, take, drop, replicate, List·getD-append}
 use lib.Seq.{drop-cons}
 use Rattle.laws.specs.Lists.{sumBy}
-use Rattle.laws.proofs.Rows.{all-at, sum-join}
+use Rattle.laws.proofs.Rows.{same-default, all-at, sum-join}
 use Rattle.laws.proofs.Tests.{first-of}
 use Rattle.laws.specs.Numerals.{number}
 use Rattle.sums.specs.Sums.{whole, signatureOf}
@@ -34,12 +34,6 @@ sum-small text = omega arith
 pub first-cell : (text : List ℕ) (place : ℕ) → place ≡ 0 → signatureOf (filled text) ≡ getD (messageOf text) place etx
 unfolding messageOf
 first-cell text place first = rw first
-
--- a place within a row holds the same whatever stands for places behind it
-same-default : (row : List ℕ) (place a b : ℕ) → place < length row → getD row place a ≡ getD row place b
-same-default [] place a b within = absurd (omega arith)
-same-default (c ∷ row) zero a b within = refl
-same-default (c ∷ row) (suc place) a b within = same-default row place a b (omega arith)
 
 -- behind a text there is fill, and nothing but fill
 fill-behind : (text : List ℕ) (count place : ℕ) → length text ≤ place → getD (text ++ replicate count etx) place etx ≡ etx

@@ -1,15 +1,13 @@
 -- 01's table, 2, slot by slot as the code asks it.
-use Prim.Native.Nat.{ℕ, _+_, _-_, _≤_, _<_}
+use Prim.Native.Nat.{ℕ, _+_, _<_}
 use mathlib.Core.Bool.{Bool, true, false, not, _&&_, and-true}
 use mathlib.Core.List.{List}
-use mathlib.Core.Logic.{⊎-elim}
-use mathlib.Core.Path.{_≡_, sym, ap, _∙_}
-use native.Mathlib.Nat.{eq-or-lt-of-le}
+use mathlib.Core.Path.{_≡_, ap}
 use native.Mathlib.Omega.{arith}
-use borrow.Author.Tests.{eq-eqb, ne-eqb, lt-ltb, le-ltb}
+use borrow.Author.Tests.{eq-eqb, ne-eqb}
 use lib.Dec.{eqb}
-use lib.ListN.{length, getD, drop, length-drop}
-use Rattle.laws.proofs.Searches.{first-most}
+use lib.ListN.{length, getD, drop}
+use Rattle.laws.proofs.Searches.{none-behind}
 use Rattle.slots.specs.declared.Chain.{Chain}
 use Rattle.slots.specs.Chains.{blank, isOpen, isOf, isSound, find, holds, sound}
 use Rattle.slots.proofs.Records.{sound-from}
@@ -30,15 +28,6 @@ module _ (row : List Chain) (slot : ℕ) where
       let c = getD row slot blank in
       key-unasked (isSound c) (isOpen c) (holds (c .address) (c .«message_number») (drop (slot + 1) row)) (ap not (eq-eqb (c .«is_open») 0 closed))
 
-  -- none is found behind a slot exactly if the search ends at the row's end
-  pub none-behind : (address n : ℕ) → slot ≤ length row → eqb (slot + find address n (drop slot row)) (length row) ≡ not (holds address n (drop slot row))
-  none-behind address n within =
-      let left : length (drop slot row) ≡ length row - slot = length-drop slot row in
-      ⊎-elim
-      (λ same. eq-eqb (slot + find address n (drop slot row)) (length row) (omega arith) ∙ sym (ap not (le-ltb (find address n (drop slot row)) (length (drop slot row)) (omega arith))))
-      (λ less. ne-eqb (slot + find address n (drop slot row)) (length row) (λ e. omega arith) ∙ sym (ap not (lt-ltb (find address n (drop slot row)) (length (drop slot row)) less)))
-      (eq-or-lt-of-le (first-most (isOf address n) (drop slot row)))
-
 -- an open slot is asked for its key behind it
 pub stands-open : (row : List Chain) (slot : ℕ) → let c = getD row slot blank in
     (c .«is_open» ≡ 0 → ⊥) → slot < length row → (isSound c && eqb (slot + 1 + find (c .address) (c .«message_number») (drop (slot + 1) row)) (length row)) ≡ stands row slot
@@ -46,7 +35,7 @@ stands-open row slot opened within =
     let c = getD row slot blank in
     key-asked (isSound c) (isOpen c) (holds (c .address) (c .«message_number») (drop (slot + 1) row)) (eqb (slot + 1 + find (c .address) (c .«message_number») (drop (slot + 1) row)) (length row))
     (ap not (ne-eqb (c .«is_open») 0 opened))
-    (none-behind row (slot + 1) (c .address) (c .«message_number») (omega arith))
+    (none-behind (isOf (c .address) (c .«message_number»)) row (slot + 1) (omega arith))
 
 module _ (row : List Chain) (slot : ℕ) (within : slot < length row) where
   -- the slot, and those behind it

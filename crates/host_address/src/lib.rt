@@ -1,14 +1,14 @@
-// Addresses and their words, as C and Rust link them: numbers and structs by value over `address`, and
-// nothing but it behind them. Every function takes any input. `number` is 0, or 01's number of the
-// refusal; every other field is then 0.
+// Addresses and their words, as C and Rust link them: numbers and structs by value over `ranges` and
+// `address`, and nothing but them behind them. Every function takes any input. `number` is 0, or 01's number
+// of the refusal; every other field is then 0.
 ghost use mathlib.Core.Path.{_≡_};
 ghost use mathlib.Core.List.{[], _∷_};
-ghost use Rattle.address.specs.Ranges.{classOf, toldClassed};
+ghost use Rattle.ranges.specs.Ranges.{classOf, toldClassed};
 ghost use Rattle.address.specs.Words.{wordsOf, addressOf, toldWorded, toldAddressed};
 ghost use Rattle.host_address.specs.Flat.{classFrom, wordsFrom, addressFrom};
 use address::Addressed;
-use address::Classed;
 use address::Worded;
+use ranges::Classed;
 
 // The class of an address, 1 to 9 by 01's rows.
 #[repr(C)]
@@ -53,7 +53,7 @@ fn class_told(answer: Classed) -> MortisevaneClass
 pub extern "C" fn mortisevane_address_class(address: u64) -> MortisevaneClass
     ensures { λ r. ⌜ r ≡ classFrom (toldClassed (classOf address)) ⌝ }
 {
-    class_told(address::class_of(address))
+    class_told(ranges::class_of(address))
 }
 
 fn words_told(answer: Worded) -> MortisevaneWords

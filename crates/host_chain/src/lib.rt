@@ -14,7 +14,7 @@ use slots::Chains;
 pub extern "C" fn mortisevane_chains_fresh() -> Chains
     ensures { λ r. ⌜ r ≡ record { slots = fresh slotCount } ⌝ }
 {
-    chain::fresh()
+    lent::fresh()
 }
 
 // A fragment of 2 to 85 words for an address number.

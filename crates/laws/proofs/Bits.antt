@@ -4,6 +4,7 @@ use mathlib.Core.Bool.{Bool, true, false, _||_}
 use mathlib.Core.Path.{_≡_, refl, _∙_}
 use native.Mathlib.Nat.{pow-succ', div-div-eq-div-mul}
 use native.Mathlib.Omega.{arith}
+use mir.Val.{boolByte}
 use lib.Bits.{bitOr, or-step}
 use lib.Count.{ones, ones-step}
 use Rattle.laws.specs.Choice.{bitOf}
@@ -20,6 +21,11 @@ without-lowest false rest = omega arith
 -- .. and the bit above is the rest's
 pub higher : (bit : Bool) (rest j : ℕ) → (bitOf bit + 2 * rest) / 2 ^ suc j ≡ rest / 2 ^ j
 higher bit rest j = rw (pow-succ', ← div-div-eq-div-mul, without-lowest)
+
+-- a test as the number that the code makes of it
+pub as-bit : (b : Bool) → boolByte b ≡ bitOf b
+as-bit true = refl
+as-bit false = refl
 
 -- a bit is 0 or 1
 pub bit-le : (bit : Bool) → bitOf bit ≤ 1

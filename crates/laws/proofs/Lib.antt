@@ -2,6 +2,7 @@ pub mod Bits
 pub mod Counting
 pub mod LayoutExamples
 pub mod Layouts
+pub mod Lists
 pub mod Numerals
 pub mod Parts
 pub mod Rows

@@ -1,13 +1,31 @@
--- A part of lent memory, lent on to a function and given back.
-use Prim.Native.Nat.{ℕ, _+_, _-_, _≤_}
-use mathlib.Core.List.{List, _++_, append-assoc}
+-- A part of lent memory: shown as so many elements from a place on; lent on to a function and given back.
+use Prim.Native.Nat.{ℕ, _+_, _-_, _≤_, _<_}
+use mathlib.Core.List.{List, [], _++_, append-assoc}
 use mathlib.Core.Path.{_≡_, sym, ap, _∙_}
 use native.Mathlib.Nat.{zero-add}
 use native.Mathlib.Omega.{arith}
 use borrow.Rule.Slice.PartMut.{midOf, putMid, post-is, mid-len}
-use lib.ListN.{length, take, drop, take-append-drop}
-use lib.Seq.{drop-append-le, drop-drop}
+use lib.ListN.{length, take, drop, take-append-drop, drop-of-length-le, length-drop}
+use lib.Seq.{drop-append-le, drop-drop, take-nil, take-all}
 use Rattle.laws.specs.Lists.{put}
+
+module _ {A : Type 0} (buffer : List A) (place count : ℕ) where
+  -- behind the end there is nothing,
+  pub part-none : length buffer ≤ place → [] ≡ take count (drop place buffer)
+  part-none out = sym (ap (take count) (drop-of-length-le buffer out) ∙ take-nil count)
+
+  -- where the buffer ends before so many, its rest,
+  pub part-rest : place ≤ length buffer → length buffer - place < count → take (length buffer - place) (drop place buffer) ≡ take count (drop place buffer)
+  part-rest within fewer =
+      let rest = drop place buffer in
+      let room : length rest ≡ length buffer - place = length-drop place buffer in
+      take-all (length buffer - place) rest (omega arith) ∙ sym (take-all count rest (omega arith))
+
+  -- and else what lies from the place to the end of so many
+  pub part-whole : take (place + count - place) (drop place buffer) ≡ take count (drop place buffer)
+  part-whole =
+      let size : place + count - place ≡ count = omega arith in
+      ap (λ (n : ℕ). take n (drop place buffer)) size
 
 module _ {A : Type 0} (buffer : List A) (start end : ℕ) (before : start ≤ end) (within : end ≤ length buffer) where
   -- a part whose elements are given back is what was put at its place

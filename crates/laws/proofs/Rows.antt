@@ -13,6 +13,12 @@ use lib.Seq.{take-add, drop-cons, drop-drop}
 use Rattle.laws.specs.Lists.{placeIn, all, sumBy}
 use Rattle.laws.proofs.Searches.{first-passes}
 
+-- a place within a row holds the same whatever stands for places behind it
+pub same-default : (row : List ℕ) (place a b : ℕ) → place < length row → getD row place a ≡ getD row place b
+same-default [] place a b within = absurd (omega arith)
+same-default (c ∷ row) zero a b within = refl
+same-default (c ∷ row) (suc place) a b within = same-default row place a b (omega arith)
+
 -- all of what is joined pass a test if all of both rows do
 pub all-append : (test : ℕ → Bool) (xs ys : List ℕ) → all test (xs ++ ys) ≡ (all test xs && all test ys)
 unfolding all

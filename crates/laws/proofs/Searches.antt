@@ -1,14 +1,19 @@
 -- A search for the first of a row that passes a test: what is found passes, none before it does, and a search that goes from place to place finds it.
-use Prim.Native.Nat.{ℕ, zero, suc, _+_, _≤_, _<_}
-use mathlib.Core.Bool.{Bool, true, false}
+use Prim.Native.Nat.{ℕ, zero, suc, _+_, _-_, _≤_, _<_}
+use mathlib.Core.Bool.{Bool, true, false, not}
 use mathlib.Core.List.{List, [], _∷_}
-use mathlib.Core.Path.{_≡_, refl}
+use mathlib.Core.Logic.{⊎-elim}
+use mathlib.Core.Path.{_≡_, refl, sym, ap, _∙_}
+use native.Mathlib.Nat.{eq-or-lt-of-le}
 use native.Mathlib.Numerals.{add-one}
 use native.Mathlib.Omega.{arith}
-use lib.ListN.{length, getD, drop, drop-of-length-le}
+use borrow.Author.Tests.{eq-eqb, ne-eqb, lt-ltb, le-ltb, ltb-true, ltb-false}
+use lib.Dec.{ltb, eqb}
+use lib.ListN.{length, getD, drop, drop-of-length-le, length-drop}
 use lib.Seq.{drop-cons}
 use Rattle.laws.specs.Choice.{pick}
 use Rattle.laws.specs.Lists.{firstThat}
+use Rattle.laws.proofs.Tests.{decided, not-both}
 
 module _ {ℓ} {A : Type ℓ} (test : A → Bool) where
   -- nothing is found behind the row
@@ -61,6 +66,29 @@ module _ {ℓ} {A : Type ℓ} (test : A → Bool) where
   none-found [] d none = refl
   none-found (x ∷ row) d none = rw (none 0 (omega arith), none-found row d (λ k within. none (suc k) (omega arith)))
 
+  module _ (row : List A) (d : A) where
+    -- whether one is found: where one passes,
+    pub is-found : (k : ℕ) → k < length row → test (getD row k d) ≡ true → ltb (firstThat test row) (length row) ≡ true
+    is-found k within good = lt-ltb (firstThat test row) (length row) (omega (arith, found-by row d k within good))
+
+    -- .. and then only: the one that is found passes,
+    pub found-passes : ltb (firstThat test row) (length row) ≡ true → (firstThat test row < length row) × (test (getD row (firstThat test row) d) ≡ true)
+    found-passes is =
+        let within = ltb-true (firstThat test row) (length row) is in
+        (within, first-passes row d within)
+
+    -- .. else none of the row does
+    pub none-passes : ltb (firstThat test row) (length row) ≡ false → (k : ℕ) → k < length row → test (getD row k d) ≡ false
+    none-passes none k within = ⊎-elim (λ good. absurd (not-both (ltb (firstThat test row) (length row)) (is-found k within good) none)) (λ bad. bad) (decided (test (getD row k d)))
+
+    -- where none does, none is found
+    pub is-none : ((k : ℕ) → k < length row → test (getD row k d) ≡ false) → ltb (firstThat test row) (length row) ≡ false
+    is-none none = le-ltb (firstThat test row) (length row) (omega (arith, none-found row d none))
+
+  -- .. and the search ends at the row's end
+  pub none-at : (row : List A) → ltb (firstThat test row) (length row) ≡ false → firstThat test row ≡ length row
+  none-at row none = omega (arith, first-most row, ltb-false (firstThat test row) (length row) none)
+
   -- in two rows, as long, that pass it at the same places, the same is found
   pub found-alike : (row other : List A) (d : A) → length row ≡ length other → ((k : ℕ) → k < length row → test (getD row k d) ≡ test (getD other k d)) → firstThat test row ≡ firstThat test other
   unfolding firstThat
@@ -88,3 +116,12 @@ module _ {ℓ} {A : Type ℓ} (test : A → Bool) where
     pub found-none : length row ≤ i → i + firstThat test (drop i row) ≡ i
     unfolding firstThat
     found-none done = rw (drop-of-length-le row done) (omega arith)
+
+  -- none is found from a place on exactly if the search ends at the row's end
+  pub none-behind : (row : List A) (i : ℕ) → i ≤ length row → eqb (i + firstThat test (drop i row)) (length row) ≡ not (ltb (firstThat test (drop i row)) (length (drop i row)))
+  none-behind row i within =
+      let left : length (drop i row) ≡ length row - i = length-drop i row in
+      ⊎-elim
+      (λ same. eq-eqb (i + firstThat test (drop i row)) (length row) (omega arith) ∙ sym (ap not (le-ltb (firstThat test (drop i row)) (length (drop i row)) (omega arith))))
+      (λ less. ne-eqb (i + firstThat test (drop i row)) (length row) (λ e. omega arith) ∙ sym (ap not (lt-ltb (firstThat test (drop i row)) (length (drop i row)) less)))
+      (eq-or-lt-of-le (first-most (drop i row)))

@@ -1,7 +1,10 @@
 -- Tests joined by and, and by or: what one of them says of the others.
+use Prim.Native.Nat.{ℕ}
 use mathlib.Core.Bool.{Bool, true, false, _&&_, _||_, true≢false}
 use mathlib.Core.Path.{_≡_, refl, sym, _∙_}
-use mathlib.Core.Logic.{_⊎_, inl, inr}
+use mathlib.Core.Logic.{_⊎_, inl, inr, ⊎-elim}
+use borrow.Author.Tests.{eqb-true, eqb-false, eq-eqb, ne-eqb}
+use lib.Dec.{eqb}
 
 -- a test holds or does not
 pub decided : (test : Bool) → (test ≡ true) ⊎ (test ≡ false)
@@ -64,3 +67,11 @@ neither false b e = e
 pub or-none : (a : Bool) → (a || false) ≡ a
 or-none true = refl
 or-none false = refl
+
+-- two numbers are compared either way
+pub eqb-swap : (a b : ℕ) → eqb a b ≡ eqb b a
+eqb-swap a b =
+    ⊎-elim
+    (λ same. same ∙ sym (eq-eqb b a (sym (eqb-true a b same))))
+    (λ other. other ∙ sym (ne-eqb b a (λ is. eqb-false a b other (sym is))))
+    (decided (eqb a b))

@@ -2,7 +2,7 @@
 use Prim.Native.Nat.{ℕ, zero, suc, _+_, _-_, _≤_, _<_}
 use mathlib.Core.Path.{_≡_, refl, sym, ap, _∙_}
 use mathlib.Core.List.{List, [], _∷_, _++_, append-assoc, append-nil}
-use native.Mathlib.Nat.{add-zero, add-assoc}
+use native.Mathlib.Nat.{add-zero, add-assoc, zero-add}
 use native.Mathlib.Numerals.{add-one}
 use native.Mathlib.Omega.{arith}
 use lib.ListN.{length, take, drop, set, length-append, take-append-drop, length-drop}
@@ -112,3 +112,7 @@ module _ {ℓ} {A : Type ℓ} where
       part-joined (n + length xs) place (take (place + n) buffer ++ xs) (drop (place + n + length xs) buffer) (omega arith)
       ∙ rw (drop-append-le place (take (place + n) buffer) xs (omega arith), take-from buffer place n (omega arith))
       (take-all (n + length xs) (take n (drop place buffer) ++ xs) (simp length-append (omega arith)))
+
+  -- .. so that what was put at a place stands there
+  pub put-there : (buffer xs : List A) (place : ℕ) → place ≤ length buffer → take (length xs) (drop place (put buffer place xs)) ≡ xs
+  put-there buffer xs place within = rw (zero-add, add-zero) at (put-grows buffer xs place 0 (omega arith))

@@ -1,6 +1,6 @@
 -- Rows: what lent memory holds after a write, a search, a test of all, a sum.
-use Prim.Native.Nat.{ℕ, suc, _+_}
-use mathlib.Core.Bool.{Bool, true, _&&_}
+use Prim.Native.Nat.{ℕ, zero, suc, _+_}
+use mathlib.Core.Bool.{Bool, true, false, _&&_, _||_}
 use mathlib.Core.List.{List, [], _∷_, _++_}
 use lib.Dec.{eqb}
 use lib.ListN.{length, take, drop}
@@ -24,6 +24,21 @@ placeIn row n = firstThat (eqb n) row
 unfoldable pub all : (ℕ → Bool) → List ℕ → Bool
 all test [] = true
 all test (x ∷ row) = test x && all test row
+
+-- whether one of a row passes a test
+unfoldable pub anyOf {ℓ} : {A : Type ℓ} → (A → Bool) → List A → Bool
+anyOf test [] = false
+anyOf test (x ∷ row) = test x || anyOf test row
+
+-- those of a row that pass a test, in the row's order
+unfoldable pub those {ℓ} : {A : Type ℓ} → (A → Bool) → List A → List A
+those test [] = []
+those test (x ∷ row) = pick (test x) (x ∷ those test row) (those test row)
+
+-- the numbers from a first one on, so many of them
+unfoldable pub upFrom : ℕ → ℕ → List ℕ
+upFrom first zero = []
+upFrom first (suc n) = first ∷ upFrom (suc first) n
 
 -- the sum of a row, each number taken by a rule
 unfoldable pub sumBy : (ℕ → ℕ) → List ℕ → ℕ

@@ -11,7 +11,7 @@ use Rattle.laws.specs.Choice.{pick}
 use Rattle.laws.specs.Texts.{bytesOf}
 use Rattle.refusal.specs.declared.Refusal.the-variants.{Text}
 use Rattle.refusal.specs.Told.{refused}
-use Rattle.address.specs.Ranges.{rows, classIn, classOf}
+use Rattle.ranges.specs.Ranges.{rows, classIn, classOf}
 use Rattle.address.specs.Words.{wordsOf}
 use Rattle.capcode.specs.Assigned.{asked}
 use Rattle.capcode.specs.Text.{digits}

@@ -79,6 +79,14 @@ given-not-refused values r e =
 pub refused-tells : (a b : Refusal) → refused a ≡ refused b → a ≡ b
 refused-tells a b e = number-tells a b (ap numberTold e)
 
+-- a single value told alike is the same
+pub given-head : (a b : ℕ) → given (a ∷ []) ≡ given (b ∷ []) → a ≡ b
+given-head a b e = cc
+
+-- given values that are told alike are the same
+pub given-tells : (xs ys : List ℕ) → given xs ≡ given ys → xs ≡ ys
+given-tells xs ys e = ap toldValues e
+
 -- an answer that is no refusal was not refused by the first question, nor by what follows
 pub passed : (test : Bool) (r : Refusal) (rest : Told) → numberTold (ask test r rest) ≡ 0 → (test ≡ false) × (numberTold rest ≡ 0)
 passed true r rest e = absurd (omega (arith, number-positive r))

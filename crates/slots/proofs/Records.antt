@@ -7,11 +7,11 @@ use mathlib.Core.Path.{_≡_, refl}
 use native.Mathlib.Nat.{eq-or-lt-of-le}
 use native.Mathlib.Numerals.{add-one}
 use native.Mathlib.Omega.{arith}
-use borrow.Author.Tests.{eq-eqb, eqb-true, le-leb, leb-true, lt-ltb, le-ltb, ltb-true, ltb-false, not-true, not-false}
+use borrow.Author.Tests.{eq-eqb, eqb-true, le-leb, leb-true, ltb-true, ltb-false, not-true, not-false}
 use lib.Dec.{leb, ltb, eqb}
 use lib.ListN.{length, getD, drop, drop-of-length-le, List·getD-eq-default}
 use lib.Seq.{drop-cons}
-use Rattle.laws.proofs.Searches.{first-most, first-passes, found-by, none-found}
+use Rattle.laws.proofs.Searches.{first-passes, found-by, is-found, found-passes, is-none, none-at}
 use Rattle.laws.proofs.Tests.{decided, not-both, first-of, second-of, each-of-five}
 use Rattle.slots.specs.declared.Chain.{Chain}
 use Rattle.slots.specs.Chains.{blank, isOpen, isAddress, isMessage, inLimits, isBlank, isSound, isOf, find, holds, sound, fresh}
@@ -118,16 +118,11 @@ open-within row i is = ⊎-elim (λ within. ltb-true i (length row) within) (λ 
 module _ (address n : ℕ) (row : List Chain) where
   -- a key has an open chain exactly if a slot has it
   pub holds-at : (i : ℕ) → isOf address n (getD row i blank) ≡ true → holds address n row ≡ true
-  holds-at i is =
-      let within = open-within row i (is-of address n (getD row i blank) .0 is .opened) in
-      let found = found-by (isOf address n) row blank i within is in
-      lt-ltb (find address n row) (length row) (omega arith)
+  holds-at i is = is-found (isOf address n) row blank i (open-within row i (is-of address n (getD row i blank) .0 is .opened)) is
 
   -- .. and then it is the one that is found
   pub held : holds address n row ≡ true → (find address n row < length row) × (isOf address n (getD row (find address n row) blank) ≡ true)
-  held is =
-      let within = ltb-true (find address n row) (length row) is in
-      (within, first-passes (isOf address n) row blank within)
+  held = found-passes (isOf address n) row blank
 
   -- .. else no slot has it
   pub none-held : holds address n row ≡ false → (i : ℕ) → isOf address n (getD row i blank) ≡ false
@@ -135,16 +130,11 @@ module _ (address n : ℕ) (row : List Chain) where
 
   -- .. and what is found is the row's length
   pub not-found : holds address n row ≡ false → find address n row ≡ length row
-  not-found none =
-      let most = first-most (isOf address n) row in
-      let least = ltb-false (find address n row) (length row) none in
-      omega arith
+  not-found = none-at (isOf address n) row
 
   -- where no slot has it, it has no open chain
   pub none-holds : ((i : ℕ) → i < length row → isOf address n (getD row i blank) ≡ false) → holds address n row ≡ false
-  none-holds none =
-      let found = none-found (isOf address n) row blank none in
-      le-ltb (find address n row) (length row) (omega arith)
+  none-holds = is-none (isOf address n) row blank
 
 -- ---- a row
 

@@ -10,6 +10,7 @@ pub const USAGE: &str = "usage: compare exports EXCHANGE_COMMAND.. [--seed NUMBE
        compare pages EXCHANGE_COMMAND.. [--seed NUMBER]
        compare fragments EXCHANGE_COMMAND.. [--seed NUMBER]
        compare chains EXCHANGE_COMMAND.. [--seed NUMBER]
+       compare calls EXCHANGE_COMMAND.. [--seed NUMBER]
        compare start-up FILE EXCHANGE_COMMAND..
        compare lines LISTING_COMMAND.. [--count NUMBER] [--seed NUMBER]
        compare edges LISTING_COMMAND..
@@ -40,6 +41,10 @@ pub enum Task {
         seed: u64,
     },
     Chains {
+        exchange: Vec<String>,
+        seed: u64,
+    },
+    Calls {
         exchange: Vec<String>,
         seed: u64,
     },
@@ -86,6 +91,10 @@ pub fn read(words: &[String]) -> Option<Task> {
         "chains" => {
             let (exchange, seed) = command_and_seed(rest)?;
             Some(Task::Chains { exchange, seed })
+        }
+        "calls" => {
+            let (exchange, seed) = command_and_seed(rest)?;
+            Some(Task::Calls { exchange, seed })
         }
         "start-up" => read_start_up(rest),
         "lines" => read_lines(rest),
@@ -205,7 +214,7 @@ mod tests {
     }
 
     #[test]
-    fn pages_fragments_and_chains_may_have_a_seed() {
+    fn pages_fragments_chains_and_calls_may_have_a_seed() {
         for (options, seed) in [("", DEFAULT_SEED), (" --seed 7", 7)] {
             let exchange = words("run exchange");
             let task = Task::Pages { exchange, seed };
@@ -218,6 +227,10 @@ mod tests {
             let exchange = words("run exchange");
             let task = Task::Chains { exchange, seed };
             let line = format!("chains run exchange{options}");
+            assert_eq!(read(&words(&line)), Some(task), "{line}");
+            let exchange = words("run exchange");
+            let task = Task::Calls { exchange, seed };
+            let line = format!("calls run exchange{options}");
             assert_eq!(read(&words(&line)), Some(task), "{line}");
         }
     }
@@ -271,6 +284,9 @@ mod tests {
             "chains",
             "chains --seed 1",
             "chains run --seed",
+            "calls",
+            "calls --seed 1",
+            "calls run --seed",
             "start-up",
             "start-up table.md",
             "lines --count 5",

@@ -5,8 +5,10 @@
 use std::fmt::{self, Debug, Formatter};
 use std::io;
 
+use second::call::{Call, Calls};
 use second::chain::{Chains, Key, Record};
 use second::fragment::{FragmentRead, TextCut};
+use second::heard::Address;
 use second::numbers::Numbers;
 use second::numeric::{PageRead, Written};
 
@@ -301,4 +303,72 @@ pub fn read_chains(fields: &mut Fields) -> io::Result<Chains> {
         };
     }
     Ok(chains)
+}
+
+/// What an address packet is answered with.
+#[derive(Clone, Copy, Debug, Default, PartialEq, Eq)]
+pub struct MortisevaneOpened {
+    pub number: u32,
+    pub opened: u32,
+    pub call: usize,
+    pub fields: Address,
+}
+
+impl MortisevaneOpened {
+    pub fn read(fields: &mut Fields) -> io::Result<Self> {
+        Ok(MortisevaneOpened {
+            number: fields.u32()?,
+            opened: fields.u32()?,
+            call: fields.count()?,
+            fields: fields.numbers()?,
+        })
+    }
+}
+
+/// What a vector or a message packet is answered with.
+#[derive(Clone, Copy, Debug, Default, PartialEq, Eq)]
+pub struct MortisevaneHeard {
+    pub number: u32,
+    pub is_vector: u32,
+    pub call: usize,
+    pub kind: u32,
+    pub check: u32,
+    pub completed: u32,
+}
+
+impl MortisevaneHeard {
+    pub fn read(fields: &mut Fields) -> io::Result<Self> {
+        Ok(MortisevaneHeard {
+            number: fields.u32()?,
+            is_vector: fields.u32()?,
+            call: fields.count()?,
+            kind: fields.u32()?,
+            check: fields.u32()?,
+            completed: fields.u32()?,
+        })
+    }
+}
+
+/// The records of all calls, and how many are open.
+pub fn read_calls(fields: &mut Fields) -> io::Result<Calls> {
+    let mut calls = Calls {
+        size: fields.count()?,
+        ..Calls::default()
+    };
+    for call in &mut calls.calls {
+        *call = Call {
+            phase: fields.u32()?,
+            vector: fields.u32()?,
+            address: fields.u32()?,
+            priority: fields.u32()?,
+            long_address: fields.u32()?,
+            has_vector: fields.u32()?,
+            kind: fields.u32()?,
+            check: fields.u32()?,
+            start: fields.u32()?,
+            words: fields.u32()?,
+            area: fields.u32()?,
+        };
+    }
+    Ok(calls)
 }

@@ -2,9 +2,11 @@
 //! second program. The first difference ends the run with exit code 1.
 
 mod boundaries;
+mod calls;
 mod chains;
 mod child;
 mod command_line;
+mod counted;
 mod edges;
 mod exchange;
 mod exports;
@@ -52,6 +54,7 @@ fn carry_out(task: &Task) -> Result<(), String> {
         Task::Pages { exchange, seed } => pages::compare(exchange, *seed)?,
         Task::Fragments { exchange, seed } => fragments::compare(exchange, *seed)?,
         Task::Chains { exchange, seed } => chains::compare(exchange, *seed)?,
+        Task::Calls { exchange, seed } => calls::compare(exchange, *seed)?,
         Task::StartUp { file, exchange } => start_up::compare(file, exchange)?,
         Task::Lines {
             listing,

@@ -1,6 +1,7 @@
 //! The second program's answers, in the shape of the proved library's exports.
 
 use second::address::{self, Words};
+use second::call::{Heard, Opened};
 use second::capcode::{self, Capcode};
 use second::chain::{Joined, NotJoined};
 use second::frames::{self, Listener};
@@ -9,8 +10,8 @@ use second::refusal::Refusal;
 
 use crate::host::{
     Lent, MortisevaneAddress, MortisevaneAssignment, MortisevaneCapcode, MortisevaneChain,
-    MortisevaneClass, MortisevaneFrames, MortisevaneLength, MortisevaneListeners, MortisevaneWait,
-    MortisevaneWords, Told,
+    MortisevaneClass, MortisevaneFrames, MortisevaneHeard, MortisevaneLength, MortisevaneListeners,
+    MortisevaneOpened, MortisevaneWait, MortisevaneWords, Told,
 };
 
 /// An answer of no: its number, and 0 in every other field.
@@ -178,5 +179,42 @@ pub fn chain_drop(answer: Result<(), Refusal>) -> MortisevaneChain {
     MortisevaneChain {
         number: told(answer).number,
         ..Default::default()
+    }
+}
+
+/// The answer to an address packet. A tone-only address opens nothing.
+pub fn call_open(answer: Result<Opened, Refusal>) -> MortisevaneOpened {
+    match answer {
+        Ok(Opened { call, fields }) => MortisevaneOpened {
+            number: 0,
+            opened: u32::from(call.is_some()),
+            call: call.unwrap_or_default(),
+            fields,
+        },
+        Err(refusal) => refused!(MortisevaneOpened, refusal),
+    }
+}
+
+/// The answer to a vector or a message packet.
+pub fn call_hear(answer: Result<Heard, Refusal>) -> MortisevaneHeard {
+    match answer {
+        Ok(Heard::Vector {
+            call,
+            kind,
+            check,
+            is_complete,
+        }) => MortisevaneHeard {
+            number: 0,
+            is_vector: 1,
+            call,
+            kind,
+            check,
+            completed: u32::from(is_complete) << call,
+        },
+        Ok(Heard::Word { completed }) => MortisevaneHeard {
+            completed,
+            ..Default::default()
+        },
+        Err(refusal) => refused!(MortisevaneHeard, refusal),
     }
 }

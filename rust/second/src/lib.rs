@@ -4,6 +4,7 @@
 //! documents alone and shares nothing with that library.
 
 pub mod address;
+pub mod call;
 pub mod capcode;
 pub mod chain;
 pub mod fragment;

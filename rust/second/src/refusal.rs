@@ -5,8 +5,9 @@
 pub enum Refusal {
     /// A lent buffer is shorter than the answer needs.
     Room = 1,
-    /// The mirror's register has over 24 bits; a record of the chains is out of
-    /// its limits, or closed and not all zero, or two open ones have one key.
+    /// The mirror's register has over 24 bits; a record of an open chain or
+    /// call is out of its limits; that of a closed chain is not all zero; two open
+    /// chains or calls have one key.
     State = 2,
     /// A CAPCODE text is not in the form.
     Text = 3,
@@ -22,22 +23,25 @@ pub enum Refusal {
     Packet = 7,
     /// The address number is not 0 to 31.
     Address = 8,
-    /// Over 16 addresses; words outside the limits.
+    /// Over 16 addresses; words, or a call's span, outside the limits.
     Size = 9,
-    /// A word over 21 bits.
+    /// A word over 21 bits, or marked in error.
     Damaged = 10,
     /// K differs.
     Checksum = 11,
-    /// No free slot.
+    /// No free slot or call.
     Full = 12,
     /// A continuation, or a drop, of a key not open.
     NoChain = 13,
-    /// F is not the next.
+    /// F is not the next; an open call's key or its vector comes again, or a word
+    /// that came before.
     OutOfTurn = 14,
     /// A text over the room.
     TooLong = 15,
     /// The total of a message's last fragment differs.
     Signature = 16,
+    /// A vector or a word of no call.
+    NoCall = 17,
     /// A character that is not in the set or is over 7FH, or ETX in a text to
     /// write.
     Character = 18,

@@ -79,8 +79,8 @@ numbers! {
 }
 
 /// Vector types V (Tables 32, 33 and 35, S8.7.7).
-const SHORT_INSTRUCTION: u32 = 1;
-const SHORT_MESSAGE: u32 = 2;
+pub const SHORT_INSTRUCTION: u32 = 1;
+pub const SHORT_MESSAGE: u32 = 2;
 pub const STANDARD_NUMERIC: u32 = 3;
 pub const SPECIAL_NUMERIC: u32 = 4;
 pub const NUMBERED_NUMERIC: u32 = 7;

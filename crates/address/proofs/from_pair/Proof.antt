@@ -1,8 +1,8 @@
--- `from_pair` meets its contract.
+-- `from_pair` meets its contract: the first word's bank tells the set, in set 1 the second's.
+use Prim.Native.Nat.{_≤_, _<_}
 use borrow.Author.Tests.{lt-leb, le-leb}
 use native.Mathlib.Omega.{arith}
 use Rattle.address.specs.Words.{fromPair}
--- `from_pair` meets its contract.
 use borrow.Author.Needs.{needs}
 use Rattle.address.proofs.from_pair.Statement.{statement}
 use Rattle.address.proofs.from_pair.Tie as tie
@@ -43,7 +43,10 @@ add-result-4 c = search needs
 
 returns-2 : tie.Need-returns-2
 unfolding fromPair
-returns-2 c = rw (le-leb _ _ (c .before .before .before .if1 .left), le-leb _ _ (c .before .before .if2 .taken)) (omega arith)
+returns-2 c =
+    let s = c .before .before .before in
+    let bank : 0x1F7FFF ≤ s .before .args .second = omega (arith, c .before .before .if2 .taken) in
+    rw (le-leb _ _ (s .if1 .left), le-leb _ _ bank) (omega arith)
 
 less-requires-5 : tie.Need-less-requires-5
 less-requires-5 c κs = search needs
@@ -62,7 +65,10 @@ add-result-6 c = search needs
 
 returns-3 : tie.Need-returns-3
 unfolding fromPair
-returns-3 c = rw (le-leb _ _ (c .before .before .before .if1 .left), lt-leb _ _ (c .before .before .if2 .left)) (omega arith)
+returns-3 c =
+    let s = c .before .before .before in
+    let bank : s .before .args .second < 0x1F7FFF = omega (arith, c .before .before .if2 .left) in
+    rw (le-leb _ _ (s .if1 .left), lt-leb _ _ bank) (omega arith)
 
 pub from-pair-spec : {M : Type 1} → statement M
 from-pair-spec =

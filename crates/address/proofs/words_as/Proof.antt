@@ -1,7 +1,7 @@
 -- `words_as` meets its contract: each line of Table 24 by its own function.
 use mathlib.Core.Path.{_∙_}
 use borrow.Author.Needs.{needs}
-use Rattle.address.proofs.Bounds.{known-fits, known-words}
+use Rattle.address.proofs.Fits.{known-fits, known-words}
 use Rattle.address.proofs.words_as.Statement.{statement}
 use Rattle.address.proofs.words_as.Tie as tie
 

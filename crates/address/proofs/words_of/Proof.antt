@@ -1,7 +1,7 @@
 -- `words_of` meets its contract: the class is looked up, and Table 24 has its line.
 use mathlib.Core.Path.{sym, _∙_}
 use borrow.Author.Needs.{needs}
-use Rattle.address.proofs.Bounds.{class-fits, known-fits, known-words, known-class}
+use Rattle.address.proofs.Fits.{class-fits, known-fits, known-words, known-class}
 use Rattle.address.proofs.words_of.Statement.{statement}
 use Rattle.address.proofs.words_of.Tie as tie
 

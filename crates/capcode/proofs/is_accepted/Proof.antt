@@ -1,6 +1,6 @@
 use mathlib.Core.Path.{sym, ap, _∙_}
 use borrow.Author.Needs.{needs}
-use Rattle.address.specs.Ranges.{found}
+use Rattle.ranges.specs.Ranges.{found}
 use Rattle.capcode.proofs.is_accepted.Statement.{statement}
 use Rattle.capcode.proofs.is_accepted.Tie as tie
 

@@ -1,18 +1,11 @@
 -- `after_checksum` meets its contract: a talking decoder is left as it is, a silent one compares.
-use mathlib.Core.Bool.{Bool, true, false}
-use mathlib.Core.Path.{_≡_, refl}
+use mathlib.Core.Path.{refl}
 use borrow.Author.Tests.{eq-eqb, ne-eqb}
-use mir.Val.{boolByte}
 use native.Mathlib.Omega.{arith}
-use Rattle.laws.specs.Choice.{bitOf}
+use Rattle.laws.proofs.Bits.{as-bit}
 use borrow.Author.Needs.{needs}
 use Rattle.mirror.proofs.after_checksum.Statement.{statement}
 use Rattle.mirror.proofs.after_checksum.Tie as tie
-
--- a test taken as a number is its bit
-as-bit : (b : Bool) → boolByte b ≡ bitOf b
-as-bit true = refl
-as-bit false = refl
 
 returns : tie.Need-returns
 returns c = rw (ne-eqb (c .before .before .args .mirror .talking) 0 (omega (arith, c .if1 .taken)))

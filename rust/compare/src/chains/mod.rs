@@ -7,7 +7,7 @@ mod messages;
 mod named;
 mod runs;
 
-use crate::exchange;
+use crate::counted::{self, Counts};
 use crate::tally::Tally;
 
 use cases::Cases;
@@ -15,28 +15,18 @@ use events::{Event, Happening};
 
 const RUNS: usize = 200_000;
 
-/// Says the counts of each export, and it is a fault of the runs if they bring too
-/// few of a case.
 pub fn compare(exchange: &[String], seed: u64) -> Result<String, String> {
     let named = named::compare(exchange)?;
-    let mut tallies = Tallies::new();
-    let mut cases = Cases::new();
     let events = runs::seeded_events(seed, RUNS);
-    let compared = exchange::compare_and_show(exchange, events, |event, _| {
-        tallies.add(event);
-        cases.note(event);
-    })?;
-    tallies.tell();
-    match cases.too_few(1) {
-        too_few if too_few.is_empty() => Ok(format!(
-            "chains: {RUNS} runs, {} answers (seed {seed}) compared, all agree",
-            named + compared
-        )),
-        too_few => Err(format!("too few compared: {}", too_few.join(", "))),
-    }
+    let compared = counted::compare(exchange, events, &mut Tallies::new())?;
+    Ok(format!(
+        "chains: {RUNS} runs, {} answers (seed {seed}) compared, all agree",
+        named + compared
+    ))
 }
 
 struct Tallies {
+    cases: Cases,
     fresh: Tally,
     steps: Tally,
     drops: Tally,
@@ -45,13 +35,17 @@ struct Tallies {
 impl Tallies {
     fn new() -> Tallies {
         Tallies {
+            cases: Cases::new(),
             fresh: Tally::new("fresh chains"),
             steps: Tally::new("fragments for chains"),
             drops: Tally::new("drops of chains"),
         }
     }
+}
 
+impl Counts<Event> for Tallies {
     fn add(&mut self, event: &Event) {
+        self.cases.note(event);
         let told = &event.second.told;
         match event.happening {
             Happening::Fresh { .. } => self.fresh.add(told.number, "fresh"),
@@ -79,6 +73,10 @@ impl Tallies {
         for tally in [&self.fresh, &self.steps, &self.drops] {
             println!("{tally}");
         }
+    }
+
+    fn too_few(&self) -> Vec<String> {
+        self.cases.too_few(1)
     }
 }
 

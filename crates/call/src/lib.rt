@@ -1,0 +1,194 @@
+// Calls in a frame (document 01, "Calls in a frame"; S8.7.2, S8.8.2): opened by an address packet, closed at the end of
+// the frame (what comes between is in `hearing`). The records of the eight calls go in and come back by value, the words
+// lie in a lent memory of 8 times 85.
+ghost use mathlib.Core.Path.{_≡_};
+ghost use Prim.Native.Nat.{_+_, _<_};
+ghost use mathlib.Core.List.{[]};
+ghost use Rattle.laws.specs.Choice.{pick};
+ghost use Rattle.refusal.specs.Told.{told};
+ghost use Rattle.calls.specs.Calls.{mostCalls, fresh, opens};
+ghost use Rattle.calls.specs.Steps.{callOf, added, listed, incompleteIn};
+ghost use Rattle.calls.specs.Answers.{openOf, openedIn, openingOf, endOf, endedWith, endedIn, asOpening, asEnd};
+ghost use Rattle.call.specs.Pieces.{openingCalls};
+use calls::BLANK;
+use calls::Call;
+use calls::CallOpened;
+use calls::CallOpening;
+use calls::Calls;
+use calls::FrameEnd;
+use calls::MEMORY;
+use calls::MOST_CALLS;
+use heard::Address;
+use packet::Packet;
+use refusal::Refusal;
+
+// The records with no call open.
+pub fn fresh() -> Calls
+    ensures { λ r. ⌜ r ≡ fresh mostCalls ⌝ }
+{
+    let calls = [BLANK; MOST_CALLS];
+    Calls {
+        size: 0,
+        calls: calls,
+    }
+}
+
+// The records with one call more.
+fn added(calls: Calls, call: Call) -> Calls
+    requires { ⌜ calls .size < mostCalls ⌝ }
+    ensures { λ r. ⌜ r ≡ added calls call ⌝ }
+{
+    let mut row = calls.calls;
+    let size = calls.size;
+    row[size] = call;
+    Calls {
+        size: size + 1,
+        calls: row,
+    }
+}
+
+// ---- an address packet
+
+// The call that an address packet opens.
+fn call_of(address: Address) -> Call
+    ensures { λ r. ⌜ r ≡ callOf address ⌝ }
+{
+    Call {
+        phase: address.phase,
+        vector: address.vector,
+        address: address.address,
+        priority: address.priority,
+        long_address: address.long_address,
+        has_vector: 0,
+        kind: 0,
+        check: 0,
+        start: 0,
+        words: 0,
+        area: 0,
+    }
+}
+
+// An address packet that is refused: the records stay.
+fn not_opened(calls: Calls, number: u32) -> CallOpening
+    ensures { λ r. ⌜ r ≡ asOpening (told number []) calls ⌝ }
+{
+    CallOpening {
+        answer: CallOpened {
+            number: number,
+            opened: 0,
+            call: 0,
+            fields: Address {
+                priority: 0,
+                phase: 0,
+                long_address: 0,
+                address: 0,
+                tone_only: 0,
+                vector: 0,
+            },
+        },
+        calls: calls,
+    }
+}
+
+// A call opened: 14 and 12 of 01's table, or the records with the new call behind the others.
+fn open_call(calls: Calls, address: Address) -> CallOpening
+    ensures { λ r. ⌜ r ≡ asOpening (openingOf calls address) (openingCalls calls address) ⌝ }
+{
+    let count = opened::count(calls);
+    if opened::find(calls, address.phase, address.vector) < count {
+        return not_opened(calls, Refusal::OutOfTurn.number());
+    }
+    if count == MOST_CALLS {
+        return not_opened(calls, Refusal::Full.number());
+    }
+    CallOpening {
+        answer: CallOpened {
+            number: 0,
+            opened: 1,
+            call: count,
+            fields: address,
+        },
+        calls: added(calls, call_of(address)),
+    }
+}
+
+// An address packet: the answer and the records then. A tone-only address opens no call and is told at once.
+pub fn open(calls: Calls, packet: Packet) -> CallOpening
+    ensures { λ r. ⌜ r ≡ asOpening (openOf calls (packet .bits)) (openedIn calls (packet .bits)) ⌝ }
+{
+    if !opened::sound(calls) {
+        return not_opened(calls, Refusal::State.number());
+    }
+    let read = heard::read_address(packet);
+    if read.number != 0 {
+        return not_opened(calls, read.number);
+    }
+    let address = read.fields;
+    if address.tone_only == 1 {
+        return CallOpening {
+            answer: CallOpened {
+                number: 0,
+                opened: 0,
+                call: 0,
+                fields: address,
+            },
+            calls: calls,
+        };
+    }
+    open_call(calls, address)
+}
+
+// ---- the end of the frame
+
+// The records with one call more, unless it is complete.
+fn added_unless(calls: Calls, call: Call, complete: bool) -> Calls
+    requires { ⌜ calls .size < mostCalls ⌝ }
+    ensures { λ r. ⌜ r ≡ pick complete calls (added calls call) ⌝ }
+{
+    if complete {
+        return calls;
+    }
+    added(calls, call)
+}
+
+// The open calls that are incomplete, in the order opened.
+fn incomplete(calls: Calls, memory: &[u32]) -> Calls
+    ensures { λ r. ⌜ r ≡ listed mostCalls (incompleteIn (opens calls) (now (memory .entry))) ⌝ }
+{
+    let row = calls.calls;
+    let count = opened::count(calls);
+    let mut found = fresh();
+    let mut i: usize = 0;
+    while i < count {
+        let call = row[i];
+        found = added_unless(found, call, area::is_complete(call, memory));
+        i += 1;
+    }
+    found
+}
+
+// The end of a frame: the calls that were incomplete, and the records with no call open.
+pub fn end_frame(calls: Calls, memory: &[u32]) -> FrameEnd
+    ensures { λ r. ⌜ r ≡ asEnd (endOf calls (now (memory .entry))) (endedWith calls (now (memory .entry))) (endedIn calls (now (memory .entry))) ⌝ }
+{
+    let none = fresh();
+    if !opened::sound(calls) {
+        return FrameEnd {
+            number: Refusal::State.number(),
+            incomplete: none,
+            calls: calls,
+        };
+    }
+    if memory.len() < MEMORY {
+        return FrameEnd {
+            number: Refusal::Room.number(),
+            incomplete: none,
+            calls: calls,
+        };
+    }
+    FrameEnd {
+        number: 0,
+        incomplete: incomplete(calls, memory),
+        calls: none,
+    }
+}

@@ -1,0 +1,10 @@
+pub mod Came
+pub mod Examples
+pub mod Laws
+pub mod Memory
+pub mod Premises
+pub mod Records
+pub mod Rows
+pub mod Runs
+pub mod Spans
+pub mod WordExamples

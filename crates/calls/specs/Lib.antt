@@ -1,0 +1,5 @@
+pub mod Answers
+pub mod Calls
+pub mod Runs
+pub mod Steps
+pub mod Words

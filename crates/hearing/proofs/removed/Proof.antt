@@ -1,0 +1,19 @@
+-- `removed` meets its contract.
+use borrow.Author.Needs.{needs}
+use Rattle.hearing.proofs.removed.Statement.{statement}
+use Rattle.hearing.proofs.removed.Tie as tie
+
+count-requires : tie.Need-count-requires
+count-requires c κs = search needs
+
+sub-t5 : tie.Need-sub-t5
+sub-t5 c = search needs
+
+without-requires : tie.Need-without-requires
+without-requires c κs = search needs
+
+returns : tie.Need-returns
+returns c = rw (c .before .count .ensures .0, c .without .ensures)
+
+pub removed-spec : {M : Type 1} → statement M
+removed-spec = tie.close (tie.spec count-requires sub-t5 without-requires returns)

@@ -1,0 +1,287 @@
+// Calls in a frame (document 01, "Calls in a frame"; S8.7.3 to S8.7.7, S8.8.2): given their span by a vector packet and
+// their words by message packets. The records of the eight calls go in and come back by value, the words lie in a lent
+// memory of 8 times 85.
+ghost use mathlib.Core.Path.{_≡_};
+ghost use Prim.Native.Nat.{_+_, _^_, _≤_, _<_};
+ghost use mathlib.Core.Bool.{true};
+ghost use mathlib.Core.List.{[]};
+ghost use lib.ListN.{length, getD, replicate};
+ghost use Rattle.laws.specs.Choice.{pick};
+ghost use Rattle.laws.specs.Lists.{put};
+ghost use Rattle.refusal.specs.Told.{told};
+ghost use Rattle.vector.specs.Reads.{isVector, vectorOf};
+ghost use Rattle.calls.specs.Calls.{mostCalls, blank, opens, holds};
+ghost use Rattle.calls.specs.Words.{lacking, isHeld, isLacked};
+ghost use Rattle.calls.specs.Steps.{bringsWords, vectorFits, withVector, nextArea, changed, without, removed};
+ghost use Rattle.calls.specs.Answers.{messageIn, vectorTold, wordTold, hearOf, heardIn, memoryAfter, asHearing};
+ghost use Rattle.hearing.specs.Pieces.{vectorCalls, vectorMemory, wordMemory};
+use calls::BLANK;
+use calls::Call;
+use calls::CallHeard;
+use calls::CallHearing;
+use calls::Calls;
+use calls::LACKING;
+use calls::MEMORY;
+use calls::MOST_CALLS;
+use heard::Message;
+use packet::Packet;
+use refusal::Refusal;
+use vector::Vector;
+
+// A packet that is refused: the records stay as they are given.
+fn unheard(calls: Calls, number: u32) -> CallHearing
+    ensures { λ r. ⌜ r ≡ asHearing (told number []) calls ⌝ }
+{
+    CallHearing {
+        answer: CallHeard {
+            number: number,
+            is_vector: 0,
+            call: 0,
+            kind: 0,
+            check: 0,
+            completed: 0,
+        },
+        calls: calls,
+    }
+}
+
+// The row without the record at a place: those behind it move one place down.
+fn without(row: [Call; MOST_CALLS], place: usize) -> [Call; MOST_CALLS]
+    requires { ⌜ place < mostCalls ⌝ }
+    ensures { λ r. ⌜ r ≡ without place row ⌝ }
+{
+    let mut after = row;
+    let mut i = place;
+    while i < MOST_CALLS - 1 {
+        let from = i + 1;
+        let call = row[from];
+        after[i] = call;
+        i += 1;
+    }
+    after[MOST_CALLS - 1] = BLANK;
+    after
+}
+
+// The area for the words of a call that gets its vector: how many calls have theirs.
+fn next_area(calls: Calls) -> u32
+    ensures { λ r. ⌜ r ≡ nextArea (opens calls) ⌝ }
+{
+    let row = calls.calls;
+    let mut i = opened::count(calls);
+    let mut area: u32 = 0;
+    while i > 0 {
+        i -= 1;
+        let call = row[i];
+        area = area + (call.has_vector != 0) as u32;
+    }
+    area
+}
+
+// The vectors that bring message words.
+fn brings_words(kind: u32) -> bool
+    ensures { λ r. ⌜ r ≡ bringsWords kind ⌝ }
+{
+    let is_numeric = (kind == Vector::STANDARD)
+        | (kind == Vector::SPECIAL)
+        | (kind == Vector::NUMBERED);
+    let is_text = (kind == Vector::SECURE) | (kind == Vector::ALPHANUMERIC) | (kind == Vector::HEX);
+    is_numeric | is_text
+}
+
+// Whether a vector brings no words, or a span that is one for its call.
+fn vector_fits(call: Call, vector: Vector) -> bool
+    ensures { λ r. ⌜ r ≡ vectorFits call vector ⌝ }
+{
+    !brings_words(vector.kind)
+        | span::fits(
+            call.long_address != 0,
+            call.vector,
+            vector.span.start,
+            vector.span.words,
+        )
+}
+
+// A call whose vector has come, its words in an area.
+fn with_vector(call: Call, vector: Vector, area: u32) -> Call
+    ensures { λ r. ⌜ r ≡ withVector call vector area ⌝ }
+{
+    Call {
+        phase: call.phase,
+        vector: call.vector,
+        address: call.address,
+        priority: call.priority,
+        long_address: call.long_address,
+        has_vector: 1,
+        kind: vector.kind,
+        check: vector.span.check,
+        start: vector.span.start,
+        words: vector.span.words,
+        area: area,
+    }
+}
+
+// No word of a call has come.
+fn clear(memory: &mut [u32], place: usize, words: usize)
+    requires { ⌜ place + words ≤ length (now memory) ⌝ }
+    ensures { λ r. ⌜ now (memory .exit) ≡ put (now (memory .entry)) place (replicate words lacking) ⌝ }
+{
+    let mut i: usize = 0;
+    while i < words {
+        memory[place + i] = LACKING;
+        i += 1;
+    }
+}
+
+// The records with an open call closed.
+fn removed(calls: Calls, place: usize) -> Calls
+    requires { ⌜ place < length (opens calls) ⌝ }
+    ensures { λ r. ⌜ r ≡ removed calls place ⌝ }
+{
+    let row = calls.calls;
+    let count = opened::count(calls);
+    Calls {
+        size: count - 1,
+        calls: without(row, place),
+    }
+}
+
+// The records with one of them changed.
+fn changed(calls: Calls, place: usize, call: Call) -> Calls
+    requires { ⌜ place < mostCalls ⌝ }
+    ensures { λ r. ⌜ r ≡ changed calls place call ⌝ }
+{
+    let mut row = calls.calls;
+    row[place] = call;
+    Calls {
+        size: calls.size,
+        calls: row,
+    }
+}
+
+// The call that a vector completes: its own, where it brings no words.
+fn completed_by(kind: u32, place: usize) -> u32
+    requires { ⌜ place < mostCalls ⌝ }
+    ensures { λ r. ⌜ r ≡ pick (bringsWords kind) 0 (2 ^ place) ⌝ }
+{
+    if brings_words(kind) {
+        return 0;
+    }
+    1 << place
+}
+
+// A vector for the call at a place: 14, 9 and 1 of 01's table, or the call with its span and none of its words.
+fn take_vector(calls: Calls, memory: &mut [u32], packet: Packet, place: usize) -> CallHearing
+    requires { ⌜ isVector (packet .bits) ≡ true ⌝ }
+    requires { ⌜ place < length (opens calls) ⌝ }
+    ensures told { λ r. ⌜ r ≡ asHearing (vectorTold calls (now (memory .entry)) place (getD (opens calls) place blank) (vectorOf (packet .bits))) (vectorCalls calls (now (memory .entry)) place (vectorOf (packet .bits))) ⌝ }
+    ensures memory { λ r. ⌜ now (memory .exit) ≡ vectorMemory calls (now (memory .entry)) place (vectorOf (packet .bits)) ⌝ }
+{
+    let row = calls.calls;
+    let call = row[place];
+    if call.has_vector != 0 {
+        return unheard(calls, Refusal::OutOfTurn.number());
+    }
+    let read = vector::read_vector(packet);
+    let vector = read.fields;
+    if !vector_fits(call, vector) {
+        return unheard(removed(calls, place), Refusal::Size.number());
+    }
+    if memory.len() < MEMORY {
+        return unheard(calls, Refusal::Room.number());
+    }
+    let given = with_vector(call, vector, next_area(calls));
+    clear(memory, area::place(given), given.words as usize);
+    CallHearing {
+        answer: CallHeard {
+            number: 0,
+            is_vector: 1,
+            call: place,
+            kind: given.kind,
+            check: given.check,
+            completed: completed_by(given.kind, place),
+        },
+        calls: changed(calls, place, given),
+    }
+}
+
+// A message word of which is known whether it is held and lacked: 17, 14 and 1 of 01's table, or the word given to the
+// calls that lack it.
+fn take_word(
+    calls: Calls,
+    memory: &mut [u32],
+    message: Message,
+    held: bool,
+    lacked: bool,
+) -> CallHearing
+    requires { ⌜ held ≡ isHeld (opens calls) message ⌝ }
+    requires { ⌜ lacked ≡ isLacked (opens calls) message (now memory) ⌝ }
+    ensures told { λ r. ⌜ r ≡ asHearing (wordTold calls (now (memory .entry)) message) calls ⌝ }
+    ensures memory { λ r. ⌜ now (memory .exit) ≡ wordMemory calls (now (memory .entry)) message ⌝ }
+{
+    if !held {
+        return unheard(calls, Refusal::NoCall.number());
+    }
+    if !lacked {
+        return unheard(calls, Refusal::OutOfTurn.number());
+    }
+    if memory.len() < MEMORY {
+        return unheard(calls, Refusal::Room.number());
+    }
+    CallHearing {
+        answer: CallHeard {
+            number: 0,
+            is_vector: 0,
+            call: 0,
+            kind: 0,
+            check: 0,
+            completed: awaited::give(calls, message, memory),
+        },
+        calls: calls,
+    }
+}
+
+// What stands in one place in vectors and message words: word number, error mark and phase; and the 21 bits.
+fn message_in(bits: u32) -> Message
+    ensures { λ r. ⌜ r ≡ messageIn bits ⌝ }
+{
+    Message {
+        word: (bits >> 24) % 0x80,
+        damaged: (bits >> 23) % 2,
+        phase: (bits >> 21) % 4,
+        bits: bits % 0x20_0000,
+    }
+}
+
+// Whether a packet is the vector of an open call.
+fn is_for_vector(calls: Calls, message: Message) -> bool
+    ensures { λ r. ⌜ r ≡ holds (message .phase) (message .word) (opens calls) ⌝ }
+{
+    opened::find(calls, message.phase, message.word) < opened::count(calls)
+}
+
+// A vector or message packet: the answer, the records then, and the words in the lent memory. Vector places are looked
+// at before spans.
+pub fn hear(calls: Calls, memory: &mut [u32], packet: Packet) -> CallHearing
+    ensures told { λ r. ⌜ r ≡ asHearing (hearOf calls (now (memory .entry)) (packet .bits)) (heardIn calls (now (memory .entry)) (packet .bits)) ⌝ }
+    ensures memory { λ r. ⌜ now (memory .exit) ≡ memoryAfter calls (now (memory .entry)) (packet .bits) ⌝ }
+{
+    if !opened::sound(calls) {
+        return unheard(calls, Refusal::State.number());
+    }
+    let id = packet.bits >> 24;
+    if !((Packet::FIRST_VECTOR <= id) & (id <= Packet::LAST_WORD)) {
+        return unheard(calls, Refusal::Packet.number());
+    }
+    let message = message_in(packet.bits);
+    if message.damaged != 0 {
+        return unheard(calls, Refusal::Damaged.number());
+    }
+    let asked = awaited::ask(calls, message, memory);
+    let held = asked.held;
+    let lacked = asked.lacked;
+    if is_for_vector(calls, message) {
+        let place = opened::find(calls, message.phase, message.word);
+        return take_vector(calls, memory, packet, place);
+    }
+    take_word(calls, memory, message, held, lacked)
+}
