@@ -156,7 +156,7 @@ message-digits text good =
     (all-append small text _ ∙ rw (characters, all-replicate small (2 - length text % 3) etx refl))
 
 -- F is 3 in the first fragment alone
-first-number : (place : ℕ) → eqb (fragmentNumber place) firstNumber ≡ eqb place 0
+pub first-number : (place : ℕ) → eqb (fragmentNumber place) firstNumber ≡ eqb place 0
 first-number place = by-test (eqb place 0)
   where
     by-test : (first : Bool) → eqb (pick first firstNumber ((place - 1) % 3)) firstNumber ≡ first

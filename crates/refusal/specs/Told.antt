@@ -56,7 +56,7 @@ abbrev pub kept : Bool → ℕ → ℕ
 kept good n = pick good n 0
 
 -- 01, "Order": the order in which the questions are asked. The first Room is the one for the chains' bytes, the last the one for every other buffer
-pub order : List Refusal
+unfoldable pub order : List Refusal
 order =
     Room ∷ State ∷ Text ∷ «Type» ∷ Range ∷ Offset ∷ Packet ∷ Address ∷ Size ∷ Damaged ∷ Checksum ∷ NoChain ∷ OutOfTurn ∷ TooLong ∷ Character ∷ Signature ∷ Full ∷ NoCall ∷ Room ∷ []
 

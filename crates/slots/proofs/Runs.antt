@@ -18,7 +18,7 @@ use Rattle.slots.specs.Answers.{dropOf, droppedFrom}
 use Rattle.slots.specs.Runs.{Event, came, dropped, State, after, afterAll, textAt}
 use Rattle.slots.proofs.Records.{fresh-sound}
 use Rattle.slots.proofs.Stores.{clear-sound, zero-there, cleared-not-found, OtherKey, Kept, kept-same, kept-set, kept-chain, kept-find, other-found}
-use Rattle.slots.proofs.Laws.{stays-sound, chains-length, other-record}
+use Rattle.slots.proofs.Laws.{stays-sound, chains-length, other-record, other-slot}
 use Rattle.slots.proofs.Texts.{buffer-length, other-text}
 
 -- ---- a drop
@@ -130,6 +130,11 @@ run-length s (event ∷ events) =
 abbrev pub Others : ℕ → ℕ → Event → Type 0
 Others whose n (came address words) = OtherKey whose n address (headingIn words .«message_number»)
 Others whose n (dropped address number) = OtherKey whose n address number
+
+-- .. of which the key's chain stays in its slot, and where it has none it gets none
+pub other-slot-of : (s : State) (event : Event) (whose n : ℕ) → Others whose n event → find whose n (after s event .chains) ≡ find whose n (s .chains)
+other-slot-of s (came address words) whose n other = other-slot (length (s .bytes)) (s .chains) address words whose n other
+other-slot-of s (dropped address number) whose n other = drop-other-slot (s .chains) address number whose n other
 
 -- .. and a run of such events
 unfoldable pub AllOthers : ℕ → ℕ → List Event → Type 0

@@ -10,6 +10,7 @@ pub const USAGE: &str = "usage: compare exports EXCHANGE_COMMAND.. [--seed NUMBE
        compare pages EXCHANGE_COMMAND.. [--seed NUMBER]
        compare fragments EXCHANGE_COMMAND.. [--seed NUMBER]
        compare chains EXCHANGE_COMMAND.. [--seed NUMBER]
+       compare air EXCHANGE_COMMAND.. [--seed NUMBER]
        compare calls EXCHANGE_COMMAND.. [--seed NUMBER]
        compare start-up FILE EXCHANGE_COMMAND..
        compare lines LISTING_COMMAND.. [--count NUMBER] [--seed NUMBER]
@@ -41,6 +42,10 @@ pub enum Task {
         seed: u64,
     },
     Chains {
+        exchange: Vec<String>,
+        seed: u64,
+    },
+    Air {
         exchange: Vec<String>,
         seed: u64,
     },
@@ -91,6 +96,10 @@ pub fn read(words: &[String]) -> Option<Task> {
         "chains" => {
             let (exchange, seed) = command_and_seed(rest)?;
             Some(Task::Chains { exchange, seed })
+        }
+        "air" => {
+            let (exchange, seed) = command_and_seed(rest)?;
+            Some(Task::Air { exchange, seed })
         }
         "calls" => {
             let (exchange, seed) = command_and_seed(rest)?;
@@ -214,7 +223,7 @@ mod tests {
     }
 
     #[test]
-    fn pages_fragments_chains_and_calls_may_have_a_seed() {
+    fn pages_fragments_chains_air_and_calls_may_have_a_seed() {
         for (options, seed) in [("", DEFAULT_SEED), (" --seed 7", 7)] {
             let exchange = words("run exchange");
             let task = Task::Pages { exchange, seed };
@@ -227,6 +236,10 @@ mod tests {
             let exchange = words("run exchange");
             let task = Task::Chains { exchange, seed };
             let line = format!("chains run exchange{options}");
+            assert_eq!(read(&words(&line)), Some(task), "{line}");
+            let exchange = words("run exchange");
+            let task = Task::Air { exchange, seed };
+            let line = format!("air run exchange{options}");
             assert_eq!(read(&words(&line)), Some(task), "{line}");
             let exchange = words("run exchange");
             let task = Task::Calls { exchange, seed };
@@ -284,6 +297,9 @@ mod tests {
             "chains",
             "chains --seed 1",
             "chains run --seed",
+            "air",
+            "air --seed 1",
+            "air run --seed",
             "calls",
             "calls --seed 1",
             "calls run --seed",

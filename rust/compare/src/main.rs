@@ -1,6 +1,7 @@
 //! Compares the proved library, and the listing program made from it, with the
 //! second program. The first difference ends the run with exit code 1.
 
+mod air;
 mod boundaries;
 mod calls;
 mod chains;
@@ -54,6 +55,7 @@ fn carry_out(task: &Task) -> Result<(), String> {
         Task::Pages { exchange, seed } => pages::compare(exchange, *seed)?,
         Task::Fragments { exchange, seed } => fragments::compare(exchange, *seed)?,
         Task::Chains { exchange, seed } => chains::compare(exchange, *seed)?,
+        Task::Air { exchange, seed } => air::compare(exchange, *seed)?,
         Task::Calls { exchange, seed } => calls::compare(exchange, *seed)?,
         Task::StartUp { file, exchange } => start_up::compare(file, exchange)?,
         Task::Lines {

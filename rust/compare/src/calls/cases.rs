@@ -1,7 +1,8 @@
-//! The cases that frames must bring, and how many of each there must be.
+//! The cases that frames must bring.
 
 use second::call::{Call, Calls, Key, MEMORY, MOST_WORDS};
 
+use crate::counted::Cases;
 use crate::host::{MortisevaneHeard, MortisevaneOpened};
 
 use super::events::{Event, Happening, Told};
@@ -9,9 +10,6 @@ use super::packets::{
     brings_words, index_of, is_numeric, kind_of, phase_of, span_of, vector_place_of, word_of,
     ADDRESS_UNUSED, DAMAGED, LONG, PRIORITY, TONE_ONLY, VECTOR_UNUSED, WORD_BITS,
 };
-
-/// How many of each there must be in a whole comparison.
-const LEAST: usize = 1_000;
 
 /// What a case is called, and whether an event is one of it.
 type Case = (&'static str, fn(&Seen) -> bool);
@@ -949,42 +947,19 @@ const LISTS: [List; 5] = [
     },
 ];
 
-/// How often each case came.
-pub struct Cases {
-    counts: [Vec<usize>; LISTS.len()],
+/// None of them yet.
+pub fn none() -> Cases {
+    let cases = LISTS.iter().flat_map(|list| list.cases);
+    Cases::named(cases.map(|(name, _)| *name))
 }
 
-impl Cases {
-    pub fn new() -> Cases {
-        Cases {
-            counts: LISTS.map(|list| vec![0; list.cases.len()]),
-        }
-    }
-
-    pub fn note(&mut self, event: &Event) {
-        let seen = Seen::new(event);
-        for (list, counts) in LISTS.iter().zip(&mut self.counts) {
-            if !(list.is_for)(&event.happening) {
-                continue;
-            }
-            for ((_, is_it), count) in list.cases.iter().zip(counts) {
-                *count += usize::from(is_it(&seen));
-            }
-        }
-    }
-
-    /// Each case of which there were not enough, in a comparison that is so many
-    /// times smaller than a whole one.
-    pub fn too_few(&self, times_smaller: usize) -> Vec<String> {
-        let cases = LISTS.iter().flat_map(|list| list.cases);
-        let counted = cases.zip(self.counts.iter().flatten());
-        let too_few = counted.filter(|(_, count)| **count < LEAST.div_ceil(times_smaller));
-        let told = too_few.map(|((name, _), count)| format!("{name} ({count})"));
-        told.collect()
-    }
-
-    /// How many cases there are.
-    pub fn number() -> usize {
-        LISTS.iter().map(|list| list.cases.len()).sum()
-    }
+/// Counts an event.
+pub fn note(cases: &mut Cases, event: &Event) {
+    let seen = &Seen::new(event);
+    cases.note(LISTS.iter().flat_map(|list| {
+        let is_for = (list.is_for)(&event.happening);
+        list.cases
+            .iter()
+            .map(move |(_, is_it)| is_for && is_it(seen))
+    }));
 }

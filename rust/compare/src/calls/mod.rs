@@ -9,10 +9,9 @@ mod packets;
 mod plan;
 mod states;
 
-use crate::counted::{self, Counts};
+use crate::counted::{self, Cases, Counts};
 use crate::tally::Tally;
 
-use cases::Cases;
 use events::{Event, Happening, Told};
 
 const FRAMES: usize = 200_000;
@@ -20,11 +19,12 @@ const FRAMES: usize = 200_000;
 pub fn compare(exchange: &[String], seed: u64) -> Result<String, String> {
     let named = named::compare(exchange)?;
     let events = frames::seeded_events(seed, FRAMES);
-    let compared = counted::compare(exchange, events, &mut Tallies::new())?;
+    let mut tallies = Tallies::new();
+    let compared = counted::compare(exchange, events, &mut tallies)?;
     Ok(format!(
         "calls: {FRAMES} frames, {} answers (seed {seed}) compared, {} cases, all agree",
         named + compared,
-        Cases::number()
+        tallies.cases.number()
     ))
 }
 
@@ -40,7 +40,7 @@ struct Tallies {
 impl Tallies {
     fn new() -> Tallies {
         Tallies {
-            cases: Cases::new(),
+            cases: cases::none(),
             fresh: Tally::new("fresh calls"),
             addresses: Tally::new("addresses of calls"),
             heard: Tally::new("vectors and words"),
@@ -52,7 +52,7 @@ impl Tallies {
 
 impl Counts<Event> for Tallies {
     fn add(&mut self, event: &Event) {
-        self.cases.note(event);
+        cases::note(&mut self.cases, event);
         let told = &event.second.told;
         let tally = match event.happening {
             Happening::Fresh { .. } => &mut self.fresh,
@@ -98,10 +98,10 @@ mod tests {
     /// A fiftieth of the frames brings a fiftieth of each case.
     #[test]
     fn every_case_comes() {
-        let mut cases = Cases::new();
+        let mut came = cases::none();
         for event in frames::seeded_events(1, FRAMES / 50) {
-            cases.note(&event);
+            cases::note(&mut came, &event);
         }
-        assert_eq!(cases.too_few(50), [""; 0]);
+        assert_eq!(came.too_few(50), [""; 0]);
     }
 }

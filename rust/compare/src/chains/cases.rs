@@ -1,14 +1,12 @@
-//! The cases that runs must bring, and how many of each there must be.
+//! The cases that runs must bring.
 
 use second::chain::{Chains, Key, Record, BUFFER, LAST_ADDRESS, LAST_MESSAGE_NUMBER};
 use second::fragment::{self, FragmentRead, FIRST, LONGEST_TEXT, SIZES};
 
+use crate::counted::Cases;
 use crate::host::MortisevaneChain;
 
 use super::events::{Event, Happening};
-
-/// How many of each there must be in a whole comparison.
-const LEAST: usize = 1_000;
 
 /// What a case is called, and whether an event is one of it.
 type Case = (&'static str, fn(&Seen) -> bool);
@@ -324,31 +322,13 @@ fn has_two_of_one_key(chains: &Chains) -> bool {
     (1..keys.len()).any(|place| keys[..place].contains(&keys[place]))
 }
 
-/// How often each case came.
-pub struct Cases {
-    counts: Vec<usize>,
+/// None of them yet.
+pub fn none() -> Cases {
+    Cases::named(CASES.iter().map(|(name, _)| *name))
 }
 
-impl Cases {
-    pub fn new() -> Cases {
-        Cases {
-            counts: vec![0; CASES.len()],
-        }
-    }
-
-    pub fn note(&mut self, event: &Event) {
-        let seen = Seen::new(event);
-        for (count, (_, is_it)) in self.counts.iter_mut().zip(CASES) {
-            *count += usize::from(is_it(&seen));
-        }
-    }
-
-    /// Each case of which there were not enough, in a comparison that is so many
-    /// times smaller than a whole one.
-    pub fn too_few(&self, times_smaller: usize) -> Vec<String> {
-        let counted = CASES.iter().zip(&self.counts);
-        let too_few = counted.filter(|(_, count)| **count < LEAST.div_ceil(times_smaller));
-        let told = too_few.map(|((name, _), count)| format!("{name} ({count})"));
-        told.collect()
-    }
+/// Counts an event.
+pub fn note(cases: &mut Cases, event: &Event) {
+    let seen = Seen::new(event);
+    cases.note(CASES.iter().map(|(_, is_it)| is_it(&seen)));
 }

@@ -2,15 +2,14 @@
 //! buffer beside the second program's after each of them.
 
 mod cases;
-mod events;
-mod messages;
+pub mod events;
+pub mod messages;
 mod named;
-mod runs;
+pub mod runs;
 
-use crate::counted::{self, Counts};
+use crate::counted::{self, Cases, Counts};
 use crate::tally::Tally;
 
-use cases::Cases;
 use events::{Event, Happening};
 
 const RUNS: usize = 200_000;
@@ -35,7 +34,7 @@ struct Tallies {
 impl Tallies {
     fn new() -> Tallies {
         Tallies {
-            cases: Cases::new(),
+            cases: cases::none(),
             fresh: Tally::new("fresh chains"),
             steps: Tally::new("fragments for chains"),
             drops: Tally::new("drops of chains"),
@@ -45,7 +44,7 @@ impl Tallies {
 
 impl Counts<Event> for Tallies {
     fn add(&mut self, event: &Event) {
-        self.cases.note(event);
+        cases::note(&mut self.cases, event);
         let told = &event.second.told;
         match event.happening {
             Happening::Fresh { .. } => self.fresh.add(told.number, "fresh"),
@@ -87,10 +86,10 @@ mod tests {
     /// A fiftieth of the runs brings a fiftieth of each case.
     #[test]
     fn every_case_comes() {
-        let mut cases = Cases::new();
+        let mut came = cases::none();
         for event in runs::seeded_events(1, RUNS / 50) {
-            cases.note(&event);
+            cases::note(&mut came, &event);
         }
-        assert_eq!(cases.too_few(50), [""; 0]);
+        assert_eq!(came.too_few(50), [""; 0]);
     }
 }

@@ -58,7 +58,7 @@ fn seeded_run(random: &mut Random) -> Vec<Event> {
 }
 
 /// Any bytes; some buffers are longer than they need be.
-fn seeded_buffer(random: &mut Random) -> Vec<u8> {
+pub fn seeded_buffer(random: &mut Random) -> Vec<u8> {
     let longer = random.choose(&[0, 0, 1, 40]);
     let mut buffer = vec![0; BUFFER + longer];
     for piece in buffer.chunks_mut(8) {
@@ -173,7 +173,7 @@ impl Run {
 
 /// One, two or three fragments are lost, one comes again at once or later, or the
 /// message comes from its beginning.
-fn lose_or_repeat(random: &mut Random, message: &mut Message) {
+pub fn lose_or_repeat(random: &mut Random, message: &mut Message) {
     let next = message.next as u64;
     message.next = match random.below(6) {
         lost @ 0..=2 => message.next + 1 + lost as usize,
@@ -185,15 +185,20 @@ fn lose_or_repeat(random: &mut Random, message: &mut Message) {
 
 /// The share of the slot into which the fragment would go.
 fn likely_part(random: &mut Random, chains: &Chains, address: u32, words: &[u32]) -> Range<usize> {
-    let first_word = words.first().copied().unwrap_or_default();
-    let key = Key {
-        address,
-        message_number: first_word >> MESSAGE_NUMBER & 63,
-    };
+    let key = key_of(address, words);
     let slot = chains.slot_of(key).or(chains.first_free());
     let slot = slot.unwrap_or_else(|| any_slot(random));
     let from = slot * LONGEST_TEXT;
     from..from + LONGEST_TEXT
+}
+
+/// What a fragment's chain is known by, if the fragment is good.
+pub fn key_of(address: u32, words: &[u32]) -> Key {
+    let first_word = words.first().copied().unwrap_or_default();
+    Key {
+        address,
+        message_number: first_word >> MESSAGE_NUMBER & 63,
+    }
 }
 
 fn any_slot(random: &mut Random) -> usize {

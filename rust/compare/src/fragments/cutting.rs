@@ -26,11 +26,11 @@ const MOST_FRAGMENTS: usize = 337;
 pub const MOST_WORDS: usize = 674;
 
 pub struct Cut {
-    text: Vec<u8>,
-    marks: Marks,
-    largest: usize,
+    pub text: Vec<u8>,
+    pub marks: Marks,
+    pub largest: usize,
     /// What stands in the lent words before.
-    lent: Vec<u32>,
+    pub lent: Vec<u32>,
 }
 
 /// The answer and the whole lent row must agree. The exchange program itself

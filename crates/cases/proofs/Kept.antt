@@ -1,0 +1,114 @@
+-- Ours keeps what is demanded of any host.
+use Prim.Native.Nat.{ℕ, _*_}
+use mathlib.Core.Bool.{Bool, true, false, not, _&&_, false≢true}
+use mathlib.Core.List.{List, [], _∷_, map}
+use mathlib.Core.Logic.{inl, inr, ⊎-elim}
+use mathlib.Core.Path.{_≡_, refl, sym}
+use borrow.Author.Tests.{leb-true, leb-false}
+use lib.Dec.{leb, ltb, eqb}
+use lib.ListN.{length}
+use Rattle.laws.specs.Choice.{pick}
+use Rattle.laws.proofs.Tests.{decided}
+use Rattle.refusal.specs.declared.Refusal.{Refusal}
+use Rattle.refusal.specs.declared.Refusal.the-variants as refusals
+use Rattle.refusal.specs.Told.{Told, numberOf, order, given, ask, numberTold}
+use Rattle.ranges.specs.declared.Classed.{Classed}
+use Rattle.ranges.specs.Ranges.{classOf, found}
+use Rattle.address.specs.Words.{layoutOf, wordsAs, wordsOf, addressOf}
+use Rattle.address.proofs.Fits.{known-class}
+use Rattle.address.proofs.Laws.{there-and-back}
+use Rattle.frames.specs.Listening.{heard, countOf}
+use Rattle.frames.proofs.Laws.{counted}
+use Rattle.sums.specs.Words.{undamaged}
+use Rattle.message.specs.Fragments.{mostCharacters, isSize, checked}
+use Rattle.fragment.specs.declared.FragmentRead.{FragmentRead}
+use Rattle.slots.specs.declared.Chain.{Chain}
+use Rattle.slots.specs.Chains.{isAddress, isMessage, holds, sound}
+use Rattle.slots.specs.Steps.{headingIn, isFirst, goesOn, grows, whole, losing, grown, sumAfter, charactersAfter, chainBefore, fate}
+use Rattle.slots.specs.Answers.{known, full, toldOf, stepOf, dropOf}
+use Rattle.slots.specs.Runs.{Event, came, dropped, State, answerTo}
+use Rattle.slots.proofs.Laws.{refused-stays, lost-closes}
+use Rattle.slots.proofs.Texts.{refused-writes-nothing}
+use Rattle.slots.proofs.Runs.{drop-refused}
+use Rattle.air.specs.Demand.{ours}
+use Rattle.cases.specs.Demands.{Line, numberBy, linesFor, AsTheTable, KeepsWhatItHas, WordsAndBack, FrameRule}
+
+-- ---- demand 1: the table
+
+-- whether a row is another with some left out
+unfoldable pub isPartOf : List ℕ → List ℕ → Bool
+isPartOf [] all = true
+isPartOf (a ∷ row) [] = false
+isPartOf (a ∷ row) (b ∷ all) = pick (eqb a b) (isPartOf row all) (isPartOf (a ∷ row) all)
+
+-- a question has its refusal's number, or that of what follows
+asked : (test : Bool) (r : Refusal) (rest : Told) (n : ℕ) → numberTold rest ≡ n → numberTold (ask test r rest) ≡ pick test (numberOf r) n
+asked true r rest n follows = refl
+asked false r rest n follows = follows
+
+-- what becomes of a chain has the number of the first of 14, 15, 16 and 12 that is given
+of-chain : (row : List Chain) (address : ℕ) (h : FragmentRead) (c : Chain) (late over on wrong : Bool)
+    → numberTold (toldOf row address h (losing late refusals.OutOfTurn (losing over refusals.TooLong (pick on (grows c) (losing wrong refusals.Signature whole)))))
+    ≡ pick late 14 (pick over 15 (pick (not on && wrong) 16 (pick (full row address h) 12 0)))
+of-chain row address h c true over on wrong = refl
+of-chain row address h c false true on wrong = refl
+of-chain row address h c false false true wrong = asked (full row address h) refusals.Full _ 0 refl
+of-chain row address h c false false false true = refl
+of-chain row address h c false false false false = asked (full row address h) refusals.Full _ 0 refl
+
+-- each answer is the table's
+pub table-kept : AsTheTable ours
+unfolding stepOf dropOf fate numberBy
+table-kept s (came address words) =
+    let row = s .chains in
+    let h = headingIn words in
+    let c = chainBefore row address h in
+    asked (ltb (length (s .bytes)) (length row * mostCharacters)) refusals.Room _ _
+    (asked (not (sound row)) refusals.State _ _
+    (asked (not (isAddress address)) refusals.Address _ _
+    (asked (not (isSize (length words))) refusals.Size _ _
+    (asked (not (undamaged words)) refusals.Damaged _ _
+    (asked (not (checked words)) refusals.Checksum _ _
+    (asked (not (isFirst h) && not (known row address h)) refusals.NoChain _ _
+    (of-chain row address h (grown c h) (not (eqb (h .«fragment_number») (c .«next_fragment»))) (ltb mostCharacters (charactersAfter c h)) (goesOn h) (not (eqb (sumAfter c h) 127)))))))))
+table-kept s (dropped address n) =
+    asked (not (sound (s .chains))) refusals.State _ _
+    (asked (not (isMessage n)) refusals.Packet _ _
+    (asked (not (isAddress address)) refusals.Address _ _
+    (asked (not (holds address n (s .chains))) refusals.NoChain (given []) 0 refl)))
+
+-- after a refusal all is as it was, but for a chain that 14, 15 or 16 closes
+pub state-kept : KeepsWhatItHas ours
+state-kept s (came address words) some = (
+  refused-writes-nothing (s .chains) address words (s .bytes) some,
+  ⊎-elim
+      (λ is. let late = leb-true 14 (numberTold (answerTo s (came address words))) is in inr (late, lost-closes (length (s .bytes)) (s .chains) address words late .0))
+      (λ none. let early = leb-false 14 (numberTold (answerTo s (came address words))) none in inl (refused-stays (length (s .bytes)) (s .chains) address words some early))
+      (decided (leb 14 (numberTold (answerTo s (came address words))))),
+)
+state-kept s (dropped address n) some = (refl, inl (drop-refused (s .chains) address n some))
+
+-- the lines stand in the table's order: its numbers, some left out
+pub lines-in-order : (s : State) (event : Event) → isPartOf (map {A = Line} {B = ℕ} (λ line. numberOf (line .refusal)) (linesFor s event)) (map numberOf order) ≡ true
+unfolding isPartOf order
+lines-in-order s (came address words) = refl
+lines-in-order s (dropped address n) = refl
+
+-- ---- demand 2: words and back
+
+-- an accepted address has words, which lead back to it
+pub words-kept : WordsAndBack wordsOf addressOf
+words-kept address is = by-class (classOf address) refl is
+  where
+    by-class : (class : Classed) → classOf address ≡ class → found class ≡ true → (row : List ℕ) × (wordsOf address ≡ given row) × (addressOf row ≡ given (address ∷ []))
+    by-class (Classed.In class) e is =
+        let row = wordsAs (layoutOf class) address in
+        let words : wordsOf address ≡ given row = sym (known-class address e) in
+        (row, words, there-and-back address row words)
+    by-class (Classed.Refused r) e is = absurd (false≢true is)
+
+-- ---- the frame rule
+
+-- the frames that are counted are the marked bits
+pub count-kept : FrameRule (λ listeners. countOf (heard listeners))
+count-kept listeners = sym (counted (heard listeners))

@@ -1,0 +1,3 @@
+pub mod Cases
+pub mod Kept
+pub mod Idle
