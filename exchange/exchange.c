@@ -1,5 +1,5 @@
 /*
- * The exchange: serves the exports of the archives libhost_*.a over standard
+ * The exchange: serves the exports of libmortisevane.a over standard
  * input and output, so that a program of any machine can ask the proved library
  * for its answers. The library is built for x86-64 Linux alone; this program is
  * linked with it, needs nothing else, and runs under an emulator where the
@@ -23,7 +23,7 @@
  *   9  frames_listened   16 times u8 frame, u8 collapse; then u32 count
  *
  * From here on every number is a u32. A builder takes the fields of its packet
- * in the order of its struct below; a reader takes a packet and answers the
+ * in the order of its struct in the header; a reader takes a packet and answers the
  * number and those fields, the fields of a struct within a struct in its place.
  *
  *  10  build_checksum            20  read_checksum
@@ -88,7 +88,7 @@
  *                        number, the chains, the part
  *
  * Calls are a u64, how many are open, and their eight records, each of the numbers of
- * its struct below in their order. Their lent memory is kept as the chains' buffer is,
+ * its struct in the header in their order. Their lent memory is kept as the chains' buffer is,
  * and a part of it is told in the same way, in bytes. No request of calls but 50 and 54
  * comes before the first 50.
  *
@@ -110,461 +110,9 @@
  * unknown or too long ends it with status 1 and a line on standard error.
  */
 
-/* The compiler comes without headers, but it knows the types. */
-typedef __UINT8_TYPE__ uint8_t;
-typedef __UINT16_TYPE__ uint16_t;
-typedef __UINT32_TYPE__ uint32_t;
-typedef __UINT64_TYPE__ uint64_t;
-typedef __SIZE_TYPE__ size_t;
+#include "mortisevane.h"
 
-/* ---- The exports of libhost_address.a, libhost_capcode.a and libhost_frames.a ---- */
-
-enum { MOST_LISTENERS = 16, FRAME_PACKETS = 8 };
-
-struct class_answer {
-    uint32_t number;
-    uint32_t class;
-};
-
-struct words_answer {
-    uint32_t number;
-    uint32_t count;
-    uint32_t first;
-    uint32_t second;
-};
-
-struct address_answer {
-    uint32_t number;
-    uint64_t address;
-};
-
-struct capcode_answer {
-    uint32_t number;
-    uint8_t letter;
-    uint8_t frame;
-    uint8_t collapse;
-    uint8_t phase;
-    uint8_t base;
-    uint64_t address;
-};
-
-struct assignment_answer {
-    uint32_t number;
-    uint8_t phase;
-    uint8_t base;
-};
-
-struct length_answer {
-    uint32_t number;
-    size_t length;
-};
-
-struct wait_answer {
-    uint32_t number;
-    uint32_t frames;
-};
-
-struct frames_answer {
-    uint32_t number;
-    uint32_t count;
-    uint16_t masks[FRAME_PACKETS];
-};
-
-struct listener {
-    uint8_t frame;
-    uint8_t collapse;
-};
-
-struct listeners {
-    struct listener listeners[MOST_LISTENERS];
-    uint32_t count;
-};
-
-struct class_answer mortisevane_address_class(uint64_t address);
-struct words_answer mortisevane_address_words(uint64_t address);
-struct address_answer mortisevane_word_address(uint32_t word);
-struct address_answer mortisevane_pair_address(uint32_t first, uint32_t second);
-struct capcode_answer mortisevane_capcode_read(const uint8_t *text, size_t text_length);
-struct assignment_answer mortisevane_capcode_assign(uint8_t letter, uint8_t frame,
-                                                    uint8_t collapse, uint64_t address);
-struct length_answer mortisevane_capcode_print(uint8_t letter, uint8_t frame, uint8_t collapse,
-                                               uint64_t address, uint8_t *out, size_t out_length);
-struct wait_answer mortisevane_frames_wait(uint8_t from, uint8_t to);
-struct frames_answer mortisevane_frames_listened(struct listeners listeners);
-
-/* ---- The exports of libhost_packet.a ---- */
-
-struct checksum {
-    uint32_t value;
-};
-
-struct configuration {
-    uint32_t oscillator;
-    uint32_t polarity;
-    uint32_t synchronous_mode;
-    uint32_t maximum_off_time;
-    uint32_t clock_output_disable;
-    uint32_t minute_timer;
-    uint32_t low_battery_polarity;
-};
-
-struct control {
-    uint32_t forced_frames;
-    uint32_t single_phase;
-    uint32_t phase;
-    uint32_t block_information;
-    uint32_t minute_timer_clear;
-    uint32_t on;
-};
-
-struct all_frame_mode {
-    uint32_t decrement;
-    uint32_t force;
-    uint32_t decrement_temporary;
-};
-
-struct receiver_lines {
-    uint32_t forced;
-    uint32_t settings;
-};
-
-struct shut_down {
-    uint32_t setting;
-    uint32_t enable;
-    uint32_t low_battery_check;
-    uint32_t lines;
-    uint32_t time;
-};
-
-struct frame_assignment {
-    uint32_t range;
-    uint32_t frames;
-};
-
-struct user_address {
-    uint32_t location;
-    uint32_t long_address;
-    uint32_t tone_only;
-    uint32_t word;
-};
-
-struct address_enable {
-    uint32_t enabled;
-};
-
-struct part_id {
-    uint32_t model;
-    uint32_t compatibility;
-    uint32_t revision;
-};
-
-struct status {
-    uint32_t frame_valid;
-    uint32_t frame;
-    uint32_t synchronous;
-    uint32_t low_battery;
-    uint32_t cycle;
-    uint32_t synchronous_update;
-    uint32_t low_battery_update;
-    uint32_t minute;
-    uint32_t end_of_frame;
-    uint32_t overflow;
-};
-
-struct address {
-    uint32_t priority;
-    uint32_t phase;
-    uint32_t long_address;
-    uint32_t address;
-    uint32_t tone_only;
-    uint32_t vector;
-};
-
-struct span {
-    uint32_t check;
-    uint32_t words;
-    uint32_t start;
-};
-
-struct short_message {
-    uint32_t kind;
-    uint32_t first;
-    uint32_t second;
-    uint32_t third;
-    uint32_t source;
-    uint32_t retrieval;
-    uint32_t message;
-    uint32_t unread;
-};
-
-struct instruction {
-    uint32_t kind;
-    uint32_t address;
-    uint32_t frame;
-    uint32_t unread;
-};
-
-struct vector {
-    uint32_t word;
-    uint32_t damaged;
-    uint32_t phase;
-    uint32_t kind;
-    struct span span;
-    struct short_message short_message;
-    struct instruction instruction;
-};
-
-struct message {
-    uint32_t word;
-    uint32_t damaged;
-    uint32_t phase;
-    uint32_t bits;
-};
-
-struct built {
-    uint32_t number;
-    uint32_t packet;
-};
-
-/* What a reader answers has one form: the number, and the fields of its kind. */
-#define READ_ANSWER(kind)   \
-    struct kind##_read {    \
-        uint32_t number;    \
-        struct kind fields; \
-    }
-
-READ_ANSWER(checksum);
-READ_ANSWER(configuration);
-READ_ANSWER(control);
-READ_ANSWER(all_frame_mode);
-READ_ANSWER(receiver_lines);
-READ_ANSWER(shut_down);
-READ_ANSWER(frame_assignment);
-READ_ANSWER(user_address);
-READ_ANSWER(address_enable);
-READ_ANSWER(part_id);
-READ_ANSWER(status);
-READ_ANSWER(address);
-READ_ANSWER(vector);
-READ_ANSWER(message);
-
-struct built mortisevane_build_checksum(struct checksum fields);
-struct built mortisevane_build_configuration(struct configuration fields);
-struct built mortisevane_build_control(struct control fields);
-struct built mortisevane_build_all_frame_mode(struct all_frame_mode fields);
-struct built mortisevane_build_receiver_lines(struct receiver_lines fields);
-struct built mortisevane_build_shut_down(struct shut_down fields);
-struct built mortisevane_build_frame_assignment(struct frame_assignment fields);
-struct built mortisevane_build_user_address(struct user_address fields);
-struct built mortisevane_build_address_enable(struct address_enable fields);
-struct built mortisevane_build_part_id(struct part_id fields);
-
-struct checksum_read mortisevane_read_checksum(uint32_t packet);
-struct configuration_read mortisevane_read_configuration(uint32_t packet);
-struct control_read mortisevane_read_control(uint32_t packet);
-struct all_frame_mode_read mortisevane_read_all_frame_mode(uint32_t packet);
-struct receiver_lines_read mortisevane_read_receiver_lines(uint32_t packet);
-struct shut_down_read mortisevane_read_shut_down(uint32_t packet);
-struct frame_assignment_read mortisevane_read_frame_assignment(uint32_t packet);
-struct user_address_read mortisevane_read_user_address(uint32_t packet);
-struct address_enable_read mortisevane_read_address_enable(uint32_t packet);
-struct part_id_read mortisevane_read_part_id(uint32_t packet);
-struct status_read mortisevane_read_status(uint32_t packet);
-struct address_read mortisevane_read_address(uint32_t packet);
-struct vector_read mortisevane_read_vector(uint32_t packet);
-struct message_read mortisevane_read_message(uint32_t packet);
-
-uint32_t mortisevane_may_send(uint32_t packet);
-
-/* ---- The exports of libhost_mirror.a ---- */
-
-/* `register` is a word of C's own. */
-struct mirror {
-    uint32_t sum_register;
-    uint32_t talking;
-};
-
-struct mirrored {
-    uint32_t number;
-    struct mirror mirror;
-};
-
-struct mirrored mortisevane_mirror_reset(uint32_t packet);
-struct mirrored mortisevane_mirror_step(struct mirror mirror, uint32_t packet);
-struct mirrored mortisevane_mirror_run(struct mirror mirror, const uint32_t *packets,
-                                       size_t count);
-struct built mortisevane_mirror_closing(struct mirror mirror);
-
-/* ---- The exports of libhost_sums.a and libhost_numeric.a ---- */
-
-struct numbering {
-    uint32_t message_number;
-    uint32_t retrieval;
-    uint32_t special_format;
-};
-
-struct written {
-    uint32_t number;
-    uint32_t check;
-    size_t words;
-};
-
-struct page_read {
-    uint32_t number;
-    struct numbering numbering;
-    size_t characters;
-};
-
-uint32_t mortisevane_sum_six_bit(const uint32_t *words, size_t words_length);
-uint32_t mortisevane_sum_ten_bit(const uint32_t *words, size_t words_length);
-uint32_t mortisevane_sum_signature(const uint8_t *characters, size_t characters_length);
-struct written mortisevane_numeric_write(const uint8_t *text, size_t text_length, uint32_t kind,
-                                         struct numbering numbering, uint32_t *words,
-                                         size_t words_length);
-struct page_read mortisevane_numeric_read(uint32_t kind, uint32_t check, const uint32_t *words,
-                                          size_t words_length, uint8_t *text,
-                                          size_t text_length);
-
-/* ---- The exports of libhost_fragment.a ---- */
-
-struct fragment_read {
-    uint32_t number;
-    uint32_t continued;
-    uint32_t fragment_number;
-    uint32_t message_number;
-    uint32_t retrieval;
-    uint32_t mail_drop;
-    uint32_t signature;
-    uint32_t sum;
-    size_t characters;
-};
-
-struct marks {
-    uint32_t message_number;
-    uint32_t retrieval;
-    uint32_t mail_drop;
-};
-
-struct text_cut {
-    uint32_t number;
-    size_t fragments;
-    size_t words;
-};
-
-struct fragment_read mortisevane_fragment_heading(const uint32_t *words, size_t words_length);
-struct fragment_read mortisevane_fragment_read(const uint32_t *words, size_t words_length,
-                                               uint8_t *text, size_t text_length);
-struct text_cut mortisevane_text_cut(const uint8_t *text, size_t text_length, struct marks marks,
-                                     size_t largest, uint32_t *words, size_t words_length);
-
-/* ---- The exports of libhost_chain.a ---- */
-
-enum { CHAINS = 8 };
-
-struct chain {
-    uint32_t is_open;
-    uint32_t address;
-    uint32_t message_number;
-    uint32_t next_fragment;
-    uint32_t sum;
-    size_t characters;
-};
-
-struct chains {
-    struct chain slots[CHAINS];
-};
-
-struct chain_answer {
-    uint32_t number;
-    uint32_t lost;
-    uint32_t begun;
-    uint32_t retrieval;
-    uint32_t mail_drop;
-    uint32_t complete;
-    size_t slot;
-    size_t place;
-    size_t characters;
-};
-
-struct chain_step {
-    struct chain_answer answer;
-    struct chains chains;
-};
-
-struct chain_drop {
-    uint32_t number;
-    struct chains chains;
-};
-
-struct chains mortisevane_chains_fresh(void);
-struct chain_step mortisevane_chain_step(struct chains chains, uint8_t *buffer,
-                                         size_t buffer_length, uint32_t address,
-                                         const uint32_t *words, size_t words_length);
-struct chain_drop mortisevane_chain_drop(struct chains chains, uint32_t address,
-                                         uint32_t message_number);
-
-/* ---- The exports of libhost_call.a ---- */
-
-enum { CALLS = 8 };
-
-struct call {
-    uint32_t phase;
-    uint32_t vector;
-    uint32_t address;
-    uint32_t priority;
-    uint32_t long_address;
-    uint32_t has_vector;
-    uint32_t kind;
-    uint32_t check;
-    uint32_t start;
-    uint32_t words;
-    uint32_t area;
-};
-
-struct calls {
-    size_t size;
-    struct call calls[CALLS];
-};
-
-struct call_opened {
-    uint32_t number;
-    uint32_t opened;
-    size_t call;
-    struct address fields;
-};
-
-struct call_opening {
-    struct call_opened answer;
-    struct calls calls;
-};
-
-struct call_heard {
-    uint32_t number;
-    uint32_t is_vector;
-    size_t call;
-    uint32_t kind;
-    uint32_t check;
-    uint32_t completed;
-};
-
-struct call_hearing {
-    struct call_heard answer;
-    struct calls calls;
-};
-
-struct frame_end {
-    uint32_t number;
-    struct calls incomplete;
-    struct calls calls;
-};
-
-struct calls mortisevane_calls_fresh(void);
-struct call_opening mortisevane_call_open(struct calls calls, uint32_t packet);
-struct call_hearing mortisevane_call_hear(struct calls calls, uint32_t *memory,
-                                          size_t memory_length, uint32_t packet);
-struct frame_end mortisevane_call_end(struct calls calls, const uint32_t *memory,
-                                      size_t memory_length);
-size_t mortisevane_call_place(struct call call);
+enum { FRAME_PACKETS = 8 };
 
 /* ---- What a compiler may call by itself, and no C library is here to give ---- */
 
@@ -860,21 +408,21 @@ static void give_lent(struct lent *lent) { give_bytes(row_of(lent), lent->length
 
 static void serve_address_class(void)
 {
-    struct class_answer answer = mortisevane_address_class(take_u64());
+    struct mortisevane_class answer = mortisevane_address_class(take_u64());
     give_u32(answer.number);
-    give_u32(answer.class);
+    give_u32(answer.address_class);
 }
 
 static void serve_address_words(void)
 {
-    struct words_answer answer = mortisevane_address_words(take_u64());
+    struct mortisevane_words answer = mortisevane_address_words(take_u64());
     give_u32(answer.number);
     give_u32(answer.count);
     give_u32(answer.first);
     give_u32(answer.second);
 }
 
-static void give_address(struct address_answer answer)
+static void give_address(struct mortisevane_found answer)
 {
     give_u32(answer.number);
     give_u64(answer.address);
@@ -898,7 +446,7 @@ static void serve_capcode_read(void)
     static uint8_t text[65535];
     uint16_t length = take_u16();
     take_bytes(text, length);
-    struct capcode_answer answer = mortisevane_capcode_read(text, length);
+    struct mortisevane_capcode answer = mortisevane_capcode_read(text, length);
     give_u32(answer.number);
     give_u8(answer.letter);
     give_u8(answer.frame);
@@ -914,7 +462,7 @@ static void serve_capcode_assign(void)
     uint8_t frame = take_u8();
     uint8_t collapse = take_u8();
     uint64_t address = take_u64();
-    struct assignment_answer answer = mortisevane_capcode_assign(letter, frame, collapse, address);
+    struct mortisevane_assignment answer = mortisevane_capcode_assign(letter, frame, collapse, address);
     give_u32(answer.number);
     give_u8(answer.phase);
     give_u8(answer.base);
@@ -928,7 +476,7 @@ static void serve_capcode_print(void)
     uint64_t address = take_u64();
     uint8_t lent = take_u8();
     take_lent(&lent_for_writing, lent);
-    struct length_answer answer = mortisevane_capcode_print(letter, frame, collapse, address,
+    struct mortisevane_length answer = mortisevane_capcode_print(letter, frame, collapse, address,
                                                             row_of(&lent_for_writing), lent);
     check_guards(&lent_for_writing);
     give_u32(answer.number);
@@ -940,20 +488,20 @@ static void serve_frames_wait(void)
 {
     uint8_t from = take_u8();
     uint8_t to = take_u8();
-    struct wait_answer answer = mortisevane_frames_wait(from, to);
+    struct mortisevane_wait answer = mortisevane_frames_wait(from, to);
     give_u32(answer.number);
     give_u32(answer.frames);
 }
 
 static void serve_frames_listened(void)
 {
-    struct listeners listeners;
-    for (size_t place = 0; place < MOST_LISTENERS; place++) {
+    struct mortisevane_listeners listeners;
+    for (size_t place = 0; place < sizeof listeners.listeners / sizeof listeners.listeners[0]; place++) {
         listeners.listeners[place].frame = take_u8();
         listeners.listeners[place].collapse = take_u8();
     }
     listeners.count = take_u32();
-    struct frames_answer answer = mortisevane_frames_listened(listeners);
+    struct mortisevane_frames answer = mortisevane_frames_listened(listeners);
     give_u32(answer.number);
     give_u32(answer.count);
     for (size_t packet = 0; packet < FRAME_PACKETS; packet++)
@@ -964,9 +512,9 @@ static void serve_frames_listened(void)
 #define SERVE_BUILD(kind)                                          \
     static void serve_build_##kind(void)                           \
     {                                                              \
-        struct kind fields;                                        \
+        struct mortisevane_##kind fields;                                        \
         take_numbers(&fields, sizeof fields);                      \
-        struct built answer = mortisevane_build_##kind(fields);    \
+        struct mortisevane_built answer = mortisevane_build_##kind(fields);    \
         give_numbers(&answer, sizeof answer);                      \
     }
 
@@ -985,7 +533,7 @@ SERVE_BUILD(part_id)
 #define SERVE_READ(kind)                                                  \
     static void serve_read_##kind(void)                                   \
     {                                                                     \
-        struct kind##_read answer = mortisevane_read_##kind(take_u32());  \
+        struct mortisevane_##kind##_read answer = mortisevane_read_##kind(take_u32());  \
         give_numbers(&answer, sizeof answer);                             \
     }
 
@@ -1006,11 +554,11 @@ SERVE_READ(message)
 
 static void serve_may_send(void) { give_u32(mortisevane_may_send(take_u32())); }
 
-static void give_mirrored(struct mirrored answer) { give_numbers(&answer, sizeof answer); }
+static void give_mirrored(struct mortisevane_mirrored answer) { give_numbers(&answer, sizeof answer); }
 
-static struct mirror take_mirror(void)
+static struct mortisevane_mirror take_mirror(void)
 {
-    struct mirror mirror;
+    struct mortisevane_mirror mirror;
     take_numbers(&mirror, sizeof mirror);
     return mirror;
 }
@@ -1019,23 +567,23 @@ static void serve_mirror_reset(void) { give_mirrored(mortisevane_mirror_reset(ta
 
 static void serve_mirror_step(void)
 {
-    struct mirror mirror = take_mirror();
+    struct mortisevane_mirror mirror = take_mirror();
     uint32_t packet = take_u32();
     give_mirrored(mortisevane_mirror_step(mirror, packet));
 }
 
 static void serve_mirror_run(void)
 {
-    struct mirror mirror = take_mirror();
+    struct mortisevane_mirror mirror = take_mirror();
     size_t count = take_row(&lent_for_reading, sizeof(uint32_t));
-    struct mirrored answer = mortisevane_mirror_run(mirror, row_of(&lent_for_reading), count);
+    struct mortisevane_mirrored answer = mortisevane_mirror_run(mirror, row_of(&lent_for_reading), count);
     check_read(&lent_for_reading);
     give_mirrored(answer);
 }
 
 static void serve_mirror_closing(void)
 {
-    struct built answer = mortisevane_mirror_closing(take_mirror());
+    struct mortisevane_built answer = mortisevane_mirror_closing(take_mirror());
     give_numbers(&answer, sizeof answer);
 }
 
@@ -1066,11 +614,11 @@ static void serve_sum_signature(void)
 static void serve_numeric_write(void)
 {
     uint32_t kind = take_u32();
-    struct numbering numbering;
+    struct mortisevane_numbering numbering;
     take_numbers(&numbering, sizeof numbering);
     size_t characters = take_row(&lent_for_reading, sizeof(uint8_t));
     size_t words = take_row(&lent_for_writing, sizeof(uint32_t));
-    struct written answer =
+    struct mortisevane_written answer =
         mortisevane_numeric_write(row_of(&lent_for_reading), characters, kind, numbering,
                                   row_of(&lent_for_writing), words);
     check_read(&lent_for_reading);
@@ -1087,7 +635,7 @@ static void serve_numeric_read(void)
     uint32_t check = take_u32();
     size_t words = take_row(&lent_for_reading, sizeof(uint32_t));
     size_t characters = take_row(&lent_for_writing, sizeof(uint8_t));
-    struct page_read answer =
+    struct mortisevane_page_read answer =
         mortisevane_numeric_read(kind, check, row_of(&lent_for_reading), words,
                                  row_of(&lent_for_writing), characters);
     check_read(&lent_for_reading);
@@ -1098,7 +646,7 @@ static void serve_numeric_read(void)
     give_lent(&lent_for_writing);
 }
 
-static void give_fragment(struct fragment_read answer)
+static void give_fragment(struct mortisevane_fragment_read answer)
 {
     give_u32(answer.number);
     give_u32(answer.continued);
@@ -1114,7 +662,7 @@ static void give_fragment(struct fragment_read answer)
 static void serve_fragment_heading(void)
 {
     size_t words = take_row(&lent_for_reading, sizeof(uint32_t));
-    struct fragment_read answer = mortisevane_fragment_heading(row_of(&lent_for_reading), words);
+    struct mortisevane_fragment_read answer = mortisevane_fragment_heading(row_of(&lent_for_reading), words);
     check_read(&lent_for_reading);
     give_fragment(answer);
 }
@@ -1123,7 +671,7 @@ static void serve_fragment_read(void)
 {
     size_t words = take_row(&lent_for_reading, sizeof(uint32_t));
     size_t characters = take_row(&lent_for_writing, sizeof(uint8_t));
-    struct fragment_read answer =
+    struct mortisevane_fragment_read answer =
         mortisevane_fragment_read(row_of(&lent_for_reading), words, row_of(&lent_for_writing),
                                   characters);
     check_read(&lent_for_reading);
@@ -1134,12 +682,12 @@ static void serve_fragment_read(void)
 
 static void serve_text_cut(void)
 {
-    struct marks marks;
+    struct mortisevane_marks marks;
     take_numbers(&marks, sizeof marks);
     size_t largest = take_u64();
     size_t characters = take_row(&lent_for_reading, sizeof(uint8_t));
     size_t words = take_row(&lent_for_writing, sizeof(uint32_t));
-    struct text_cut answer =
+    struct mortisevane_text_cut answer =
         mortisevane_text_cut(row_of(&lent_for_reading), characters, marks, largest,
                              row_of(&lent_for_writing), words);
     check_read(&lent_for_reading);
@@ -1186,11 +734,11 @@ static void give_part(struct lent *kept, struct part part)
 
 static struct lent chain_buffer;
 
-static struct chains take_chains(void)
+static struct mortisevane_chains take_chains(void)
 {
-    struct chains chains;
-    for (size_t slot = 0; slot < CHAINS; slot++) {
-        struct chain *chain = &chains.slots[slot];
+    struct mortisevane_chains chains;
+    for (size_t slot = 0; slot < MORTISEVANE_SLOTS; slot++) {
+        struct mortisevane_chain *chain = &chains.slots[slot];
         chain->is_open = take_u32();
         chain->address = take_u32();
         chain->message_number = take_u32();
@@ -1201,10 +749,10 @@ static struct chains take_chains(void)
     return chains;
 }
 
-static void give_chains(const struct chains *chains)
+static void give_chains(const struct mortisevane_chains *chains)
 {
-    for (size_t slot = 0; slot < CHAINS; slot++) {
-        const struct chain *chain = &chains->slots[slot];
+    for (size_t slot = 0; slot < MORTISEVANE_SLOTS; slot++) {
+        const struct mortisevane_chain *chain = &chains->slots[slot];
         give_u32(chain->is_open);
         give_u32(chain->address);
         give_u32(chain->message_number);
@@ -1220,18 +768,18 @@ static void serve_chains_fresh(void)
     if (length > LONGEST_LENT)
         fail("exchange: a request has a longer buffer than can be lent\n");
     take_lent(&chain_buffer, length);
-    struct chains chains = mortisevane_chains_fresh();
+    struct mortisevane_chains chains = mortisevane_chains_fresh();
     give_chains(&chains);
 }
 
 static void serve_chain_step(void)
 {
-    struct chains chains = take_chains();
+    struct mortisevane_chains chains = take_chains();
     size_t lent = take_lent_count(&chain_buffer, sizeof(uint8_t));
     uint32_t address = take_u32();
     size_t words = take_row(&lent_for_reading, sizeof(uint32_t));
     struct part part = take_part(&chain_buffer);
-    struct chain_step step = mortisevane_chain_step(chains, row_of(&chain_buffer), lent, address,
+    struct mortisevane_chain_step step = mortisevane_chain_step(chains, row_of(&chain_buffer), lent, address,
                                                     row_of(&lent_for_reading), words);
     check_read(&lent_for_reading);
     check_guards(&chain_buffer);
@@ -1250,11 +798,11 @@ static void serve_chain_step(void)
 
 static void serve_chain_drop(void)
 {
-    struct chains chains = take_chains();
+    struct mortisevane_chains chains = take_chains();
     uint32_t address = take_u32();
     uint32_t message_number = take_u32();
     struct part part = take_part(&chain_buffer);
-    struct chain_drop drop = mortisevane_chain_drop(chains, address, message_number);
+    struct mortisevane_chain_drop drop = mortisevane_chain_drop(chains, address, message_number);
     give_u32(drop.number);
     give_chains(&drop.chains);
     give_part(&chain_buffer, part);
@@ -1265,15 +813,15 @@ static void serve_chain_drop(void)
 static struct lent call_memory;
 
 /* Records hold numbers of 32 bits alone, and theirs are the bytes of a request. */
-static struct calls take_calls(void)
+static struct mortisevane_calls take_calls(void)
 {
-    struct calls calls;
+    struct mortisevane_calls calls;
     calls.size = take_u64();
     take_bytes((uint8_t *)calls.calls, sizeof calls.calls);
     return calls;
 }
 
-static void give_calls(const struct calls *calls)
+static void give_calls(const struct mortisevane_calls *calls)
 {
     give_u64(calls->size);
     give_bytes((const uint8_t *)calls->calls, sizeof calls->calls);
@@ -1282,15 +830,15 @@ static void give_calls(const struct calls *calls)
 static void serve_calls_fresh(void)
 {
     take_row(&call_memory, sizeof(uint32_t));
-    struct calls calls = mortisevane_calls_fresh();
+    struct mortisevane_calls calls = mortisevane_calls_fresh();
     give_calls(&calls);
 }
 
 static void serve_call_open(void)
 {
-    struct calls calls = take_calls();
+    struct mortisevane_calls calls = take_calls();
     uint32_t packet = take_u32();
-    struct call_opening opening = mortisevane_call_open(calls, packet);
+    struct mortisevane_call_opening opening = mortisevane_call_open(calls, packet);
     give_u32(opening.answer.number);
     give_u32(opening.answer.opened);
     give_u64(opening.answer.call);
@@ -1300,11 +848,11 @@ static void serve_call_open(void)
 
 static void serve_call_hear(void)
 {
-    struct calls calls = take_calls();
+    struct mortisevane_calls calls = take_calls();
     size_t lent = take_lent_count(&call_memory, sizeof(uint32_t));
     uint32_t packet = take_u32();
     struct part part = take_part(&call_memory);
-    struct call_hearing hearing =
+    struct mortisevane_call_hearing hearing =
         mortisevane_call_hear(calls, row_of(&call_memory), lent, packet);
     check_guards(&call_memory);
     give_u32(hearing.answer.number);
@@ -1319,10 +867,10 @@ static void serve_call_hear(void)
 
 static void serve_call_end(void)
 {
-    struct calls calls = take_calls();
+    struct mortisevane_calls calls = take_calls();
     size_t lent = take_lent_count(&call_memory, sizeof(uint32_t));
     struct part part = take_part(&call_memory);
-    struct frame_end end = mortisevane_call_end(calls, row_of(&call_memory), lent);
+    struct mortisevane_frame_end end = mortisevane_call_end(calls, row_of(&call_memory), lent);
     check_guards(&call_memory);
     give_u32(end.number);
     give_calls(&end.incomplete);
@@ -1332,7 +880,7 @@ static void serve_call_end(void)
 
 static void serve_call_place(void)
 {
-    struct call call;
+    struct mortisevane_call call;
     take_numbers(&call, sizeof call);
     give_u64(mortisevane_call_place(call));
 }

@@ -3,7 +3,7 @@ use lib.ListN.{length, getD}
 use Rattle.refusal.specs.Told.{Told, told}
 use Rattle.host_address.specs.declared.MortisevaneClass.{MortisevaneClass}
 use Rattle.host_address.specs.declared.MortisevaneWords.{MortisevaneWords}
-use Rattle.host_address.specs.declared.MortisevaneAddress.{MortisevaneAddress}
+use Rattle.host_address.specs.declared.MortisevaneFound.{MortisevaneFound}
 
 -- a class
 abbrev pub classFrom : Told → MortisevaneClass
@@ -14,5 +14,5 @@ abbrev pub wordsFrom : Told → MortisevaneWords
 wordsFrom (told n values) = record { number = n; count = length values; first = getD values 0 0; second = getD values 1 0 }
 
 -- an address
-abbrev pub addressFrom : Told → MortisevaneAddress
+abbrev pub addressFrom : Told → MortisevaneFound
 addressFrom (told n values) = record { number = n; address = getD values 0 0 }

@@ -28,7 +28,7 @@ pub struct MortisevaneWords {
 
 // An address.
 #[repr(C)]
-pub struct MortisevaneAddress {
+pub struct MortisevaneFound {
     pub number: u32,
     pub address: u64,
 }
@@ -49,6 +49,9 @@ fn class_told(answer: Classed) -> MortisevaneClass
 }
 
 // The class of an address.
+// Takes an address, any number.
+// Answers its class, one of MORTISEVANE_CLASS_..
+// Refuses 5.
 #[no_mangle]
 pub extern "C" fn mortisevane_address_class(address: u64) -> MortisevaneClass
     ensures { λ r. ⌜ r ≡ classFrom (toldClassed (classOf address)) ⌝ }
@@ -81,7 +84,10 @@ fn words_told(answer: Worded) -> MortisevaneWords
     }
 }
 
-// The words of an address.
+// The words of an address, for the decoder's address packets (Table 24).
+// Takes an address, any number.
+// Answers how many words there are, 1 for a short address and 2 for a long one, and the words.
+// Refuses 5.
 #[no_mangle]
 pub extern "C" fn mortisevane_address_words(address: u64) -> MortisevaneWords
     ensures { λ r. ⌜ r ≡ wordsFrom (wordsOf address) ⌝ }
@@ -89,12 +95,12 @@ pub extern "C" fn mortisevane_address_words(address: u64) -> MortisevaneWords
     words_told(address::words_of(address))
 }
 
-fn address_told(answer: Addressed) -> MortisevaneAddress
+fn address_told(answer: Addressed) -> MortisevaneFound
     ensures { λ r. ⌜ r ≡ addressFrom (toldAddressed answer) ⌝ }
 {
     match answer {
-        Addressed::Address(address) => MortisevaneAddress { number: 0, address },
-        Addressed::Refused(refusal) => MortisevaneAddress {
+        Addressed::Address(address) => MortisevaneFound { number: 0, address },
+        Addressed::Refused(refusal) => MortisevaneFound {
             number: refusal.number(),
             address: 0,
         },
@@ -102,16 +108,22 @@ fn address_told(answer: Addressed) -> MortisevaneAddress
 }
 
 // The address that one word belongs to.
+// Takes a word, any number.
+// Answers the short address.
+// Refuses 5: a word of no accepted address.
 #[no_mangle]
-pub extern "C" fn mortisevane_word_address(word: u32) -> MortisevaneAddress
+pub extern "C" fn mortisevane_word_address(word: u32) -> MortisevaneFound
     ensures { λ r. ⌜ r ≡ addressFrom (addressOf (word ∷ [])) ⌝ }
 {
     address_told(address::word_address(word))
 }
 
 // The address that two words belong to.
+// Takes the first and the second word, any numbers.
+// Answers the long address.
+// Refuses 5: words of no accepted address.
 #[no_mangle]
-pub extern "C" fn mortisevane_pair_address(first: u32, second: u32) -> MortisevaneAddress
+pub extern "C" fn mortisevane_pair_address(first: u32, second: u32) -> MortisevaneFound
     ensures { λ r. ⌜ r ≡ addressFrom (addressOf (first ∷ second ∷ [])) ⌝ }
 {
     address_told(address::pair_address(first, second))

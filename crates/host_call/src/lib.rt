@@ -12,7 +12,10 @@ use calls::Calls;
 use calls::FrameEnd;
 use packet::Packet;
 
-// The records with no call open: after a reset, and after an end of frame.
+// The records with no call open: after a reset, and after an end of frame. They are all zero.
+// Takes nothing.
+// Answers the records.
+// Refuses nothing.
 #[no_mangle]
 pub extern "C" fn mortisevane_calls_fresh() -> Calls
     ensures { λ r. ⌜ r ≡ fresh mostCalls ⌝ }
@@ -21,6 +24,9 @@ pub extern "C" fn mortisevane_calls_fresh() -> Calls
 }
 
 // An address packet, which opens a call.
+// Takes the records, as they were answered last, and the packet.
+// Answers what the packet says, the place of its call, and the records then. A tone-only address opens none.
+// Refuses 2, 7, 8, 14, 12, the first that applies; the records are then as they were.
 #[no_mangle]
 pub extern "C" fn mortisevane_call_open(calls: Calls, bits: u32) -> CallOpening
     ensures { λ r. ⌜ r ≡ asOpening (openOf calls bits) (openedIn calls bits) ⌝ }
@@ -29,6 +35,11 @@ pub extern "C" fn mortisevane_call_open(calls: Calls, bits: u32) -> CallOpening
 }
 
 // A vector or message packet.
+// Takes the records, as they were answered last; the memory of the words, MORTISEVANE_CALL_WORDS or more, as it was left
+// last; and the packet.
+// Answers what became of it, with a bit for each call that is complete by it, and the records then.
+// Refuses 2, 7, 10, and then of a vector 9, 14, of a word 14, or 17, and last 1; the memory is then as it was. A span
+// refused by 9 closes its call.
 #[no_mangle]
 pub extern "C" fn mortisevane_call_hear(calls: Calls, memory: &mut [u32], bits: u32) -> CallHearing
     ensures told { λ r. ⌜ r ≡ asHearing (hearOf calls (now (memory .entry)) bits) (heardIn calls (now (memory .entry)) bits) ⌝ }
@@ -38,6 +49,9 @@ pub extern "C" fn mortisevane_call_hear(calls: Calls, memory: &mut [u32], bits: 
 }
 
 // The end of a frame, which closes all calls.
+// Takes the records, as they were answered last, and the memory of the words.
+// Answers the records of the calls that were incomplete, in the order opened, and the records then.
+// Refuses 2 and then 1; the records are then as they were.
 #[no_mangle]
 pub extern "C" fn mortisevane_call_end(calls: Calls, memory: &[u32]) -> FrameEnd
     ensures { λ r. ⌜ r ≡ asEnd (endOf calls (now (memory .entry))) (endedWith calls (now (memory .entry))) (endedIn calls (now (memory .entry))) ⌝ }
@@ -46,6 +60,9 @@ pub extern "C" fn mortisevane_call_end(calls: Calls, memory: &[u32]) -> FrameEnd
 }
 
 // Where the words of a call begin in the lent memory.
+// Takes the record of the call.
+// Answers the place of its first word; the `words` of the record are from there on.
+// Refuses nothing.
 #[no_mangle]
 pub extern "C" fn mortisevane_call_place(call: Call) -> usize
     ensures { λ r. ⌜ r ≡ placeOf call ⌝ }

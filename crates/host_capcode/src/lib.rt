@@ -66,6 +66,9 @@ fn capcode_told(answer: ReadAnswer) -> MortisevaneCapcode
 }
 
 // What a CAPCODE text says.
+// Takes the text, without a line's end.
+// Answers its letter, frame digits, collapse and address, and the phase and base frame that it assigns.
+// Refuses 3, 4, 5, 6, the first that applies.
 #[no_mangle]
 pub extern "C" fn mortisevane_capcode_read(text: &[u8]) -> MortisevaneCapcode
     ensures { λ r. ⌜ r ≡ capcodeFrom (readOf (now (text .entry))) ⌝ }
@@ -91,6 +94,9 @@ fn assignment_told(answer: AssignAnswer) -> MortisevaneAssignment
 }
 
 // The phase and base frame of a CAPCODE.
+// Takes the letter as a character, the frame (0 with A to H), the collapse and the address.
+// Answers the phase (0 to 3 for A to D, 4 for any-phase) and the base frame.
+// Refuses 3, 4, 5, 6, 7, the first that applies.
 #[no_mangle]
 pub extern "C" fn mortisevane_capcode_assign(
     letter: u8,
@@ -122,6 +128,10 @@ fn length_told(answer: PrintAnswer) -> MortisevaneLength
 }
 
 // The text of a CAPCODE, written at the start of a lent buffer.
+// Takes the letter as a character, the frame (0 with A to H), the collapse, the address and the buffer, for which
+// MORTISEVANE_CAPCODE_BYTES are always enough.
+// Answers how many bytes were written; no zero byte stands behind them.
+// Refuses 3, 4, 5, 6, 7, the first that applies, and last 1; the buffer is then as it was.
 #[no_mangle]
 pub extern "C" fn mortisevane_capcode_print(
     letter: u8,

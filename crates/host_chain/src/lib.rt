@@ -9,7 +9,10 @@ use slots::ChainDrop;
 use slots::ChainStep;
 use slots::Chains;
 
-// The records after a reset: no chain is open.
+// The records after a reset: no chain is open. They are all zero.
+// Takes nothing.
+// Answers the records.
+// Refuses nothing.
 #[no_mangle]
 pub extern "C" fn mortisevane_chains_fresh() -> Chains
     ensures { λ r. ⌜ r ≡ record { slots = fresh slotCount } ⌝ }
@@ -17,7 +20,13 @@ pub extern "C" fn mortisevane_chains_fresh() -> Chains
     lent::fresh()
 }
 
-// A fragment of 2 to 85 words for an address number.
+// A fragment for an address number: it begins a chain, goes on with one, or hands out a text.
+// Takes the records, as they were answered last; the buffer of the texts, MORTISEVANE_CHAIN_BYTES or more, as it was
+// left last; the address number, 0 to 31; and the words of the fragment.
+// Answers what became of it, and the records then. A text that is handed out is `characters` bytes of the buffer from
+// `place` on, to be read before the next fragment.
+// Refuses 1, 2, 8, 9, 10, 11, 13, 14, 15, 16, 12, the first that applies; the buffer is then as it was. After 14, 15 and
+// 16 the key's chain is closed.
 #[no_mangle]
 pub extern "C" fn mortisevane_chain_step(
     chains: Chains,
@@ -31,7 +40,10 @@ pub extern "C" fn mortisevane_chain_step(
     chain::step(chains, buffer, address, words)
 }
 
-// The chain of a key closed at the caller's wish.
+// The chain of an address number and a message number, closed at the caller's wish.
+// Takes the records, the address number, 0 to 31, and the message number, 0 to 63.
+// Answers the records then.
+// Refuses 2, 7, 8, 13, the first that applies; the records are then as they were.
 #[no_mangle]
 pub extern "C" fn mortisevane_chain_drop(
     chains: Chains,

@@ -9,7 +9,10 @@ use cutting::Marks;
 use cutting::TextCut;
 use fragment::FragmentRead;
 
-// What a fragment of 2 to 85 words says of itself, without its text.
+// What a fragment says of itself, without its text.
+// Takes the words of the fragment, 2 to 85.
+// Answers what its first word says, its signature, its sum and how many characters its text has.
+// Refuses 9, 10, 11, the first that applies.
 #[no_mangle]
 pub extern "C" fn mortisevane_fragment_heading(words: &[u32]) -> FragmentRead
     ensures { λ r. ⌜ r ≡ asFragment (headingOf (now (words .entry))) ⌝ }
@@ -17,7 +20,11 @@ pub extern "C" fn mortisevane_fragment_heading(words: &[u32]) -> FragmentRead
     fragment::heading(words)
 }
 
-// A fragment of 2 to 85 words, and its text. At most 252 characters are written.
+// A fragment, and its text.
+// Takes the words of the fragment, 2 to 85, and memory for the text, for which MORTISEVANE_FRAGMENT_CHARACTERS are
+// always enough.
+// Answers what mortisevane_fragment_heading answers; the text is written without its fill.
+// Refuses 9, 10, 11, the first that applies, and last 1; the memory is then as it was.
 #[no_mangle]
 pub extern "C" fn mortisevane_fragment_read(words: &[u32], text: &mut [u8]) -> FragmentRead
     ensures told { λ r. ⌜ r ≡ asFragment (readOf (length (now (text .entry))) (now (words .entry))) ⌝ }
@@ -26,8 +33,12 @@ pub extern "C" fn mortisevane_fragment_read(words: &[u32], text: &mut [u8]) -> F
     fragment::read(words, text)
 }
 
-// A text of up to 1,008 characters as fragments of at most so many words, one behind the other: each but the last has
-// the largest size.
+// A text cut into fragments, one behind the other.
+// Takes the text, up to 1,008 characters; N, R and M of the message; how many words the largest fragment may have, 2 to
+// 85; and memory for the words, for which MORTISEVANE_CUT_WORDS are always enough.
+// Answers how many fragments there are and how many words they have together. Each but the last has the largest size, so
+// that fragment j begins at word j times it.
+// Refuses 7, 9, 15, 18, the first that applies, and last 1; the memory is then as it was.
 #[no_mangle]
 pub extern "C" fn mortisevane_text_cut(
     text: &[u8],

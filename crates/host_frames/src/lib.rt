@@ -38,6 +38,9 @@ fn wait_told(answer: Awaited) -> MortisevaneWait
 }
 
 // The wait from the present frame to a designated one.
+// Takes both frames, 0 to 127.
+// Answers the wait, 0 to 127 frames.
+// Refuses 7: a frame over 127.
 #[no_mangle]
 pub extern "C" fn mortisevane_frames_wait(from: u8, to: u8) -> MortisevaneWait
     ensures { λ r. ⌜ r ≡ waitFrom (waited from to) ⌝ }
@@ -65,6 +68,9 @@ fn frames_told(answer: Listening) -> MortisevaneFrames
 }
 
 // The frames that a pager with these addresses listens to.
+// Takes the base frame and the collapse of each address, and how many there are.
+// Answers the number of frames, and masks[i], the frame bits of packet 20H + i.
+// Refuses 7 and then 9: a frame over 127 or a collapse over 5; over 16 addresses.
 #[no_mangle]
 pub extern "C" fn mortisevane_frames_listened(listeners: Listeners) -> MortisevaneFrames
     ensures { λ r. ⌜ r ≡ framesFrom (listened (take (listeners .count) (listeners .listeners)) (listeners .count)) ⌝ }

@@ -8,8 +8,12 @@ use numeric::Numbering;
 use numeric::PageRead;
 use numeric::Written;
 
-// A text as the words of a page, for a vector of this type (3 standard, 4 special, 7 numbered). At most eight words
-// are written.
+// A text as the words of a numeric page.
+// Takes the text, characters of Table 39; the vector's type, MORTISEVANE_VECTOR_STANDARD, _SPECIAL or _NUMBERED; what the
+// head of a numbered page says, all 0 with the others; and memory for the words, for which MORTISEVANE_PAGE_WORDS are
+// always enough.
+// Answers K for the vector and how many words were written, the fewest that hold the text.
+// Refuses 7, 15, 18, the first that applies, and last 1; the memory is then as it was.
 #[no_mangle]
 pub extern "C" fn mortisevane_numeric_write(
     text: &[u8],
@@ -23,7 +27,12 @@ pub extern "C" fn mortisevane_numeric_write(
     numeric::write(text, kind, numbering, words)
 }
 
-// The words of a page as text, with the type and the K of its vector. At most 41 characters are written.
+// The words of a numeric page as text, its zeros with it.
+// Takes the type and the K of its vector, the words, and memory for the text, for which MORTISEVANE_PAGE_CHARACTERS are
+// always enough.
+// Answers what the head of a numbered page says, and how many characters were written: all that the words have room
+// for, so that spaces may stand at the end.
+// Refuses 7, 9, 10, 11, the first that applies, and last 1; the memory is then as it was.
 #[no_mangle]
 pub extern "C" fn mortisevane_numeric_read(
     kind: u32,

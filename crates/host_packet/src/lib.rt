@@ -37,6 +37,9 @@ use sent::ControlRead;
 use vector::VectorRead;
 
 // Builds a checksum packet.
+// Takes its fields.
+// Answers the packet.
+// Refuses 7: a field too large.
 #[no_mangle]
 pub extern "C" fn mortisevane_build_checksum(fields: Checksum) -> Built
     ensures { λ r. ⌜ r ≡ builtBy checksum (ofChecksum fields) ⌝ }
@@ -45,6 +48,9 @@ pub extern "C" fn mortisevane_build_checksum(fields: Checksum) -> Built
 }
 
 // Builds a configuration packet.
+// Takes its fields.
+// Answers the packet.
+// Refuses 7: a field too large.
 #[no_mangle]
 pub extern "C" fn mortisevane_build_configuration(fields: Configuration) -> Built
     ensures { λ r. ⌜ r ≡ builtBy configuration (ofConfiguration fields) ⌝ }
@@ -53,6 +59,9 @@ pub extern "C" fn mortisevane_build_configuration(fields: Configuration) -> Buil
 }
 
 // Builds a control packet.
+// Takes its fields.
+// Answers the packet.
+// Refuses 7: a field too large.
 #[no_mangle]
 pub extern "C" fn mortisevane_build_control(fields: Control) -> Built
     ensures { λ r. ⌜ r ≡ builtBy control (ofControl fields) ⌝ }
@@ -61,6 +70,9 @@ pub extern "C" fn mortisevane_build_control(fields: Control) -> Built
 }
 
 // Builds an all frame mode packet.
+// Takes its fields.
+// Answers the packet.
+// Refuses 7: a field too large.
 #[no_mangle]
 pub extern "C" fn mortisevane_build_all_frame_mode(fields: AllFrameMode) -> Built
     ensures { λ r. ⌜ r ≡ builtBy allFrameMode (ofAllFrameMode fields) ⌝ }
@@ -69,6 +81,9 @@ pub extern "C" fn mortisevane_build_all_frame_mode(fields: AllFrameMode) -> Buil
 }
 
 // Builds a receiver line control packet.
+// Takes its fields.
+// Answers the packet.
+// Refuses 7: a field too large.
 #[no_mangle]
 pub extern "C" fn mortisevane_build_receiver_lines(fields: ReceiverLines) -> Built
     ensures { λ r. ⌜ r ≡ builtBy receiverLines (ofReceiverLines fields) ⌝ }
@@ -77,6 +92,9 @@ pub extern "C" fn mortisevane_build_receiver_lines(fields: ReceiverLines) -> Bui
 }
 
 // Builds a receiver shut-down packet.
+// Takes its fields.
+// Answers the packet.
+// Refuses 7: a field too large.
 #[no_mangle]
 pub extern "C" fn mortisevane_build_shut_down(fields: ShutDown) -> Built
     ensures { λ r. ⌜ r ≡ builtBy shutDown (ofShutDown fields) ⌝ }
@@ -85,6 +103,9 @@ pub extern "C" fn mortisevane_build_shut_down(fields: ShutDown) -> Built
 }
 
 // Builds a frame assignment packet.
+// Takes its fields.
+// Answers the packet.
+// Refuses 7: a field too large.
 #[no_mangle]
 pub extern "C" fn mortisevane_build_frame_assignment(fields: FrameAssignment) -> Built
     ensures { λ r. ⌜ r ≡ builtBy frameAssignment (ofFrameAssignment fields) ⌝ }
@@ -93,6 +114,9 @@ pub extern "C" fn mortisevane_build_frame_assignment(fields: FrameAssignment) ->
 }
 
 // Builds a user address assignment packet.
+// Takes its fields.
+// Answers the packet.
+// Refuses 7: a field too large.
 #[no_mangle]
 pub extern "C" fn mortisevane_build_user_address(fields: UserAddress) -> Built
     ensures { λ r. ⌜ r ≡ builtBy userAddress (ofUserAddress fields) ⌝ }
@@ -101,6 +125,9 @@ pub extern "C" fn mortisevane_build_user_address(fields: UserAddress) -> Built
 }
 
 // Builds a user address enable packet.
+// Takes its fields.
+// Answers the packet.
+// Refuses 7: a field too large.
 #[no_mangle]
 pub extern "C" fn mortisevane_build_address_enable(fields: AddressEnable) -> Built
     ensures { λ r. ⌜ r ≡ builtBy addressEnable (ofAddressEnable fields) ⌝ }
@@ -109,6 +136,9 @@ pub extern "C" fn mortisevane_build_address_enable(fields: AddressEnable) -> Bui
 }
 
 // Builds a part ID packet.
+// Takes its fields.
+// Answers the packet.
+// Refuses 7: a field too large.
 #[no_mangle]
 pub extern "C" fn mortisevane_build_part_id(fields: PartId) -> Built
     ensures { λ r. ⌜ r ≡ builtBy partId (ofPartId fields) ⌝ }
@@ -117,6 +147,9 @@ pub extern "C" fn mortisevane_build_part_id(fields: PartId) -> Built
 }
 
 // Reads a checksum packet.
+// Takes the packet.
+// Answers its fields.
+// Refuses 7: another packet, or a bit set that its table prints as 0.
 #[no_mangle]
 pub extern "C" fn mortisevane_read_checksum(packet: u32) -> ChecksumRead
     ensures { λ r. ⌜ r ≡ checksumRead packet ⌝ }
@@ -125,6 +158,9 @@ pub extern "C" fn mortisevane_read_checksum(packet: u32) -> ChecksumRead
 }
 
 // Reads a configuration packet.
+// Takes the packet.
+// Answers its fields.
+// Refuses 7: another packet, or a bit set that its table prints as 0.
 #[no_mangle]
 pub extern "C" fn mortisevane_read_configuration(packet: u32) -> ConfigurationRead
     ensures { λ r. ⌜ r ≡ configurationRead packet ⌝ }
@@ -133,6 +169,9 @@ pub extern "C" fn mortisevane_read_configuration(packet: u32) -> ConfigurationRe
 }
 
 // Reads a control packet.
+// Takes the packet.
+// Answers its fields.
+// Refuses 7: another packet, or a bit set that its table prints as 0.
 #[no_mangle]
 pub extern "C" fn mortisevane_read_control(packet: u32) -> ControlRead
     ensures { λ r. ⌜ r ≡ controlRead packet ⌝ }
@@ -141,6 +180,9 @@ pub extern "C" fn mortisevane_read_control(packet: u32) -> ControlRead
 }
 
 // Reads an all frame mode packet.
+// Takes the packet.
+// Answers its fields.
+// Refuses 7: another packet, or a bit set that its table prints as 0.
 #[no_mangle]
 pub extern "C" fn mortisevane_read_all_frame_mode(packet: u32) -> AllFrameModeRead
     ensures { λ r. ⌜ r ≡ allFrameModeRead packet ⌝ }
@@ -149,6 +191,9 @@ pub extern "C" fn mortisevane_read_all_frame_mode(packet: u32) -> AllFrameModeRe
 }
 
 // Reads a receiver line control packet.
+// Takes the packet.
+// Answers its fields.
+// Refuses 7: another packet, or a bit set that its table prints as 0.
 #[no_mangle]
 pub extern "C" fn mortisevane_read_receiver_lines(packet: u32) -> ReceiverLinesRead
     ensures { λ r. ⌜ r ≡ receiverLinesRead packet ⌝ }
@@ -157,6 +202,9 @@ pub extern "C" fn mortisevane_read_receiver_lines(packet: u32) -> ReceiverLinesR
 }
 
 // Reads a receiver shut-down packet.
+// Takes the packet.
+// Answers its fields.
+// Refuses 7: another packet, or a bit set that its table prints as 0.
 #[no_mangle]
 pub extern "C" fn mortisevane_read_shut_down(packet: u32) -> ShutDownRead
     ensures { λ r. ⌜ r ≡ shutDownRead packet ⌝ }
@@ -165,6 +213,9 @@ pub extern "C" fn mortisevane_read_shut_down(packet: u32) -> ShutDownRead
 }
 
 // Reads a frame assignment packet.
+// Takes the packet.
+// Answers its fields.
+// Refuses 7: another packet, or a bit set that its table prints as 0.
 #[no_mangle]
 pub extern "C" fn mortisevane_read_frame_assignment(packet: u32) -> FrameAssignmentRead
     ensures { λ r. ⌜ r ≡ frameAssignmentRead packet ⌝ }
@@ -173,6 +224,9 @@ pub extern "C" fn mortisevane_read_frame_assignment(packet: u32) -> FrameAssignm
 }
 
 // Reads a user address assignment packet.
+// Takes the packet.
+// Answers its fields.
+// Refuses 7: another packet, or a bit set that its table prints as 0.
 #[no_mangle]
 pub extern "C" fn mortisevane_read_user_address(packet: u32) -> UserAddressRead
     ensures { λ r. ⌜ r ≡ userAddressRead packet ⌝ }
@@ -181,6 +235,9 @@ pub extern "C" fn mortisevane_read_user_address(packet: u32) -> UserAddressRead
 }
 
 // Reads a user address enable packet.
+// Takes the packet.
+// Answers its fields.
+// Refuses 7: another packet, or a bit set that its table prints as 0.
 #[no_mangle]
 pub extern "C" fn mortisevane_read_address_enable(packet: u32) -> AddressEnableRead
     ensures { λ r. ⌜ r ≡ addressEnableRead packet ⌝ }
@@ -189,6 +246,9 @@ pub extern "C" fn mortisevane_read_address_enable(packet: u32) -> AddressEnableR
 }
 
 // Reads a part ID packet.
+// Takes the packet.
+// Answers its fields.
+// Refuses 7: another packet.
 #[no_mangle]
 pub extern "C" fn mortisevane_read_part_id(packet: u32) -> PartIdRead
     ensures { λ r. ⌜ r ≡ partIdRead packet ⌝ }
@@ -197,6 +257,9 @@ pub extern "C" fn mortisevane_read_part_id(packet: u32) -> PartIdRead
 }
 
 // Reads a status packet.
+// Takes the packet.
+// Answers its fields.
+// Refuses 7: another packet.
 #[no_mangle]
 pub extern "C" fn mortisevane_read_status(packet: u32) -> StatusRead
     ensures { λ r. ⌜ r ≡ statusRead packet ⌝ }
@@ -205,6 +268,9 @@ pub extern "C" fn mortisevane_read_status(packet: u32) -> StatusRead
 }
 
 // Reads an address packet.
+// Takes the packet.
+// Answers its fields, the address number 0 to 31 among them.
+// Refuses 7 and then 8: another packet or a vector's word number over 87; an index of no address.
 #[no_mangle]
 pub extern "C" fn mortisevane_read_address(packet: u32) -> AddressRead
     ensures { λ r. ⌜ r ≡ addressRead packet ⌝ }
@@ -213,6 +279,9 @@ pub extern "C" fn mortisevane_read_address(packet: u32) -> AddressRead
 }
 
 // Reads a vector packet.
+// Takes the packet.
+// Answers its fields.
+// Refuses 7: another packet.
 #[no_mangle]
 pub extern "C" fn mortisevane_read_vector(packet: u32) -> VectorRead
     ensures { λ r. ⌜ r ≡ vectorRead packet ⌝ }
@@ -221,6 +290,9 @@ pub extern "C" fn mortisevane_read_vector(packet: u32) -> VectorRead
 }
 
 // Reads a message packet.
+// Takes the packet.
+// Answers its fields.
+// Refuses 7: another packet.
 #[no_mangle]
 pub extern "C" fn mortisevane_read_message(packet: u32) -> MessageRead
     ensures { λ r. ⌜ r ≡ messageRead packet ⌝ }
@@ -228,7 +300,10 @@ pub extern "C" fn mortisevane_read_message(packet: u32) -> MessageRead
     heard::read_message(Packet { bits: packet })
 }
 
-// Whether the host may send a packet: 0 if so, else 7.
+// Whether the host may send a packet.
+// Takes the packet.
+// Answers 0 if it may.
+// Refuses 7.
 #[no_mangle]
 pub extern "C" fn mortisevane_may_send(packet: u32) -> u32
     ensures { λ r. ⌜ r ≡ sendOf packet ⌝ }

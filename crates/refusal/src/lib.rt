@@ -5,23 +5,41 @@ ghost use Rattle.refusal.specs.Told.{numberOf, numberUnless, kept};
 
 // One refusal. When each is given is 01's table; the order in which several are asked is in specs/Told.
 pub enum Refusal {
+    // A lent buffer is too short for what is to stand in it.
     Room,
+    // A register or a record that was handed back is outside its limits.
     State,
+    // A CAPCODE text that is not in the form.
     Text,
+    // A CAPCODE of an all-phase letter, I to L or Z.
     Type,
+    // An address, or words, of no accepted range.
     Range,
+    // An address below the offset of its letter.
     Offset,
+    // A packet that is not to be sent or of another kind, a field too large, a bit set that is printed as 0.
     Packet,
+    // An address number over 31.
     Address,
+    // Too few or too many words, too many addresses, or a span outside the limits.
     Size,
+    // A word in error.
     Damaged,
+    // K is not the sum of the words.
     Checksum,
+    // No slot or no call is free.
     Full,
+    // A later fragment, or a drop, where no chain of its key is open.
     NoChain,
+    // A fragment that is not the next one; an address, a vector or a word of a call that has it.
     OutOfTurn,
+    // A text that is longer than the room for it.
     TooLong,
+    // The last fragment came, and the total is not that of the message.
     Signature,
+    // A vector or a word of no open call.
     NoCall,
+    // A character that is not in the set or is over 7FH, or ETX in a text to write.
     Character,
 }
 

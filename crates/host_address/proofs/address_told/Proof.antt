@@ -3,7 +3,7 @@ use Prim.Native.Nat.{ℕ}
 use mathlib.Core.Path.{ap, sym, _∙_}
 use Rattle.address.specs.declared.Addressed.{Addressed}
 use Rattle.address.specs.Words.{toldAddressed}
-use Rattle.host_address.specs.declared.MortisevaneAddress.{MortisevaneAddress}
+use Rattle.host_address.specs.declared.MortisevaneFound.{MortisevaneFound}
 use Rattle.host_address.specs.Flat.{addressFrom}
 use borrow.Author.Needs.{needs}
 use Rattle.host_address.proofs.address_told.Statement.{statement}
@@ -22,7 +22,7 @@ returns : tie.Need-returns
 returns c = sym (ap (λ (a : Addressed). addressFrom (toldAddressed a)) (c .before .answer .given .1))
 
 returns-2 : tie.Need-returns-2
-returns-2 c = ap {B = MortisevaneAddress} (λ (n : ℕ). record { number = n; address = 0 }) (c .number .ensures) ∙ sym (ap (λ (a : Addressed). addressFrom (toldAddressed a)) (c .before .before .answer2 .given .1))
+returns-2 c = ap {B = MortisevaneFound} (λ (n : ℕ). record { number = n; address = 0 }) (c .number .ensures) ∙ sym (ap (λ (a : Addressed). addressFrom (toldAddressed a)) (c .before .before .answer2 .given .1))
 
 pub address-told-spec : {M : Type 1} → statement M
 address-told-spec = tie.close (tie.spec enum-known-answer enum-known-answer-2 number-requires returns returns-2)

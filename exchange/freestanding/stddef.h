@@ -1,0 +1,2 @@
+/* What the header needs of <stddef.h>. The kit's compiler comes without headers, but it knows the types. */
+typedef __SIZE_TYPE__ size_t;

@@ -1,0 +1,1134 @@
+//! The exports as they are linked, with the structs and constants that they share with C.
+//!
+//! Written by `tools/write-exports` from the Rattle source, in which every function is proved; the tests fail where the
+//! two differ.
+
+// The refusals, by the paper's numbers. A `number` of 0 says that nothing was refused.
+/// A lent buffer is too short for what is to stand in it.
+pub const REFUSED_ROOM: u32 = 1;
+/// A register or a record that was handed back is outside its limits.
+pub const REFUSED_STATE: u32 = 2;
+/// A CAPCODE text that is not in the form.
+pub const REFUSED_TEXT: u32 = 3;
+/// A CAPCODE of an all-phase letter, I to L or Z.
+pub const REFUSED_TYPE: u32 = 4;
+/// An address, or words, of no accepted range.
+pub const REFUSED_RANGE: u32 = 5;
+/// An address below the offset of its letter.
+pub const REFUSED_OFFSET: u32 = 6;
+/// A packet that is not to be sent or of another kind, a field too large, a bit set that is printed as 0.
+pub const REFUSED_PACKET: u32 = 7;
+/// An address number over 31.
+pub const REFUSED_ADDRESS: u32 = 8;
+/// Too few or too many words, too many addresses, or a span outside the limits.
+pub const REFUSED_SIZE: u32 = 9;
+/// A word in error.
+pub const REFUSED_DAMAGED: u32 = 10;
+/// K is not the sum of the words.
+pub const REFUSED_CHECKSUM: u32 = 11;
+/// No slot or no call is free.
+pub const REFUSED_FULL: u32 = 12;
+/// A later fragment, or a drop, where no chain of its key is open.
+pub const REFUSED_NO_CHAIN: u32 = 13;
+/// A fragment that is not the next one; an address, a vector or a word of a call that has it.
+pub const REFUSED_OUT_OF_TURN: u32 = 14;
+/// A text that is longer than the room for it.
+pub const REFUSED_TOO_LONG: u32 = 15;
+/// The last fragment came, and the total is not that of the message.
+pub const REFUSED_SIGNATURE: u32 = 16;
+/// A vector or a word of no open call.
+pub const REFUSED_NO_CALL: u32 = 17;
+/// A character that is not in the set or is over 7FH, or ETX in a text to write.
+pub const REFUSED_CHARACTER: u32 = 18;
+
+// The classes of addresses.
+pub const CLASS_SHORT: u32 = 1;
+pub const CLASS_INFORMATION_SERVICE: u32 = 2;
+pub const CLASS_NETWORK: u32 = 3;
+pub const CLASS_OPERATOR: u32 = 4;
+pub const CLASS_SET_12: u32 = 5;
+pub const CLASS_SET_13: u32 = 6;
+pub const CLASS_SET_14: u32 = 7;
+pub const CLASS_SET_23_COUNTRY: u32 = 8;
+pub const CLASS_SET_23_INFORMATION_SERVICE: u32 = 9;
+
+// The IDs of packets, the highest byte of their 32 bits. The same ID means one thing to the decoder and another from it.
+/// What the host sends (Table 2).
+pub const PACKET_CHECKSUM: u32 = 0x00;
+pub const PACKET_CONFIGURATION: u32 = 0x01;
+pub const PACKET_CONTROL: u32 = 0x02;
+pub const PACKET_ALL_FRAME_MODE: u32 = 0x03;
+pub const PACKET_RECEIVER_LINES: u32 = 0x0F;
+pub const PACKET_FIRST_SETTING: u32 = 0x10;
+pub const PACKET_LAST_SETTING: u32 = 0x19;
+pub const PACKET_SHUT_DOWN_1: u32 = 0x1A;
+pub const PACKET_SHUT_DOWN_2: u32 = 0x1B;
+pub const PACKET_FIRST_SPECIAL: u32 = 0x1C;
+pub const PACKET_LAST_SPECIAL: u32 = 0x1F;
+pub const PACKET_FIRST_FRAMES: u32 = 0x20;
+pub const PACKET_LAST_FRAMES: u32 = 0x27;
+pub const PACKET_ADDRESS_ENABLE: u32 = 0x78;
+pub const PACKET_FIRST_USER_ADDRESS: u32 = 0x80;
+pub const PACKET_LAST_USER_ADDRESS: u32 = 0x8F;
+/// What the decoder sends (Table 3). A vector's or message word's ID is its word number.
+pub const PACKET_ADDRESS: u32 = 0x01;
+pub const PACKET_FIRST_VECTOR: u32 = 0x02;
+pub const PACKET_FIRST_MESSAGE: u32 = 0x03;
+pub const PACKET_LAST_WORD: u32 = 0x57;
+pub const PACKET_STATUS: u32 = 0x7F;
+pub const PACKET_PART_ID: u32 = 0xFF;
+
+// The types of vectors.
+/// The vector types V (Tables 32, 33 and 35, S8.7.7).
+pub const VECTOR_SECURE: u32 = 0;
+pub const VECTOR_INSTRUCTION: u32 = 1;
+pub const VECTOR_SHORT: u32 = 2;
+pub const VECTOR_STANDARD: u32 = 3;
+pub const VECTOR_SPECIAL: u32 = 4;
+pub const VECTOR_ALPHANUMERIC: u32 = 5;
+pub const VECTOR_HEX: u32 = 6;
+pub const VECTOR_NUMBERED: u32 = 7;
+
+// The types of short messages.
+/// The message types t (Table 34).
+pub const SHORT_MESSAGE_CHARACTERS: u32 = 0;
+pub const SHORT_MESSAGE_SOURCE: u32 = 1;
+pub const SHORT_MESSAGE_NUMBERED: u32 = 2;
+pub const SHORT_MESSAGE_SPARE: u32 = 3;
+
+// The types of short instructions.
+/// The instruction type i (Table 38) that assigns a temporary address.
+pub const INSTRUCTION_TEMPORARY: u32 = 0;
+
+// Limits, and how much memory is to be lent.
+/// Chains that can be open at a time.
+pub const SLOTS: usize = 8;
+/// The longest text.
+pub const TEXT_CHARACTERS: usize = 1008;
+/// The most words of a fragment.
+pub const FRAGMENT_WORDS: usize = 85;
+/// The most words of a numeric page.
+pub const PAGE_WORDS: usize = 8;
+/// Calls that can be open at a time.
+pub const CALLS: usize = 8;
+/// The memory that calls are lent, in words.
+pub const CALL_WORDS: usize = 680;
+/// The memory that chains are lent, in bytes.
+pub const CHAIN_BYTES: usize = SLOTS * TEXT_CHARACTERS;
+/// The most characters of a fragment.
+pub const FRAGMENT_CHARACTERS: usize = 3 * (FRAGMENT_WORDS - 1);
+/// The most words of a text that is cut.
+pub const CUT_WORDS: usize = 2 * (TEXT_CHARACTERS / 3 + 1);
+/// The most characters of a numeric page.
+pub const PAGE_CHARACTERS: usize = (21 * PAGE_WORDS - 2) / 4;
+/// The longest CAPCODE: frame and collapse, the letter, ten digits.
+pub const CAPCODE_BYTES: usize = 3 + 1 + 1 + 10;
+
+// Addresses and their words, as C and Rust link them: numbers and structs by value over `ranges` and
+// `address`, and nothing but them behind them. Every function takes any input. `number` is 0, or 01's number
+// of the refusal; every other field is then 0.
+
+/// The class of an address, 1 to 9 by 01's rows.
+#[repr(C)]
+#[derive(Clone, Copy, Debug, Default, PartialEq, Eq)]
+pub struct Class {
+    pub number: u32,
+    pub class: u32,
+}
+
+/// One word or two; `second` is 0 where there is none.
+#[repr(C)]
+#[derive(Clone, Copy, Debug, Default, PartialEq, Eq)]
+pub struct Words {
+    pub number: u32,
+    pub count: u32,
+    pub first: u32,
+    pub second: u32,
+}
+
+/// An address.
+#[repr(C)]
+#[derive(Clone, Copy, Debug, Default, PartialEq, Eq)]
+pub struct Found {
+    pub number: u32,
+    pub address: u64,
+}
+
+extern "C" {
+    /// The class of an address.
+    /// Takes an address, any number.
+    /// Answers its class, one of MORTISEVANE_CLASS_..
+    /// Refuses 5.
+    pub fn mortisevane_address_class(address: u64) -> Class;
+
+    /// The words of an address, for the decoder's address packets (Table 24).
+    /// Takes an address, any number.
+    /// Answers how many words there are, 1 for a short address and 2 for a long one, and the words.
+    /// Refuses 5.
+    pub fn mortisevane_address_words(address: u64) -> Words;
+
+    /// The address that one word belongs to.
+    /// Takes a word, any number.
+    /// Answers the short address.
+    /// Refuses 5: a word of no accepted address.
+    pub fn mortisevane_word_address(word: u32) -> Found;
+
+    /// The address that two words belong to.
+    /// Takes the first and the second word, any numbers.
+    /// Answers the long address.
+    /// Refuses 5: words of no accepted address.
+    pub fn mortisevane_pair_address(first: u32, second: u32) -> Found;
+}
+
+// CAPCODEs, as C and Rust link them: numbers, slices and structs by value over `capcode` and `label`, and
+// nothing but these behind them. Every function takes any input. `number` is 0, or 01's number of the refusal; every
+// other field is then 0.
+
+/// A CAPCODE: its letter, the three frame digits of U to Y (0 with A to H), its collapse and address; and
+/// the phase (0 to 3 for A to D, 4 for any-phase) and base frame that it assigns.
+#[repr(C)]
+#[derive(Clone, Copy, Debug, Default, PartialEq, Eq)]
+pub struct Capcode {
+    pub number: u32,
+    pub letter: u8,
+    pub frame: u8,
+    pub collapse: u8,
+    pub phase: u8,
+    pub base: u8,
+    pub address: u64,
+}
+
+/// A phase (0 to 3 for A to D, 4 for any-phase) and a base frame.
+#[repr(C)]
+#[derive(Clone, Copy, Debug, Default, PartialEq, Eq)]
+pub struct Assignment {
+    pub number: u32,
+    pub phase: u8,
+    pub base: u8,
+}
+
+/// How many bytes of a lent buffer were written.
+#[repr(C)]
+#[derive(Clone, Copy, Debug, Default, PartialEq, Eq)]
+pub struct Length {
+    pub number: u32,
+    pub length: usize,
+}
+
+extern "C" {
+    /// What a CAPCODE text says.
+    /// Takes the text, without a line's end.
+    /// Answers its letter, frame digits, collapse and address, and the phase and base frame that it assigns.
+    /// Refuses 3, 4, 5, 6, the first that applies.
+    pub fn mortisevane_capcode_read(text: *const u8, text_length: usize) -> Capcode;
+
+    /// The phase and base frame of a CAPCODE.
+    /// Takes the letter as a character, the frame (0 with A to H), the collapse and the address.
+    /// Answers the phase (0 to 3 for A to D, 4 for any-phase) and the base frame.
+    /// Refuses 3, 4, 5, 6, 7, the first that applies.
+    pub fn mortisevane_capcode_assign(letter: u8, frame: u8, collapse: u8, address: u64) -> Assignment;
+
+    /// The text of a CAPCODE, written at the start of a lent buffer.
+    /// Takes the letter as a character, the frame (0 with A to H), the collapse, the address and the buffer, for which
+    /// MORTISEVANE_CAPCODE_BYTES are always enough.
+    /// Answers how many bytes were written; no zero byte stands behind them.
+    /// Refuses 3, 4, 5, 6, 7, the first that applies, and last 1; the buffer is then as it was.
+    pub fn mortisevane_capcode_print(letter: u8, frame: u8, collapse: u8, address: u64, out: *mut u8, out_length: usize) -> Length;
+}
+
+// Frames listened to and the wait for a temporary address, as C and Rust link them: numbers and structs
+// by value over `frames`, and nothing but it behind them. Every function takes any input. `number` is 0,
+// or 01's number of the refusal; every other field is then 0.
+
+/// A wait in frames.
+#[repr(C)]
+#[derive(Clone, Copy, Debug, Default, PartialEq, Eq)]
+pub struct Wait {
+    pub number: u32,
+    pub frames: u32,
+}
+
+/// One address as far as frames go: its base frame and its collapse.
+#[repr(C)]
+#[derive(Clone, Copy, Debug, Default, PartialEq, Eq)]
+pub struct Listener {
+    pub frame: u8,
+    pub collapse: u8,
+}
+
+/// The addresses of a pager: of sixteen places the first `count` are looked at.
+#[repr(C)]
+#[derive(Clone, Copy, Debug, Default, PartialEq, Eq)]
+pub struct Listeners {
+    pub listeners: [Listener; 16],
+    pub count: u32,
+}
+
+/// The number of frames listened to, and the masks of packets 20H to 27H.
+#[repr(C)]
+#[derive(Clone, Copy, Debug, Default, PartialEq, Eq)]
+pub struct Frames {
+    pub number: u32,
+    pub count: u32,
+    pub masks: [u16; 8],
+}
+
+extern "C" {
+    /// The wait from the present frame to a designated one.
+    /// Takes both frames, 0 to 127.
+    /// Answers the wait, 0 to 127 frames.
+    /// Refuses 7: a frame over 127.
+    pub fn mortisevane_frames_wait(from: u8, to: u8) -> Wait;
+
+    /// The frames that a pager with these addresses listens to.
+    /// Takes the base frame and the collapse of each address, and how many there are.
+    /// Answers the number of frames, and masks[i], the frame bits of packet 20H + i.
+    /// Refuses 7 and then 9: a frame over 127 or a collapse over 5; over 16 addresses.
+    pub fn mortisevane_frames_listened(listeners: Listeners) -> Frames;
+}
+
+// Packets, as C and Rust link them: building, reading, and what may be sent. Every function takes any
+// input, and its contract is that of the function it calls: `number` is 0, or 01's number of the
+// refusal, and every other field is then 0.
+
+/// The checksum packet (Table 9): CV, 24 bits.
+#[repr(C)]
+#[derive(Clone, Copy, Debug, Default, PartialEq, Eq)]
+pub struct Checksum {
+    pub value: u32,
+}
+
+/// 32 bits: the ID in the highest byte, 24 data bits behind it (Table 1).
+#[repr(C)]
+#[derive(Clone, Copy, Debug, Default, PartialEq, Eq)]
+pub struct Packet {
+    pub bits: u32,
+}
+
+/// The packet that was built; `number` is 0, or 7 and the packet's bits are 0.
+#[repr(C)]
+#[derive(Clone, Copy, Debug, Default, PartialEq, Eq)]
+pub struct Built {
+    pub number: u32,
+    pub packet: Packet,
+}
+
+/// The configuration packet (Table 5): OFD (Table 4) and SP (Table 6), 0 to 3; SME, MOT, COD, MTE and LBP.
+#[repr(C)]
+#[derive(Clone, Copy, Debug, Default, PartialEq, Eq)]
+pub struct Configuration {
+    pub oscillator: u32,
+    pub polarity: u32,
+    pub synchronous_mode: u32,
+    pub maximum_off_time: u32,
+    pub clock_output_disable: u32,
+    pub minute_timer: u32,
+    pub low_battery_polarity: u32,
+}
+
+/// The control packet (Table 11): FF, a bit for each of frames 0 to 7; SPM; PS (Table 10), 0 to 3; SBI, MTC and ON.
+#[repr(C)]
+#[derive(Clone, Copy, Debug, Default, PartialEq, Eq)]
+pub struct Control {
+    pub forced_frames: u32,
+    pub single_phase: u32,
+    pub phase: u32,
+    pub block_information: u32,
+    pub minute_timer_clear: u32,
+    pub on: u32,
+}
+
+/// The all frame mode packet (Table 56): DAF; FAF; DTA, a bit for each temporary address.
+#[repr(C)]
+#[derive(Clone, Copy, Debug, Default, PartialEq, Eq)]
+pub struct AllFrameMode {
+    pub decrement: u32,
+    pub force: u32,
+    pub decrement_temporary: u32,
+}
+
+/// The receiver line control packet (Table 19): FRS and CLS, a bit for each of lines S0 to S7.
+#[repr(C)]
+#[derive(Clone, Copy, Debug, Default, PartialEq, Eq)]
+pub struct ReceiverLines {
+    pub forced: u32,
+    pub settings: u32,
+}
+
+/// A receiver shut-down packet (Tables 20 and 21): s, 0 for shut-down 1 and 1 for shut-down 2; SE; LBC; CLS,
+/// a bit for each line; ST, in steps of 625 microseconds.
+#[repr(C)]
+#[derive(Clone, Copy, Debug, Default, PartialEq, Eq)]
+pub struct ShutDown {
+    pub setting: u32,
+    pub enable: u32,
+    pub low_battery_check: u32,
+    pub lines: u32,
+    pub time: u32,
+}
+
+/// A frame assignment packet (Tables 28 and 29): f, 0 to 7; AF, a bit for each of its sixteen frames.
+#[repr(C)]
+#[derive(Clone, Copy, Debug, Default, PartialEq, Eq)]
+pub struct FrameAssignment {
+    pub range: u32,
+    pub frames: u32,
+}
+
+/// A user address assignment packet (Table 26): a, 0 to 15; LA; TOA; A, an address word of 21 bits.
+#[repr(C)]
+#[derive(Clone, Copy, Debug, Default, PartialEq, Eq)]
+pub struct UserAddress {
+    pub location: u32,
+    pub long_address: u32,
+    pub tone_only: u32,
+    pub word: u32,
+}
+
+/// The user address enable packet (Table 27): UAE, a bit for each location.
+#[repr(C)]
+#[derive(Clone, Copy, Debug, Default, PartialEq, Eq)]
+pub struct AddressEnable {
+    pub enabled: u32,
+}
+
+/// The part ID packet (Table 8): MDL, CID and REV.
+#[repr(C)]
+#[derive(Clone, Copy, Debug, Default, PartialEq, Eq)]
+pub struct PartId {
+    pub model: u32,
+    pub compatibility: u32,
+    pub revision: u32,
+}
+
+/// The fields of a checksum packet (Table 9), or its refusal.
+#[repr(C)]
+#[derive(Clone, Copy, Debug, Default, PartialEq, Eq)]
+pub struct ChecksumRead {
+    pub number: u32,
+    pub fields: Checksum,
+}
+
+/// The fields of a configuration packet (Table 5), or its refusal.
+#[repr(C)]
+#[derive(Clone, Copy, Debug, Default, PartialEq, Eq)]
+pub struct ConfigurationRead {
+    pub number: u32,
+    pub fields: Configuration,
+}
+
+/// The fields of a control packet (Table 11), or its refusal.
+#[repr(C)]
+#[derive(Clone, Copy, Debug, Default, PartialEq, Eq)]
+pub struct ControlRead {
+    pub number: u32,
+    pub fields: Control,
+}
+
+/// The fields of an all frame mode packet (Table 56), or its refusal.
+#[repr(C)]
+#[derive(Clone, Copy, Debug, Default, PartialEq, Eq)]
+pub struct AllFrameModeRead {
+    pub number: u32,
+    pub fields: AllFrameMode,
+}
+
+/// The fields of a receiver line control packet (Table 19), or its refusal.
+#[repr(C)]
+#[derive(Clone, Copy, Debug, Default, PartialEq, Eq)]
+pub struct ReceiverLinesRead {
+    pub number: u32,
+    pub fields: ReceiverLines,
+}
+
+/// The fields of a receiver shut-down packet (Table 21), or its refusal.
+#[repr(C)]
+#[derive(Clone, Copy, Debug, Default, PartialEq, Eq)]
+pub struct ShutDownRead {
+    pub number: u32,
+    pub fields: ShutDown,
+}
+
+/// The fields of a frame assignment packet (Table 29), or its refusal.
+#[repr(C)]
+#[derive(Clone, Copy, Debug, Default, PartialEq, Eq)]
+pub struct FrameAssignmentRead {
+    pub number: u32,
+    pub fields: FrameAssignment,
+}
+
+/// The fields of a user address assignment packet (Table 26), or its refusal.
+#[repr(C)]
+#[derive(Clone, Copy, Debug, Default, PartialEq, Eq)]
+pub struct UserAddressRead {
+    pub number: u32,
+    pub fields: UserAddress,
+}
+
+/// The fields of the user address enable packet (Table 27), or its refusal.
+#[repr(C)]
+#[derive(Clone, Copy, Debug, Default, PartialEq, Eq)]
+pub struct AddressEnableRead {
+    pub number: u32,
+    pub fields: AddressEnable,
+}
+
+/// The fields of the part ID packet (Table 8), or its refusal.
+#[repr(C)]
+#[derive(Clone, Copy, Debug, Default, PartialEq, Eq)]
+pub struct PartIdRead {
+    pub number: u32,
+    pub fields: PartId,
+}
+
+/// The status packet (Table 12): FIV; f, the frame 0 to 127; SM; LB; c, the cycle 0 to 15; SMU; LBU; MT; EOF; BOE.
+#[repr(C)]
+#[derive(Clone, Copy, Debug, Default, PartialEq, Eq)]
+pub struct Status {
+    pub frame_valid: u32,
+    pub frame: u32,
+    pub synchronous: u32,
+    pub low_battery: u32,
+    pub cycle: u32,
+    pub synchronous_update: u32,
+    pub low_battery_update: u32,
+    pub minute: u32,
+    pub end_of_frame: u32,
+    pub overflow: u32,
+}
+
+/// The fields of a status packet, or its refusal.
+#[repr(C)]
+#[derive(Clone, Copy, Debug, Default, PartialEq, Eq)]
+pub struct StatusRead {
+    pub number: u32,
+    pub fields: Status,
+}
+
+/// The address packet (Table 30): PA; p, 0 to 3 for A to D; LA; the address number that AI stands for, 0 to
+/// 31, the last 16 temporary; TOA; WN, the word number of the vector, 0 where none will come.
+#[repr(C)]
+#[derive(Clone, Copy, Debug, Default, PartialEq, Eq)]
+pub struct Address {
+    pub priority: u32,
+    pub phase: u32,
+    pub long_address: u32,
+    pub address: u32,
+    pub tone_only: u32,
+    pub vector: u32,
+}
+
+/// The fields of an address packet, or its refusal.
+#[repr(C)]
+#[derive(Clone, Copy, Debug, Default, PartialEq, Eq)]
+pub struct AddressRead {
+    pub number: u32,
+    pub fields: Address,
+}
+
+/// Where a vector's message words stand: K of a numeric one (Table 31), the number of words, and b. All 0 in
+/// a vector that has no message words.
+#[repr(C)]
+#[derive(Clone, Copy, Debug, Default, PartialEq, Eq)]
+pub struct Span {
+    pub check: u32,
+    pub words: u32,
+    pub start: u32,
+}
+
+/// A short message or tone-only vector (Table 34): its message type t; with type 0 the codes of three numeric
+/// characters; with 1 and 2 the source S; with 2 the flag R and the message number N; with the spare type 3
+/// its twelve d bits.
+#[repr(C)]
+#[derive(Clone, Copy, Debug, Default, PartialEq, Eq)]
+pub struct ShortMessage {
+    pub kind: u32,
+    pub first: u32,
+    pub second: u32,
+    pub third: u32,
+    pub source: u32,
+    pub retrieval: u32,
+    pub message: u32,
+    pub unread: u32,
+}
+
+/// A short instruction (Table 38): its type i; with type 0 the address number of the temporary address and
+/// its frame; with a reserved type its eleven d bits.
+#[repr(C)]
+#[derive(Clone, Copy, Debug, Default, PartialEq, Eq)]
+pub struct Instruction {
+    pub kind: u32,
+    pub address: u32,
+    pub frame: u32,
+    pub unread: u32,
+}
+
+/// A vector packet: WN; e; p; the vector type V; and what that type brings, the rest being 0.
+#[repr(C)]
+#[derive(Clone, Copy, Debug, Default, PartialEq, Eq)]
+pub struct Vector {
+    pub word: u32,
+    pub damaged: u32,
+    pub phase: u32,
+    pub kind: u32,
+    pub span: Span,
+    pub short_message: ShortMessage,
+    pub instruction: Instruction,
+}
+
+/// The fields of a vector packet, or its refusal.
+#[repr(C)]
+#[derive(Clone, Copy, Debug, Default, PartialEq, Eq)]
+pub struct VectorRead {
+    pub number: u32,
+    pub fields: Vector,
+}
+
+/// A message packet (Table 40): WN; e; p; the 21 bits i.
+#[repr(C)]
+#[derive(Clone, Copy, Debug, Default, PartialEq, Eq)]
+pub struct Message {
+    pub word: u32,
+    pub damaged: u32,
+    pub phase: u32,
+    pub bits: u32,
+}
+
+/// The fields of a message packet, or its refusal.
+#[repr(C)]
+#[derive(Clone, Copy, Debug, Default, PartialEq, Eq)]
+pub struct MessageRead {
+    pub number: u32,
+    pub fields: Message,
+}
+
+extern "C" {
+    /// Builds a checksum packet.
+    /// Takes its fields.
+    /// Answers the packet.
+    /// Refuses 7: a field too large.
+    pub fn mortisevane_build_checksum(fields: Checksum) -> Built;
+
+    /// Builds a configuration packet.
+    /// Takes its fields.
+    /// Answers the packet.
+    /// Refuses 7: a field too large.
+    pub fn mortisevane_build_configuration(fields: Configuration) -> Built;
+
+    /// Builds a control packet.
+    /// Takes its fields.
+    /// Answers the packet.
+    /// Refuses 7: a field too large.
+    pub fn mortisevane_build_control(fields: Control) -> Built;
+
+    /// Builds an all frame mode packet.
+    /// Takes its fields.
+    /// Answers the packet.
+    /// Refuses 7: a field too large.
+    pub fn mortisevane_build_all_frame_mode(fields: AllFrameMode) -> Built;
+
+    /// Builds a receiver line control packet.
+    /// Takes its fields.
+    /// Answers the packet.
+    /// Refuses 7: a field too large.
+    pub fn mortisevane_build_receiver_lines(fields: ReceiverLines) -> Built;
+
+    /// Builds a receiver shut-down packet.
+    /// Takes its fields.
+    /// Answers the packet.
+    /// Refuses 7: a field too large.
+    pub fn mortisevane_build_shut_down(fields: ShutDown) -> Built;
+
+    /// Builds a frame assignment packet.
+    /// Takes its fields.
+    /// Answers the packet.
+    /// Refuses 7: a field too large.
+    pub fn mortisevane_build_frame_assignment(fields: FrameAssignment) -> Built;
+
+    /// Builds a user address assignment packet.
+    /// Takes its fields.
+    /// Answers the packet.
+    /// Refuses 7: a field too large.
+    pub fn mortisevane_build_user_address(fields: UserAddress) -> Built;
+
+    /// Builds a user address enable packet.
+    /// Takes its fields.
+    /// Answers the packet.
+    /// Refuses 7: a field too large.
+    pub fn mortisevane_build_address_enable(fields: AddressEnable) -> Built;
+
+    /// Builds a part ID packet.
+    /// Takes its fields.
+    /// Answers the packet.
+    /// Refuses 7: a field too large.
+    pub fn mortisevane_build_part_id(fields: PartId) -> Built;
+
+    /// Reads a checksum packet.
+    /// Takes the packet.
+    /// Answers its fields.
+    /// Refuses 7: another packet, or a bit set that its table prints as 0.
+    pub fn mortisevane_read_checksum(packet: u32) -> ChecksumRead;
+
+    /// Reads a configuration packet.
+    /// Takes the packet.
+    /// Answers its fields.
+    /// Refuses 7: another packet, or a bit set that its table prints as 0.
+    pub fn mortisevane_read_configuration(packet: u32) -> ConfigurationRead;
+
+    /// Reads a control packet.
+    /// Takes the packet.
+    /// Answers its fields.
+    /// Refuses 7: another packet, or a bit set that its table prints as 0.
+    pub fn mortisevane_read_control(packet: u32) -> ControlRead;
+
+    /// Reads an all frame mode packet.
+    /// Takes the packet.
+    /// Answers its fields.
+    /// Refuses 7: another packet, or a bit set that its table prints as 0.
+    pub fn mortisevane_read_all_frame_mode(packet: u32) -> AllFrameModeRead;
+
+    /// Reads a receiver line control packet.
+    /// Takes the packet.
+    /// Answers its fields.
+    /// Refuses 7: another packet, or a bit set that its table prints as 0.
+    pub fn mortisevane_read_receiver_lines(packet: u32) -> ReceiverLinesRead;
+
+    /// Reads a receiver shut-down packet.
+    /// Takes the packet.
+    /// Answers its fields.
+    /// Refuses 7: another packet, or a bit set that its table prints as 0.
+    pub fn mortisevane_read_shut_down(packet: u32) -> ShutDownRead;
+
+    /// Reads a frame assignment packet.
+    /// Takes the packet.
+    /// Answers its fields.
+    /// Refuses 7: another packet, or a bit set that its table prints as 0.
+    pub fn mortisevane_read_frame_assignment(packet: u32) -> FrameAssignmentRead;
+
+    /// Reads a user address assignment packet.
+    /// Takes the packet.
+    /// Answers its fields.
+    /// Refuses 7: another packet, or a bit set that its table prints as 0.
+    pub fn mortisevane_read_user_address(packet: u32) -> UserAddressRead;
+
+    /// Reads a user address enable packet.
+    /// Takes the packet.
+    /// Answers its fields.
+    /// Refuses 7: another packet, or a bit set that its table prints as 0.
+    pub fn mortisevane_read_address_enable(packet: u32) -> AddressEnableRead;
+
+    /// Reads a part ID packet.
+    /// Takes the packet.
+    /// Answers its fields.
+    /// Refuses 7: another packet.
+    pub fn mortisevane_read_part_id(packet: u32) -> PartIdRead;
+
+    /// Reads a status packet.
+    /// Takes the packet.
+    /// Answers its fields.
+    /// Refuses 7: another packet.
+    pub fn mortisevane_read_status(packet: u32) -> StatusRead;
+
+    /// Reads an address packet.
+    /// Takes the packet.
+    /// Answers its fields, the address number 0 to 31 among them.
+    /// Refuses 7 and then 8: another packet or a vector's word number over 87; an index of no address.
+    pub fn mortisevane_read_address(packet: u32) -> AddressRead;
+
+    /// Reads a vector packet.
+    /// Takes the packet.
+    /// Answers its fields.
+    /// Refuses 7: another packet.
+    pub fn mortisevane_read_vector(packet: u32) -> VectorRead;
+
+    /// Reads a message packet.
+    /// Takes the packet.
+    /// Answers its fields.
+    /// Refuses 7: another packet.
+    pub fn mortisevane_read_message(packet: u32) -> MessageRead;
+
+    /// Whether the host may send a packet.
+    /// Takes the packet.
+    /// Answers 0 if it may.
+    /// Refuses 7.
+    pub fn mortisevane_may_send(packet: u32) -> u32;
+}
+
+// The mirror of the decoder, as C and Rust link it. Every function takes any input, and its contract is
+// that of the function it calls: `number` is 0, or 01's number of the refusal.
+
+/// The register, 24 bits; `talking` is 0 while the decoder sends nothing but its part ID.
+#[repr(C)]
+#[derive(Clone, Copy, Debug, Default, PartialEq, Eq)]
+pub struct Mirror {
+    pub register: u32,
+    pub talking: u32,
+}
+
+/// The mirror after what was done; `number` is 0, or the refusal's and the mirror is as it was.
+#[repr(C)]
+#[derive(Clone, Copy, Debug, Default, PartialEq, Eq)]
+pub struct Mirrored {
+    pub number: u32,
+    pub mirror: Mirror,
+}
+
+extern "C" {
+    /// The mirror of a decoder that was reset and told its part ID.
+    /// Takes the part ID packet.
+    /// Answers the mirror: the register is the packet's 24 data bits, and the decoder is not talking.
+    /// Refuses 7: another packet.
+    pub fn mortisevane_mirror_reset(packet: u32) -> Mirrored;
+
+    /// The mirror after one packet that the host sent.
+    /// Takes the mirror and the packet, any 32 bits.
+    /// Answers the mirror then; after a checksum packet `talking` says whether the decoder talks.
+    /// Refuses 2: a register over 24 bits.
+    pub fn mortisevane_mirror_step(mirror: Mirror, packet: u32) -> Mirrored;
+
+    /// The mirror after a run of packets that the host sent.
+    /// Takes the mirror and the packets, any 32 bits each.
+    /// Answers the mirror after the last of them.
+    /// Refuses 2: a register over 24 bits.
+    pub fn mortisevane_mirror_run(mirror: Mirror, packets: *const u32, packets_length: usize) -> Mirrored;
+
+    /// The checksum packet that makes the decoder talk.
+    /// Takes the mirror.
+    /// Answers the packet, to be sent last of a set-up and run through the mirror as every other.
+    /// Refuses 2: a register over 24 bits.
+    pub fn mortisevane_mirror_closing(mirror: Mirror) -> Built;
+}
+
+// The sums of messages, as C and Rust link them. Every function takes any row, and its contract is that of the
+// function it calls.
+
+extern "C" {
+    /// K of a numeric page, 0 to 63: K0 to K3 belong into the vector, K4 and K5 into the first word, whose two lowest bits
+    /// are taken as 0.
+    /// Takes the words of the page.
+    /// Answers K.
+    /// Refuses nothing.
+    pub fn mortisevane_sum_six_bit(words: *const u32, words_length: usize) -> u32;
+
+    /// K of a fragment, 0 to 1023: the ten lowest bits of its first word are taken as 0.
+    /// Takes the words of the fragment.
+    /// Answers K.
+    /// Refuses nothing.
+    pub fn mortisevane_sum_ten_bit(words: *const u32, words_length: usize) -> u32;
+
+    /// The signature of a text with its fill, 0 to 127.
+    /// Takes the characters, fill with them.
+    /// Answers the signature.
+    /// Refuses nothing.
+    pub fn mortisevane_sum_signature(characters: *const u8, characters_length: usize) -> u32;
+}
+
+// Numeric pages, as C and Rust link them. Every function takes any input, and its contract is that of the function
+// it calls: `number` is 0, or 01's number of the refusal, and what was lent is then as it was.
+
+/// What the head of a numbered page says: N, the message number, 0 to 63; R, whether the pager expects its
+/// messages to be numbered; S, whether a special format shows it. All 0 with the other kinds.
+#[repr(C)]
+#[derive(Clone, Copy, Debug, Default, PartialEq, Eq)]
+pub struct Numbering {
+    pub message_number: u32,
+    pub retrieval: u32,
+    pub special_format: u32,
+}
+
+/// A page written: K for its vector, and how many words. Both are 0 after a refusal.
+#[repr(C)]
+#[derive(Clone, Copy, Debug, Default, PartialEq, Eq)]
+pub struct Written {
+    pub number: u32,
+    pub check: u32,
+    pub words: usize,
+}
+
+/// A page read: what its head says, and how many characters. All are 0 after a refusal.
+#[repr(C)]
+#[derive(Clone, Copy, Debug, Default, PartialEq, Eq)]
+pub struct PageRead {
+    pub number: u32,
+    pub numbering: Numbering,
+    pub characters: usize,
+}
+
+extern "C" {
+    /// A text as the words of a numeric page.
+    /// Takes the text, characters of Table 39; the vector's type, MORTISEVANE_VECTOR_STANDARD, _SPECIAL or _NUMBERED; what the
+    /// head of a numbered page says, all 0 with the others; and memory for the words, for which MORTISEVANE_PAGE_WORDS are
+    /// always enough.
+    /// Answers K for the vector and how many words were written, the fewest that hold the text.
+    /// Refuses 7, 15, 18, the first that applies, and last 1; the memory is then as it was.
+    pub fn mortisevane_numeric_write(text: *const u8, text_length: usize, kind: u32, numbering: Numbering, words: *mut u32, words_length: usize) -> Written;
+
+    /// The words of a numeric page as text, its zeros with it.
+    /// Takes the type and the K of its vector, the words, and memory for the text, for which MORTISEVANE_PAGE_CHARACTERS are
+    /// always enough.
+    /// Answers what the head of a numbered page says, and how many characters were written: all that the words have room
+    /// for, so that spaces may stand at the end.
+    /// Refuses 7, 9, 10, 11, the first that applies, and last 1; the memory is then as it was.
+    pub fn mortisevane_numeric_read(kind: u32, check: u32, words: *const u32, words_length: usize, text: *mut u8, text_length: usize) -> PageRead;
+}
+
+// Fragments of a text, as C and Rust link them. Every function takes any input, and its contract is that of the function
+// it calls: `number` is 0, or 01's number of the refusal, and what was lent is then as it was.
+
+/// What is told of a fragment: 01's number; C, 1 where more follows; F, 3 in a first fragment; N; R, M and the
+/// signature of a first fragment, 0 of others; the sum modulo 128 of all its characters, fill and signature with
+/// them; and how many characters its text has. All are 0 after a refusal.
+#[repr(C)]
+#[derive(Clone, Copy, Debug, Default, PartialEq, Eq)]
+pub struct FragmentRead {
+    pub number: u32,
+    pub continued: u32,
+    pub fragment_number: u32,
+    pub message_number: u32,
+    pub retrieval: u32,
+    pub mail_drop: u32,
+    pub signature: u32,
+    pub sum: u32,
+    pub characters: usize,
+}
+
+/// What the first fragment says of its message: N, the message number, 0 to 63; R, whether the pager expects its messages
+/// to be numbered; M, whether it is a mail drop.
+#[repr(C)]
+#[derive(Clone, Copy, Debug, Default, PartialEq, Eq)]
+pub struct Marks {
+    pub message_number: u32,
+    pub retrieval: u32,
+    pub mail_drop: u32,
+}
+
+/// A text cut: how many fragments, and how many words they are together. Each but the last has the largest size. Both are 0
+/// after a refusal.
+#[repr(C)]
+#[derive(Clone, Copy, Debug, Default, PartialEq, Eq)]
+pub struct TextCut {
+    pub number: u32,
+    pub fragments: usize,
+    pub words: usize,
+}
+
+extern "C" {
+    /// What a fragment says of itself, without its text.
+    /// Takes the words of the fragment, 2 to 85.
+    /// Answers what its first word says, its signature, its sum and how many characters its text has.
+    /// Refuses 9, 10, 11, the first that applies.
+    pub fn mortisevane_fragment_heading(words: *const u32, words_length: usize) -> FragmentRead;
+
+    /// A fragment, and its text.
+    /// Takes the words of the fragment, 2 to 85, and memory for the text, for which MORTISEVANE_FRAGMENT_CHARACTERS are
+    /// always enough.
+    /// Answers what mortisevane_fragment_heading answers; the text is written without its fill.
+    /// Refuses 9, 10, 11, the first that applies, and last 1; the memory is then as it was.
+    pub fn mortisevane_fragment_read(words: *const u32, words_length: usize, text: *mut u8, text_length: usize) -> FragmentRead;
+
+    /// A text cut into fragments, one behind the other.
+    /// Takes the text, up to 1,008 characters; N, R and M of the message; how many words the largest fragment may have, 2 to
+    /// 85; and memory for the words, for which MORTISEVANE_CUT_WORDS are always enough.
+    /// Answers how many fragments there are and how many words they have together. Each but the last has the largest size, so
+    /// that fragment j begins at word j times it.
+    /// Refuses 7, 9, 15, 18, the first that applies, and last 1; the memory is then as it was.
+    pub fn mortisevane_text_cut(text: *const u8, text_length: usize, marks: Marks, largest: usize, words: *mut u32, words_length: usize) -> TextCut;
+}
+
+// Chains of fragments, as C and Rust link them. Every function takes any input, and its contract is that of the function
+// it calls: `number` is 0, or 01's number of the refusal. The records go in and come back by value; the texts lie in the lent
+// buffer of 8,064 bytes, where a text that is handed out is `characters` bytes from `place` on.
+
+/// The record of one slot. Open is any number but 0; a closed slot's record is all zero. An open chain is known by its
+/// address number and its message number; it awaits the next F; `sum` is the sum modulo 128 of what came, the signature
+/// with it, and `characters` the length of its text so far.
+#[repr(C)]
+#[derive(Clone, Copy, Debug, Default, PartialEq, Eq)]
+pub struct Chain {
+    pub is_open: u32,
+    pub address: u32,
+    pub message_number: u32,
+    pub next_fragment: u32,
+    pub sum: u32,
+    pub characters: usize,
+}
+
+/// The records of the eight slots. The text of slot i begins at byte 1,008 times i of the lent buffer.
+#[repr(C)]
+#[derive(Clone, Copy, Debug, Default, PartialEq, Eq)]
+pub struct Chains {
+    pub slots: [Chain; 8],
+}
+
+/// What is told of a fragment: 01's number; `lost`, 1 where it closed an open chain of its key whose text is not handed
+/// out (a first fragment the older one, a later fragment with 14, 15 or 16 its own); `begun`, 1 where it is a first
+/// fragment that was taken, with its R and M; `complete`, 1 where it hands out a text, with the slot, the place of the text in the
+/// lent buffer and its length. What is not told is 0.
+#[repr(C)]
+#[derive(Clone, Copy, Debug, Default, PartialEq, Eq)]
+pub struct ChainAnswer {
+    pub number: u32,
+    pub lost: u32,
+    pub begun: u32,
+    pub retrieval: u32,
+    pub mail_drop: u32,
+    pub complete: u32,
+    pub slot: usize,
+    pub place: usize,
+    pub characters: usize,
+}
+
+/// The answer to a fragment, and the records then.
+#[repr(C)]
+#[derive(Clone, Copy, Debug, Default, PartialEq, Eq)]
+pub struct ChainStep {
+    pub answer: ChainAnswer,
+    pub chains: Chains,
+}
+
+/// The answer to a drop, and the records then.
+#[repr(C)]
+#[derive(Clone, Copy, Debug, Default, PartialEq, Eq)]
+pub struct ChainDrop {
+    pub number: u32,
+    pub chains: Chains,
+}
+
+extern "C" {
+    /// The records after a reset: no chain is open. They are all zero.
+    /// Takes nothing.
+    /// Answers the records.
+    /// Refuses nothing.
+    pub fn mortisevane_chains_fresh() -> Chains;
+
+    /// A fragment for an address number: it begins a chain, goes on with one, or hands out a text.
+    /// Takes the records, as they were answered last; the buffer of the texts, MORTISEVANE_CHAIN_BYTES or more, as it was
+    /// left last; the address number, 0 to 31; and the words of the fragment.
+    /// Answers what became of it, and the records then. A text that is handed out is `characters` bytes of the buffer from
+    /// `place` on, to be read before the next fragment.
+    /// Refuses 1, 2, 8, 9, 10, 11, 13, 14, 15, 16, 12, the first that applies; the buffer is then as it was. After 14, 15 and
+    /// 16 the key's chain is closed.
+    pub fn mortisevane_chain_step(chains: Chains, buffer: *mut u8, buffer_length: usize, address: u32, words: *const u32, words_length: usize) -> ChainStep;
+
+    /// The chain of an address number and a message number, closed at the caller's wish.
+    /// Takes the records, the address number, 0 to 31, and the message number, 0 to 63.
+    /// Answers the records then.
+    /// Refuses 2, 7, 8, 13, the first that applies; the records are then as they were.
+    pub fn mortisevane_chain_drop(chains: Chains, address: u32, message_number: u32) -> ChainDrop;
+}
+
+// Calls in a frame, as C and Rust link them. Every function takes any input, and its contract is that of the function it
+// calls: `number` is 0, or 01's number of the refusal. The records go in and come back by value; the words lie in the
+// lent memory of 680 words, where those of a call are `words` of them from its place on.
+
+/// One call. Its phase and the word number of its vector, which are its key; its address number, and whether that came
+/// as a priority address or is a long one. Once its vector has come `has_vector` is not 0, and then: the vector's kind
+/// and K, the word number b where the message words begin (a long call's second), how many words there are (0 where
+/// the vector brings none), and which area of the lent memory holds them.
+#[repr(C)]
+#[derive(Clone, Copy, Debug, Default, PartialEq, Eq)]
+pub struct Call {
+    pub phase: u32,
+    pub vector: u32,
+    pub address: u32,
+    pub priority: u32,
+    pub long_address: u32,
+    pub has_vector: u32,
+    pub kind: u32,
+    pub check: u32,
+    pub start: u32,
+    pub words: u32,
+    pub area: u32,
+}
+
+/// The records. The first `size` of them are the open calls, in the order opened; a size of 8 or more says that all are.
+#[repr(C)]
+#[derive(Clone, Copy, Debug, Default, PartialEq, Eq)]
+pub struct Calls {
+    pub size: usize,
+    pub calls: [Call; 8],
+}
+
+/// What is told of an address packet: 01's number; `opened`, 1 where it opened a call, with the call's place among the
+/// open ones (a tone-only address opens none); and what the packet says. What is not told is 0.
+#[repr(C)]
+#[derive(Clone, Copy, Debug, Default, PartialEq, Eq)]
+pub struct CallOpened {
+    pub number: u32,
+    pub opened: u32,
+    pub call: usize,
+    pub fields: Address,
+}
+
+/// The answer to an address packet, and the records then.
+#[repr(C)]
+#[derive(Clone, Copy, Debug, Default, PartialEq, Eq)]
+pub struct CallOpening {
+    pub answer: CallOpened,
+    pub calls: Calls,
+}
+
+/// What is told of a vector or message packet: 01's number; `is_vector`, 1 where it is the vector of a call, with the
+/// call's place among the open ones, the vector's kind and its K; and `completed`, the calls that it completed: bit i
+/// for the call at place i, so that the lowest bit is the one opened first. What is not told is 0.
+#[repr(C)]
+#[derive(Clone, Copy, Debug, Default, PartialEq, Eq)]
+pub struct CallHeard {
+    pub number: u32,
+    pub is_vector: u32,
+    pub call: usize,
+    pub kind: u32,
+    pub check: u32,
+    pub completed: u32,
+}
+
+/// The answer to a vector or message packet, and the records then.
+#[repr(C)]
+#[derive(Clone, Copy, Debug, Default, PartialEq, Eq)]
+pub struct CallHearing {
+    pub answer: CallHeard,
+    pub calls: Calls,
+}
+
+/// The answer to an end of frame: 01's number, the calls that were incomplete, in the order opened, and the records then.
+#[repr(C)]
+#[derive(Clone, Copy, Debug, Default, PartialEq, Eq)]
+pub struct FrameEnd {
+    pub number: u32,
+    pub incomplete: Calls,
+    pub calls: Calls,
+}
+
+extern "C" {
+    /// The records with no call open: after a reset, and after an end of frame. They are all zero.
+    /// Takes nothing.
+    /// Answers the records.
+    /// Refuses nothing.
+    pub fn mortisevane_calls_fresh() -> Calls;
+
+    /// An address packet, which opens a call.
+    /// Takes the records, as they were answered last, and the packet.
+    /// Answers what the packet says, the place of its call, and the records then. A tone-only address opens none.
+    /// Refuses 2, 7, 8, 14, 12, the first that applies; the records are then as they were.
+    pub fn mortisevane_call_open(calls: Calls, bits: u32) -> CallOpening;
+
+    /// A vector or message packet.
+    /// Takes the records, as they were answered last; the memory of the words, MORTISEVANE_CALL_WORDS or more, as it was left
+    /// last; and the packet.
+    /// Answers what became of it, with a bit for each call that is complete by it, and the records then.
+    /// Refuses 2, 7, 10, and then of a vector 9, 14, of a word 14, or 17, and last 1; the memory is then as it was. A span
+    /// refused by 9 closes its call.
+    pub fn mortisevane_call_hear(calls: Calls, memory: *mut u32, memory_length: usize, bits: u32) -> CallHearing;
+
+    /// The end of a frame, which closes all calls.
+    /// Takes the records, as they were answered last, and the memory of the words.
+    /// Answers the records of the calls that were incomplete, in the order opened, and the records then.
+    /// Refuses 2 and then 1; the records are then as they were.
+    pub fn mortisevane_call_end(calls: Calls, memory: *const u32, memory_length: usize) -> FrameEnd;
+
+    /// Where the words of a call begin in the lent memory.
+    /// Takes the record of the call.
+    /// Answers the place of its first word; the `words` of the record are from there on.
+    /// Refuses nothing.
+    pub fn mortisevane_call_place(call: Call) -> usize;
+}

@@ -1,0 +1,3 @@
+//! The proved pager host, safe to call from Rust.
+
+pub mod exports;
