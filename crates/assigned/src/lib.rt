@@ -1,8 +1,9 @@
-// What the host assigns, read back into its fields: receiver lines, the shut-down, frames and user
-// addresses (document 01, "Packets and the handshake"; S8.5, S8.6). A packet whose ID is another's, or
-// that has a bit set which its table prints as 0, is refused (7), and its fields read 0.
+// What the host assigns, read back into its fields: frames and user addresses (document 01, "Packets and the
+// handshake"; S8.6). A packet whose ID is another's, or that has a bit set which its table prints as 0, is refused (7),
+// and its fields read 0. The fields of receiver lines and the shut-down (S8.5) stand here too, beside their laws;
+// `lines` reads them.
 ghost use mathlib.Core.Path.{_≡_};
-ghost use Rattle.assigned.specs.Reads.{receiverLinesRead, shutDownRead, frameAssignmentRead, userAddressRead, addressEnableRead};
+ghost use Rattle.assigned.specs.Reads.{frameAssignmentRead, userAddressRead, addressEnableRead};
 use packet::AddressEnable;
 use packet::FrameAssignment;
 use packet::Packet;
@@ -48,50 +49,11 @@ pub struct AddressEnableRead {
 }
 
 // The bits that each packet's table prints, its ID and every 0: the table as a mask.
-pub const RECEIVER_LINES_PRINTED: u32 = 0xFFFF_0000; // Table 19
-
-pub const SHUT_DOWN_PRINTED: u32 = 0xFE77_00C0; // Table 21
-
 pub const FRAME_ASSIGNMENT_PRINTED: u32 = 0xF8FF_0000; // Table 29
 
 pub const USER_ADDRESS_PRINTED: u32 = 0xF080_0000; // Table 26
 
 pub const ADDRESS_ENABLE_PRINTED: u32 = 0xFFFF_0000; // Table 27
-
-// Reads a receiver line control packet (Table 19).
-pub fn read_receiver_lines(packet: Packet) -> ReceiverLinesRead
-    ensures { λ r. ⌜ r ≡ receiverLinesRead (packet .bits) ⌝ }
-{
-    let bits = packet.bits;
-    let good = bits & RECEIVER_LINES_PRINTED == Packet::RECEIVER_LINES << 24;
-    let bits = kept(good, bits);
-    ReceiverLinesRead {
-        number: Refusal::Packet.unless(good),
-        fields: ReceiverLines {
-            forced: (bits >> 8) % 0x100,
-            settings: bits % 0x100,
-        },
-    }
-}
-
-// Reads a receiver shut-down packet (Table 21).
-pub fn read_shut_down(packet: Packet) -> ShutDownRead
-    ensures { λ r. ⌜ r ≡ shutDownRead (packet .bits) ⌝ }
-{
-    let bits = packet.bits;
-    let good = bits & SHUT_DOWN_PRINTED == Packet::SHUT_DOWN_1 << 24;
-    let bits = kept(good, bits);
-    ShutDownRead {
-        number: Refusal::Packet.unless(good),
-        fields: ShutDown {
-            setting: (bits >> 24) % 2,
-            enable: (bits >> 23) % 2,
-            low_battery_check: (bits >> 19) % 2,
-            lines: (bits >> 8) % 0x100,
-            time: bits % 0x40,
-        },
-    }
-}
 
 // Reads a frame assignment packet (Table 29).
 pub fn read_frame_assignment(packet: Packet) -> FrameAssignmentRead

@@ -1,37 +1,22 @@
-// Calls in a frame (document 01, "Calls in a frame"; S8.7.2, S8.8.2): opened by an address packet, closed at the end of
-// the frame (what comes between is in `hearing`). The records of the eight calls go in and come back by value, the words
-// lie in a lent memory of 8 times 85.
+// Calls in a frame (document 01, "Calls in a frame"; S8.7.2): opened by an address packet. What comes then is in
+// `hearing`, the end of the frame in `ending`. The records of the eight calls go in and come back by value, the words lie
+// in a lent memory of 8 times 85.
 ghost use mathlib.Core.Path.{_≡_};
 ghost use Prim.Native.Nat.{_+_, _<_};
 ghost use mathlib.Core.List.{[]};
-ghost use Rattle.laws.specs.Choice.{pick};
 ghost use Rattle.refusal.specs.Told.{told};
-ghost use Rattle.calls.specs.Calls.{mostCalls, fresh, opens};
-ghost use Rattle.calls.specs.Steps.{callOf, added, listed, incompleteIn};
-ghost use Rattle.calls.specs.Answers.{openOf, openedIn, openingOf, endOf, endedWith, endedIn, asOpening, asEnd};
+ghost use Rattle.calls.specs.Calls.{mostCalls};
+ghost use Rattle.calls.specs.Steps.{callOf, added};
+ghost use Rattle.calls.specs.Answers.{openOf, openedIn, openingOf, asOpening};
 ghost use Rattle.call.specs.Pieces.{openingCalls};
-use calls::BLANK;
 use calls::Call;
 use calls::CallOpened;
 use calls::CallOpening;
 use calls::Calls;
-use calls::FrameEnd;
-use calls::MEMORY;
 use calls::MOST_CALLS;
 use heard::Address;
 use packet::Packet;
 use refusal::Refusal;
-
-// The records with no call open.
-pub fn fresh() -> Calls
-    ensures { λ r. ⌜ r ≡ fresh mostCalls ⌝ }
-{
-    let calls = [BLANK; MOST_CALLS];
-    Calls {
-        size: 0,
-        calls: calls,
-    }
-}
 
 // The records with one call more.
 fn added(calls: Calls, call: Call) -> Calls
@@ -46,8 +31,6 @@ fn added(calls: Calls, call: Call) -> Calls
         calls: row,
     }
 }
-
-// ---- an address packet
 
 // The call that an address packet opens.
 fn call_of(address: Address) -> Call
@@ -136,59 +119,4 @@ pub fn open(calls: Calls, packet: Packet) -> CallOpening
         };
     }
     open_call(calls, address)
-}
-
-// ---- the end of the frame
-
-// The records with one call more, unless it is complete.
-fn added_unless(calls: Calls, call: Call, complete: bool) -> Calls
-    requires { ⌜ calls .size < mostCalls ⌝ }
-    ensures { λ r. ⌜ r ≡ pick complete calls (added calls call) ⌝ }
-{
-    if complete {
-        return calls;
-    }
-    added(calls, call)
-}
-
-// The open calls that are incomplete, in the order opened.
-fn incomplete(calls: Calls, memory: &[u32]) -> Calls
-    ensures { λ r. ⌜ r ≡ listed mostCalls (incompleteIn (opens calls) (now (memory .entry))) ⌝ }
-{
-    let row = calls.calls;
-    let count = opened::count(calls);
-    let mut found = fresh();
-    let mut i: usize = 0;
-    while i < count {
-        let call = row[i];
-        found = added_unless(found, call, area::is_complete(call, memory));
-        i += 1;
-    }
-    found
-}
-
-// The end of a frame: the calls that were incomplete, and the records with no call open.
-pub fn end_frame(calls: Calls, memory: &[u32]) -> FrameEnd
-    ensures { λ r. ⌜ r ≡ asEnd (endOf calls (now (memory .entry))) (endedWith calls (now (memory .entry))) (endedIn calls (now (memory .entry))) ⌝ }
-{
-    let none = fresh();
-    if !opened::sound(calls) {
-        return FrameEnd {
-            number: Refusal::State.number(),
-            incomplete: none,
-            calls: calls,
-        };
-    }
-    if memory.len() < MEMORY {
-        return FrameEnd {
-            number: Refusal::Room.number(),
-            incomplete: none,
-            calls: calls,
-        };
-    }
-    FrameEnd {
-        number: 0,
-        incomplete: incomplete(calls, memory),
-        calls: none,
-    }
 }

@@ -12,7 +12,7 @@ ghost use Rattle.refusal.specs.Told.{told};
 ghost use Rattle.message.specs.Fragments.{mostCharacters, textIn};
 ghost use Rattle.slots.specs.Chains.{blank, sound, slotCount};
 ghost use Rattle.slots.specs.Steps.{headingIn};
-ghost use Rattle.slots.specs.Answers.{asAnswer, asStep, asDrop, stepOf, chainsAfter, bufferAfter, dropOf, droppedFrom};
+ghost use Rattle.slots.specs.Answers.{asAnswer, asStep, stepOf, chainsAfter, bufferAfter};
 ghost use Rattle.chain.specs.Pieces.{turnOf, takenOf, joinOf, joinedRow, joinedBytes};
 use fragment::FragmentRead;
 use message::MOST_CHARACTERS;
@@ -20,12 +20,10 @@ use refusal::Refusal;
 use slots::BLANK;
 use slots::Chain;
 use slots::ChainAnswer;
-use slots::ChainDrop;
 use slots::ChainStep;
 use slots::Chains;
 use slots::FIRST_FRAGMENT;
 use slots::LAST_ADDRESS;
-use slots::LAST_MESSAGE;
 use slots::SLOTS;
 
 // Where a fragment goes: the records without the older chain of a first one, the slot, the chain before it, and whether
@@ -153,7 +151,7 @@ fn write_at(words: &[u32], buffer: &mut [u8], place: usize)
     requires { ⌜ place + length (textIn (now words)) ≤ length (now buffer) ⌝ }
     ensures { λ r. ⌜ now (buffer .exit) ≡ put (now (buffer .entry)) place (textIn (now (words .entry))) ⌝ }
 {
-    let _written = fragment::write_text(words, &mut buffer[place..]);
+    let _written = writing::write_text(words, &mut buffer[place..]);
 }
 
 // A good fragment joined: 13, 14, 15, 16 and 12 of 01's table, or its text written at its chain's end.
@@ -215,42 +213,4 @@ pub fn step(chains: Chains, buffer: &mut [u8], address: u32, words: &[u32]) -> C
         return unchanged(slots, heading.number);
     }
     join(slots, buffer, address, heading, words)
-}
-
-// The chain of a key closed at the caller's wish.
-pub fn drop_chain(chains: Chains, address: u32, message_number: u32) -> ChainDrop
-    ensures { λ r. ⌜ r ≡ asDrop (dropOf (chains .slots) address «message_number») (droppedFrom (chains .slots) address «message_number») ⌝ }
-{
-    let slots = chains.slots;
-    if !finding::sound(slots) {
-        return ChainDrop {
-            number: Refusal::State.number(),
-            chains: chains,
-        };
-    }
-    if message_number > LAST_MESSAGE {
-        return ChainDrop {
-            number: Refusal::Packet.number(),
-            chains: chains,
-        };
-    }
-    if address > LAST_ADDRESS {
-        return ChainDrop {
-            number: Refusal::Address.number(),
-            chains: chains,
-        };
-    }
-    let slot = finding::find(slots, address, message_number);
-    if slot == SLOTS {
-        return ChainDrop {
-            number: Refusal::NoChain.number(),
-            chains: chains,
-        };
-    }
-    ChainDrop {
-        number: 0,
-        chains: Chains {
-            slots: stored(slots, slot, BLANK),
-        },
-    }
 }

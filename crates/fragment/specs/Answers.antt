@@ -1,7 +1,6 @@
--- The answers of the readers: 01's number, and what is told with it.
+-- The answer of the reader: 01's number, and what is told with it.
 use Rattle.refusal.specs.Told.{Told, numberTold, valueTold}
 use Rattle.fragment.specs.declared.FragmentRead.{FragmentRead}
-use Rattle.fragment.specs.declared.TextRead.{TextRead}
 
 -- the answer: 01's number, and what is told
 abbrev pub asFragment : Told → FragmentRead
@@ -17,7 +16,3 @@ asFragment t =
       sum = valueTold t 6;
       characters = valueTold t 7;
     }
-
--- the answer: 01's number, how many characters were written
-abbrev pub asText : Told → TextRead
-asText t = record { number = numberTold t; characters = valueTold t 0 }

@@ -1,11 +1,11 @@
-// What the decoder sends, read into its fields: part ID, status, address and message packets (document
-// 01, "Packets and the handshake"; S8.4.5, S8.4.9, S8.7). A packet of another ID is refused (7) and its
-// fields read 0. Bits that a table marks x are not looked at. The words of hex and secure messages are
-// handed over unread.
+// What the decoder sends, read into its fields: address and message packets (document 01, "Packets and the
+// handshake"; S8.7). A packet of another ID is refused (7) and its fields read 0. Bits that a table marks x are not
+// looked at. The words of hex and secure messages are handed over unread. The fields of part ID and status stand here
+// too, beside their tables and laws; `reported` reads them.
 ghost use mathlib.Core.Path.{_≡_};
 ghost use Rattle.laws.specs.Layouts.{fieldsOf};
 ghost use Rattle.heard.specs.Tables.{address};
-ghost use Rattle.heard.specs.Reads.{partIdRead, statusRead, asAddress, addressRefusal, addressRead, messageRead};
+ghost use Rattle.heard.specs.Reads.{asAddress, addressRefusal, addressRead, messageRead};
 use packet::Packet;
 use packet::PartId;
 use refusal::Refusal;
@@ -73,47 +73,6 @@ pub struct Message {
 pub struct MessageRead {
     pub number: u32,
     pub fields: Message,
-}
-
-// Reads a part ID packet.
-pub fn read_part_id(packet: Packet) -> PartIdRead
-    ensures { λ r. ⌜ r ≡ partIdRead (packet .bits) ⌝ }
-{
-    let bits = packet.bits;
-    let good = bits & 0xFF00_0000 == Packet::PART_ID << 24;
-    let bits = kept(good, bits);
-    PartIdRead {
-        number: Refusal::Packet.unless(good),
-        fields: PartId {
-            model: (bits >> 22) % 4,
-            compatibility: (bits >> 8) % 0x4000,
-            revision: bits % 0x100,
-        },
-    }
-}
-
-// Reads a status packet.
-pub fn read_status(packet: Packet) -> StatusRead
-    ensures { λ r. ⌜ r ≡ statusRead (packet .bits) ⌝ }
-{
-    let bits = packet.bits;
-    let good = bits & 0xFF00_0000 == Packet::STATUS << 24;
-    let bits = kept(good, bits);
-    StatusRead {
-        number: Refusal::Packet.unless(good),
-        fields: Status {
-            frame_valid: (bits >> 23) % 2,
-            frame: (bits >> 16) % 0x80,
-            synchronous: (bits >> 15) % 2,
-            low_battery: (bits >> 14) % 2,
-            cycle: (bits >> 8) % 16,
-            synchronous_update: (bits >> 7) % 2,
-            low_battery_update: (bits >> 6) % 2,
-            minute: (bits >> 4) % 2,
-            end_of_frame: (bits >> 2) % 2,
-            overflow: bits % 2,
-        },
-    }
 }
 
 // The word number of the vector, or 0 after a tone-only address, which brings none.

@@ -20,7 +20,7 @@ use packet::Packet;
 pub extern "C" fn mortisevane_calls_fresh() -> Calls
     ensures { λ r. ⌜ r ≡ fresh mostCalls ⌝ }
 {
-    call::fresh()
+    ending::fresh()
 }
 
 // An address packet, which opens a call.
@@ -56,7 +56,7 @@ pub extern "C" fn mortisevane_call_hear(calls: Calls, memory: &mut [u32], bits: 
 pub extern "C" fn mortisevane_call_end(calls: Calls, memory: &[u32]) -> FrameEnd
     ensures { λ r. ⌜ r ≡ asEnd (endOf calls (now (memory .entry))) (endedWith calls (now (memory .entry))) (endedIn calls (now (memory .entry))) ⌝ }
 {
-    call::end_frame(calls, memory)
+    ending::end_frame(calls, memory)
 }
 
 // Where the words of a call begin in the lent memory.

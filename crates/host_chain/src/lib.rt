@@ -52,5 +52,5 @@ pub extern "C" fn mortisevane_chain_drop(
 ) -> ChainDrop
     ensures { λ r. ⌜ r ≡ asDrop (dropOf (chains .slots) address «message_number») (droppedFrom (chains .slots) address «message_number») ⌝ }
 {
-    chain::drop_chain(chains, address, message_number)
+    dropping::drop_chain(chains, address, message_number)
 }

@@ -30,7 +30,7 @@ pub extern "C" fn mortisevane_fragment_read(words: &[u32], text: &mut [u8]) -> F
     ensures told { λ r. ⌜ r ≡ asFragment (readOf (length (now (text .entry))) (now (words .entry))) ⌝ }
     ensures buffer { λ r. ⌜ now (text .exit) ≡ readAfter (now (words .entry)) (now (text .entry)) ⌝ }
 {
-    fragment::read(words, text)
+    reading::read(words, text)
 }
 
 // A text cut into fragments, one behind the other.

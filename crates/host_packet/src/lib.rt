@@ -165,7 +165,7 @@ pub extern "C" fn mortisevane_read_checksum(packet: u32) -> ChecksumRead
 pub extern "C" fn mortisevane_read_configuration(packet: u32) -> ConfigurationRead
     ensures { λ r. ⌜ r ≡ configurationRead packet ⌝ }
 {
-    sent::read_configuration(Packet { bits: packet })
+    setup::read_configuration(Packet { bits: packet })
 }
 
 // Reads a control packet.
@@ -176,7 +176,7 @@ pub extern "C" fn mortisevane_read_configuration(packet: u32) -> ConfigurationRe
 pub extern "C" fn mortisevane_read_control(packet: u32) -> ControlRead
     ensures { λ r. ⌜ r ≡ controlRead packet ⌝ }
 {
-    sent::read_control(Packet { bits: packet })
+    setup::read_control(Packet { bits: packet })
 }
 
 // Reads an all frame mode packet.
@@ -198,7 +198,7 @@ pub extern "C" fn mortisevane_read_all_frame_mode(packet: u32) -> AllFrameModeRe
 pub extern "C" fn mortisevane_read_receiver_lines(packet: u32) -> ReceiverLinesRead
     ensures { λ r. ⌜ r ≡ receiverLinesRead packet ⌝ }
 {
-    assigned::read_receiver_lines(Packet { bits: packet })
+    lines::read_receiver_lines(Packet { bits: packet })
 }
 
 // Reads a receiver shut-down packet.
@@ -209,7 +209,7 @@ pub extern "C" fn mortisevane_read_receiver_lines(packet: u32) -> ReceiverLinesR
 pub extern "C" fn mortisevane_read_shut_down(packet: u32) -> ShutDownRead
     ensures { λ r. ⌜ r ≡ shutDownRead packet ⌝ }
 {
-    assigned::read_shut_down(Packet { bits: packet })
+    lines::read_shut_down(Packet { bits: packet })
 }
 
 // Reads a frame assignment packet.
@@ -253,7 +253,7 @@ pub extern "C" fn mortisevane_read_address_enable(packet: u32) -> AddressEnableR
 pub extern "C" fn mortisevane_read_part_id(packet: u32) -> PartIdRead
     ensures { λ r. ⌜ r ≡ partIdRead packet ⌝ }
 {
-    heard::read_part_id(Packet { bits: packet })
+    reported::read_part_id(Packet { bits: packet })
 }
 
 // Reads a status packet.
@@ -264,7 +264,7 @@ pub extern "C" fn mortisevane_read_part_id(packet: u32) -> PartIdRead
 pub extern "C" fn mortisevane_read_status(packet: u32) -> StatusRead
     ensures { λ r. ⌜ r ≡ statusRead packet ⌝ }
 {
-    heard::read_status(Packet { bits: packet })
+    reported::read_status(Packet { bits: packet })
 }
 
 // Reads an address packet.

@@ -4,14 +4,14 @@ ghost use mathlib.Core.Path.{_≡_};
 ghost use Rattle.sending.specs.Rule.{neverSent, zerosRight, sendOf};
 use assigned::ADDRESS_ENABLE_PRINTED;
 use assigned::FRAME_ASSIGNMENT_PRINTED;
-use assigned::RECEIVER_LINES_PRINTED;
-use assigned::SHUT_DOWN_PRINTED;
 use assigned::USER_ADDRESS_PRINTED;
+use lines::RECEIVER_LINES_PRINTED;
+use lines::SHUT_DOWN_PRINTED;
 use packet::Packet;
 use refusal::Refusal;
 use sent::ALL_FRAME_MODE_PRINTED;
-use sent::CONFIGURATION_PRINTED;
-use sent::CONTROL_PRINTED;
+use setup::CONFIGURATION_PRINTED;
+use setup::CONTROL_PRINTED;
 
 // Whether no packet with this ID is ever sent: the reserved ones and the special ones (Table 2).
 fn never_sent(id: u32) -> bool

@@ -1,6 +1,6 @@
 -- `heading_of` meets its contract: each number stands at its place.
 use Rattle.message.specs.Fragments.{isFirst}
-use Rattle.fragment.proofs.Reading.{signature-cell, text-behind}
+use Rattle.cells.proofs.Reading.{signature-cell, text-behind}
 use borrow.Author.Needs.{needs}
 use Rattle.fragment.proofs.heading_of.Statement.{statement}
 use Rattle.fragment.proofs.heading_of.Tie as tie

@@ -6,7 +6,7 @@ use native.Mathlib.Omega.{arith}
 use lib.ListN.{length, drop}
 use Rattle.laws.specs.Lists.{sumBy}
 use Rattle.sums.proofs.Summing.{one-more, none-left}
-use Rattle.fragment.proofs.Reading.{cellSum, sum-words}
+use Rattle.cells.proofs.Reading.{cellSum, sum-words}
 use borrow.Author.Needs.{needs}
 use Rattle.fragment.proofs.sum.Statement.{statement}
 use Rattle.fragment.proofs.sum.Tie as tie

@@ -1,6 +1,6 @@
 -- `sum_in` meets its contract: the three cells added.
 use native.Mathlib.Omega.{arith}
-use Rattle.fragment.proofs.Reading.{added}
+use Rattle.cells.proofs.Reading.{added}
 use borrow.Author.Needs.{needs}
 use Rattle.fragment.proofs.sum_in.Statement.{statement}
 use Rattle.fragment.proofs.sum_in.Tie as tie

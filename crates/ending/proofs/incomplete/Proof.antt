@@ -1,0 +1,107 @@
+-- `incomplete` meets its contract.
+use Prim.Native.Nat.{_-_, _≤_}
+use mathlib.Core.List.{List}
+use mathlib.Core.Path.{_≡_, sym, ap, _∙_}
+use native.Mathlib.Omega.{arith}
+use lib.ListN.{length, getD, take}
+use lib.Seq.{getD-take}
+use Rattle.calls.specs.declared.Call.{Call}
+use Rattle.calls.specs.declared.Calls.{Calls}
+use Rattle.calls.specs.Calls.{blank}
+use Rattle.calls.specs.Steps.{listed, incompleteIn}
+use Rattle.opened.proofs.Asking.{open-again}
+use Rattle.ending.proofs.Ending.{incomplete-none, incomplete-few, incomplete-turn, incomplete-done}
+use borrow.Author.Needs.{needs}
+use Rattle.ending.proofs.incomplete.Statement.{statement}
+use Rattle.ending.proofs.incomplete.Tie as tie
+
+abbrev Inv-loop : tie.InvT-loop
+Inv-loop memory row count found₀ i₀ found i =
+    (i ≤ count) × (count ≤ 8) × (found ≡ listed 8 (incompleteIn (take i (take count row)) memory))
+
+abbrev μ-loop : tie.MeasureT-loop
+μ-loop memory row count found₀ i₀ found i = count - i
+
+-- the open calls, as they were found
+opened : (c : tie.After-count Inv-loop μ-loop) → take (c .count .result) (c .before .before .before .args .calls .calls) ≡ take (c .before .before .before .args .calls .size) (c .before .before .before .args .calls .calls)
+opened c =
+    let s = c .before .before .before .args .calls in
+    open-again (s .calls) (s .size) (c .count .result) (c .count .ensures .0)
+
+-- how many they are
+long : (c : tie.After-count Inv-loop μ-loop) → length (take (c .count .result) (c .before .before .before .args .calls .calls)) ≡ c .count .result
+long c = ap length (opened c) ∙ sym (c .count .ensures .0)
+
+count-requires : tie.Need-count-requires Inv-loop μ-loop
+count-requires c κs = search needs
+
+fresh-requires : tie.Need-fresh-requires Inv-loop μ-loop
+fresh-requires c κs = search needs
+
+loop-holds : tie.Need-loop-holds Inv-loop μ-loop
+loop-holds c = (omega arith, c .before .count .ensures .1, c .fresh .ensures ∙ incomplete-none 8 (c .before .before .before .before .args .memory .now))
+
+mul-call : tie.Need-mul-call Inv-loop μ-loop
+mul-call c = search needs
+
+array-copy-out-call : tie.Need-array-copy-out-call Inv-loop μ-loop
+array-copy-out-call c = search needs
+
+is-complete-requires : tie.Need-is-complete-requires Inv-loop μ-loop
+is-complete-requires c κs = search needs
+
+added-unless-requires : tie.Need-added-unless-requires Inv-loop μ-loop
+added-unless-requires c κs =
+    let turn = c .before .before in
+    let count = turn .before .before .before in
+    let start = count .before .before .before in
+    let row = take (count .count .result) (start .args .calls .calls) in
+    let found = turn .before .loop .inv in
+    let few = incomplete-few row (start .args .memory .now) (turn .before .loop .i) (omega (arith, long count, found .0)) in
+    omega (arith, few, ap (λ (s : Calls). s .size) (found .2), found .1, turn .loop-test .taken)
+
+add-i : tie.Need-add-i Inv-loop μ-loop
+add-i c = search needs
+
+loop-less : tie.Need-loop-less Inv-loop μ-loop
+loop-less c = search needs
+
+loop-again : tie.Need-loop-again Inv-loop μ-loop
+loop-again c =
+    let turn = c .before .before .before in
+    let count = turn .before .before .before in
+    let start = count .before .before .before in
+    let all = start .args .calls .calls in
+    let row = take (count .count .result) all in
+    let memory = start .args .memory .now in
+    let i = turn .before .loop .i in
+    let so-far = turn .before .loop .inv in
+    let there : getD row i blank ≡ getD all i blank = getD-take (count .count .result) all i blank (turn .loop-test .taken) in
+    let turned = incomplete-turn row memory i 8 (omega (arith, long count, so-far .1)) (omega (arith, long count, turn .loop-test .taken)) in
+    (omega arith, so-far .1, c .added-unless .ensures ∙ rw (c .before .is-complete .ensures, so-far .2, ← there) turned)
+
+returns : tie.Need-returns Inv-loop μ-loop
+returns c =
+    let count = c .before .before .before in
+    let start = count .before .before .before in
+    let row = take (count .count .result) (start .args .calls .calls) in
+    let memory = start .args .memory .now in
+    c .before .loop .inv .2 ∙ ap (listed 8) (incomplete-done row memory (c .before .loop .i) (omega (arith, long count, c .loop-test .left)) ∙ ap (λ (calls : List Call). incompleteIn calls memory) (opened count))
+
+pub incomplete-spec : {M : Type 1} → statement M
+incomplete-spec =
+    tie.close
+    (tie.spec
+    Inv-loop
+    μ-loop
+    count-requires
+    fresh-requires
+    loop-holds
+    mul-call
+    array-copy-out-call
+    is-complete-requires
+    added-unless-requires
+    add-i
+    loop-less
+    loop-again
+    returns)

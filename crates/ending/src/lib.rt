@@ -1,0 +1,85 @@
+// The end of a frame (document 01, "Calls in a frame"; S8.8.2): the calls that were incomplete, and the records with no
+// call open, as they also are at first.
+ghost use mathlib.Core.Path.{_≡_};
+ghost use Prim.Native.Nat.{_<_};
+ghost use Rattle.laws.specs.Choice.{pick};
+ghost use Rattle.calls.specs.Calls.{mostCalls, fresh, opens};
+ghost use Rattle.calls.specs.Steps.{added, listed, incompleteIn};
+ghost use Rattle.calls.specs.Answers.{endOf, endedWith, endedIn, asEnd};
+use calls::BLANK;
+use calls::Call;
+use calls::Calls;
+use calls::FrameEnd;
+use calls::MEMORY;
+use calls::MOST_CALLS;
+use refusal::Refusal;
+
+// The records with no call open.
+pub fn fresh() -> Calls
+    ensures { λ r. ⌜ r ≡ fresh mostCalls ⌝ }
+{
+    let calls = [BLANK; MOST_CALLS];
+    Calls {
+        size: 0,
+        calls: calls,
+    }
+}
+
+// The records with one call more, unless it is complete.
+fn added_unless(calls: Calls, call: Call, complete: bool) -> Calls
+    requires { ⌜ calls .size < mostCalls ⌝ }
+    ensures { λ r. ⌜ r ≡ pick complete calls (added calls call) ⌝ }
+{
+    if complete {
+        return calls;
+    }
+    let mut row = calls.calls;
+    let size = calls.size;
+    row[size] = call;
+    Calls {
+        size: size + 1,
+        calls: row,
+    }
+}
+
+// The open calls that are incomplete, in the order opened.
+fn incomplete(calls: Calls, memory: &[u32]) -> Calls
+    ensures { λ r. ⌜ r ≡ listed mostCalls (incompleteIn (opens calls) (now (memory .entry))) ⌝ }
+{
+    let row = calls.calls;
+    let count = opened::count(calls);
+    let mut found = fresh();
+    let mut i: usize = 0;
+    while i < count {
+        let call = row[i];
+        found = added_unless(found, call, area::is_complete(call, memory));
+        i += 1;
+    }
+    found
+}
+
+// The end of a frame: the calls that were incomplete, and the records with no call open.
+pub fn end_frame(calls: Calls, memory: &[u32]) -> FrameEnd
+    ensures { λ r. ⌜ r ≡ asEnd (endOf calls (now (memory .entry))) (endedWith calls (now (memory .entry))) (endedIn calls (now (memory .entry))) ⌝ }
+{
+    let none = fresh();
+    if !opened::sound(calls) {
+        return FrameEnd {
+            number: Refusal::State.number(),
+            incomplete: none,
+            calls: calls,
+        };
+    }
+    if memory.len() < MEMORY {
+        return FrameEnd {
+            number: Refusal::Room.number(),
+            incomplete: none,
+            calls: calls,
+        };
+    }
+    FrameEnd {
+        number: 0,
+        incomplete: incomplete(calls, memory),
+        calls: none,
+    }
+}

@@ -1,0 +1,49 @@
+-- What is told of a text, and what the lent bytes hold then.
+use Prim.Native.Nat.{ℕ, _≤_, _<_}
+use mathlib.Core.Bool.{Bool, true, false, not}
+use mathlib.Core.List.{List, [], _∷_}
+use mathlib.Core.Path.{_≡_, refl, sym, ap, _∙_}
+use native.Mathlib.Omega.{arith}
+use borrow.Author.Tests.{lt-ltb}
+use lib.Dec.{ltb}
+use lib.ListN.{length, drop}
+use Rattle.laws.specs.Choice.{bitOf}
+use Rattle.laws.specs.Lists.{put}
+use Rattle.laws.proofs.Writing.{put-nothing}
+use Rattle.refusal.specs.declared.Refusal.the-variants.{Room, Size, Damaged, Checksum}
+use Rattle.refusal.specs.Told.{Told, refused, given, ask, numberTold, writtenBy}
+use Rattle.refusal.proofs.Laws.{refusal-keeps, given-writes}
+use Rattle.sums.specs.Words.{undamaged}
+use Rattle.message.specs.Fragments.{isSize, isFirst, cellsOf, withoutFill, textIn, checked}
+use Rattle.message.specs.Answers.{headingTold, headingOf, readOf, readAfter, textOf, textAfter}
+use Rattle.message.proofs.Laws.{Good, heading-told, read-told, text-told, text-accepted}
+
+-- fewer than two words have no text
+no-text : (words : List ℕ) → length words < 2 → textIn words ≡ []
+unfolding cellsOf withoutFill
+no-text [] short = refl
+no-text (head ∷ []) short = by-test (isFirst (head ∷ []))
+  where
+    by-test : (first : Bool) → withoutFill (drop (bitOf first) []) ≡ []
+    by-test true = refl
+    by-test false = refl
+no-text (head ∷ second ∷ words) short = absurd (omega arith)
+
+module _ (words lent : List ℕ) where
+  -- a text that has room is written
+  pub text-given : length (textIn words) ≤ length lent → textAfter words lent ≡ put lent 0 (textIn words)
+  text-given room = given-writes (textOf (length lent) words) lent (textIn words) (text-accepted words (length lent) .1 room)
+
+  -- any other is not
+  pub text-refused : length lent < length (textIn words) → (textOf (length lent) words ≡ refused Room) × (textAfter words lent ≡ lent)
+  unfolding textOf
+  text-refused short =
+      let full = lt-ltb (length lent) (length (textIn words)) short in
+      (rw full, rw full)
+
+  -- fewer than two words have none to write
+  pub text-none : length words < 2 → (textOf (length lent) words ≡ given (0 ∷ [])) × (textAfter words lent ≡ lent)
+  text-none short =
+      let none = no-text words short in
+      let room : length (textIn words) ≤ length lent = omega (arith, ap length none) in
+      (text-told words (length lent) room ∙ ap (λ (text : List ℕ). given (length text ∷ [])) none, text-given room ∙ ap (put lent 0) none ∙ put-nothing lent 0)

@@ -1,0 +1,27 @@
+-- `has_room` meets its contract: three characters a word are never too few, and where there is less room they are counted.
+use Prim.Native.Nat.{ℕ}
+use mathlib.Core.Path.{sym, ap}
+use native.Mathlib.Omega.{arith}
+use borrow.Author.Tests.{le-leb}
+use lib.Dec.{leb}
+use lib.ListN.{length}
+use Rattle.cells.specs.Pieces.{textFrom}
+use Rattle.cells.proofs.Reading.{text-most}
+use borrow.Author.Needs.{needs}
+use Rattle.writing.proofs.has_room.Statement.{statement}
+use Rattle.writing.proofs.has_room.Tie as tie
+
+returns : tie.Need-returns
+returns c =
+    let start = c .before .before in
+    let args = start .args in
+    sym (le-leb (length (textFrom (args .second) (args .words .now))) (args .room) (omega (arith, text-most (args .second) (args .words .now) (start .pre), c .if1 .taken)))
+
+count-requires : tie.Need-count-requires
+count-requires c κs = search needs
+
+returns-2 : tie.Need-returns-2
+returns-2 c = ap (λ (n : ℕ). leb n (c .before .before .before .args .room)) (c .count .ensures)
+
+pub has-room-spec : {M : Type 1} → statement M
+has-room-spec = tie.close (tie.spec returns count-requires returns-2)

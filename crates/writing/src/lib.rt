@@ -1,0 +1,100 @@
+// The text of one fragment written (document 01, "Fragments"; S8.7.8.3, Tables 43, 44 and 45): its characters without
+// signature and fill. What its first word says is told by `fragment`.
+ghost use mathlib.Core.Path.{_≡_};
+ghost use Prim.Native.Nat.{_+_, _≤_, _<_};
+ghost use mathlib.Core.List.{[], _∷_};
+ghost use lib.Dec.{leb};
+ghost use lib.ListN.{length};
+ghost use Rattle.laws.specs.Lists.{put};
+ghost use Rattle.message.specs.Fragments.{cellsIn, withoutFill};
+ghost use Rattle.message.specs.Answers.{textOf, textAfter};
+ghost use Rattle.cells.specs.Pieces.{textFrom};
+ghost use Rattle.writing.specs.Answers.{asText};
+use message::CELL_LIMIT;
+use message::ETX;
+use message::FEWEST_WORDS;
+use refusal::Refusal;
+
+// How many characters were written, or the refusal.
+#[repr(C)]
+pub struct TextRead {
+    pub number: u32,
+    pub characters: usize,
+}
+
+// A cell written behind what was written before, unless it is fill; the place behind it.
+fn write_cell(cell: u32, text: &mut [u8], at: usize) -> usize
+    requires { ⌜ cell < 128 ⌝ }
+    requires { ⌜ at + length (withoutFill (cell ∷ [])) ≤ length (now text) ⌝ }
+    ensures next { λ r. ⌜ r ≡ at + length (withoutFill (cell ∷ [])) ⌝ }
+    ensures buffer { λ r. ⌜ now (text .exit) ≡ put (now (text .entry)) at (withoutFill (cell ∷ [])) ⌝ }
+{
+    if cell == ETX {
+        return at;
+    }
+    text[at] = cell as u8;
+    at + 1
+}
+
+// The text of a word written behind what was written before; the place behind it.
+fn write_word(word: u32, text: &mut [u8], at: usize) -> usize
+    requires { ⌜ at + length (withoutFill (cellsIn word)) ≤ length (now text) ⌝ }
+    ensures next { λ r. ⌜ r ≡ at + length (withoutFill (cellsIn word)) ⌝ }
+    ensures buffer { λ r. ⌜ now (text .exit) ≡ put (now (text .entry)) at (withoutFill (cellsIn word)) ⌝ }
+{
+    let second = write_cell(word % CELL_LIMIT, text, at);
+    let third = write_cell((word >> 7) % CELL_LIMIT, text, second);
+    write_cell((word >> 14) % CELL_LIMIT, text, third)
+}
+
+// The text that a second word begins, where there is room for it; how many characters.
+fn write_words(second: u32, words: &[u32], text: &mut [u8]) -> usize
+    requires { ⌜ length (textFrom second (now words)) ≤ length (now text) ⌝ }
+    ensures count { λ r. ⌜ r ≡ length (textFrom second (now (words .entry))) ⌝ }
+    ensures buffer { λ r. ⌜ now (text .exit) ≡ put (now (text .entry)) 0 (textFrom second (now (words .entry))) ⌝ }
+{
+    let mut at = write_word(second, text, 0);
+    let mut i: usize = 2;
+    while i < words.len() {
+        at = write_word(words[i], text, at);
+        i += 1;
+    }
+    at
+}
+
+// Whether the text that a second word begins has room. Three characters a word are never too few, so that it is
+// counted only where the room is less than that.
+fn has_room(second: u32, words: &[u32], room: usize) -> bool
+    requires { ⌜ 2 ≤ length (now words) ⌝ }
+    ensures { λ r. ⌜ r ≡ leb (length (textFrom second (now (words .entry)))) room ⌝ }
+{
+    if words.len() <= room / 3 {
+        return true;
+    }
+    cells::count(second, words) <= room
+}
+
+// The text in a row of words, whether or not they are a good fragment, which `fragment::heading` tells: how many characters,
+// or the refusal of a buffer that is too short, which is left as it was.
+pub fn write_text(words: &[u32], text: &mut [u8]) -> TextRead
+    ensures told { λ r. ⌜ r ≡ asText (textOf (length (now (text .entry))) (now (words .entry))) ⌝ }
+    ensures buffer { λ r. ⌜ now (text .exit) ≡ textAfter (now (words .entry)) (now (text .entry)) ⌝ }
+{
+    if words.len() < FEWEST_WORDS {
+        return TextRead {
+            number: 0,
+            characters: 0,
+        };
+    }
+    let second = cells::unsigned(cells::is_first(words[0]), words[1]);
+    if !has_room(second, words, text.len()) {
+        return TextRead {
+            number: Refusal::Room.number(),
+            characters: 0,
+        };
+    }
+    TextRead {
+        number: 0,
+        characters: write_words(second, words, text),
+    }
+}
