@@ -1,5 +1,5 @@
 // CAPCODEs (document 01, "CAPCODE text"; S8.6.2): what one says, and the phase and base frame that it assigns (S8.6.5). What
-// its text is and how that is read is said in specs/, with the laws of it in proofs/; the functions are in `reading` and
+// its text is and how that is read is said in specs/, with the laws of it in proofs/; the functions are in `capcode_text` and
 // `label`.
 ghost use mathlib.Core.Path.{_≡_};
 ghost use lib.Dec.{ltb};

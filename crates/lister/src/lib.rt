@@ -163,7 +163,7 @@ fn write_verdict(text: &[u8], out: &mut [u8], place: usize) -> usize
     requires { ⌜ place + 23 ≤ length (now out) ⌝ }
     ensures { λ r. ⌜ Wrote (now (out .entry)) place (verdictOf (now (text .entry))) r (now (out .exit)) ⌝ }
 {
-    match reading::read(text) {
+    match capcode_text::read(text) {
         ReadAnswer::Whole(c, a) => write_accepted(c, a, out, place),
         ReadAnswer::Refused(r) => write_refused(r, out, place),
     }
@@ -339,7 +339,7 @@ fn write_line(text: &[u8], out: &mut [u8], place: usize) -> Line
     requires { ⌜ place + length (now text) + 23 ≤ length (now out) ⌝ }
     ensures { λ r. ⌜ LineWritten (now (out .entry)) place (now (text .entry)) r (now (out .exit)) ⌝ }
 {
-    match reading::read(text) {
+    match capcode_text::read(text) {
         ReadAnswer::Whole(c, a) => {
             let behind = copy(text, out, place);
             Line::Written(write_accepted(c, a, out, behind))
