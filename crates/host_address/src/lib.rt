@@ -115,7 +115,7 @@ fn address_told(answer: Addressed) -> MortisevaneFound
 pub extern "C" fn mortisevane_word_address(word: u32) -> MortisevaneFound
     ensures { λ r. ⌜ r ≡ addressFrom (addressOf (word ∷ [])) ⌝ }
 {
-    address_told(address::word_address(word))
+    address_told(addressed::word_address(word))
 }
 
 // The address that two words belong to.
@@ -126,5 +126,5 @@ pub extern "C" fn mortisevane_word_address(word: u32) -> MortisevaneFound
 pub extern "C" fn mortisevane_pair_address(first: u32, second: u32) -> MortisevaneFound
     ensures { λ r. ⌜ r ≡ addressFrom (addressOf (first ∷ second ∷ [])) ⌝ }
 {
-    address_told(address::pair_address(first, second))
+    address_told(addressed::pair_address(first, second))
 }

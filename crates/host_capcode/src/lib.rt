@@ -73,7 +73,7 @@ fn capcode_told(answer: ReadAnswer) -> MortisevaneCapcode
 pub extern "C" fn mortisevane_capcode_read(text: &[u8]) -> MortisevaneCapcode
     ensures { λ r. ⌜ r ≡ capcodeFrom (readOf (now (text .entry))) ⌝ }
 {
-    capcode_told(capcode::read(text))
+    capcode_told(capcode_text::read(text))
 }
 
 fn assignment_told(answer: AssignAnswer) -> MortisevaneAssignment

@@ -1,5 +1,5 @@
 // The listing of CAPCODE lines (document 01, "The listing program"), by portions of any size: bytes of
-// lines in, bytes of the listing out.
+// lines in, bytes of the listing out. Its end is in `closing`.
 ghost use mathlib.Core.Path.{_≡_};
 ghost use mathlib.Core.Bool.{true, not, _&&_};
 ghost use mathlib.Core.List.{[], _∷_, _++_};
@@ -10,15 +10,14 @@ ghost use Rattle.refusal.specs.Told.{refused};
 ghost use Rattle.capcode.specs.Text.{digits};
 ghost use Rattle.capcode.specs.Reads.{toldRead};
 ghost use Rattle.opening.specs.Stands.{stand, standOf};
-ghost use Rattle.opening.specs.Texts.{Answered, Wrote};
+ghost use Rattle.opening.specs.Texts.{Wrote};
 ghost use Rattle.lister.specs.Lines.{lineFeed, hexDigit, shownByte, sixDigits, phaseShown, verdictBy, verdictOf};
-ghost use Rattle.lister.specs.Portions.{standAt, kept, heldBytes, heldShown, writes, next, closes, mostWritten, takenOf, asItIs, FedByte, Ahead, LineWritten, FedOn, FedAll};
+ghost use Rattle.lister.specs.Portions.{standAt, kept, heldBytes, heldShown, writes, next, mostWritten, takenOf, asItIs, FedByte, Ahead, LineWritten, FedOn, FedAll};
 use address::Worded;
 use capcode::Assignment;
 use capcode::Capcode;
 use capcode::ReadAnswer;
 use opening::Lister;
-use opening::Written;
 use refusal::Refusal;
 
 // What was done with a portion: where the listing stands, how many bytes were taken and how many written.
@@ -164,7 +163,7 @@ fn write_verdict(text: &[u8], out: &mut [u8], place: usize) -> usize
     requires { ⌜ place + 23 ≤ length (now out) ⌝ }
     ensures { λ r. ⌜ Wrote (now (out .entry)) place (verdictOf (now (text .entry))) r (now (out .exit)) ⌝ }
 {
-    match capcode::read(text) {
+    match capcode_text::read(text) {
         ReadAnswer::Whole(c, a) => write_accepted(c, a, out, place),
         ReadAnswer::Refused(r) => write_refused(r, out, place),
     }
@@ -340,7 +339,7 @@ fn write_line(text: &[u8], out: &mut [u8], place: usize) -> Line
     requires { ⌜ place + length (now text) + 23 ≤ length (now out) ⌝ }
     ensures { λ r. ⌜ LineWritten (now (out .entry)) place (now (text .entry)) r (now (out .exit)) ⌝ }
 {
-    match capcode::read(text) {
+    match capcode_text::read(text) {
         ReadAnswer::Whole(c, a) => {
             let behind = copy(text, out, place);
             Line::Written(write_accepted(c, a, out, behind))
@@ -400,36 +399,4 @@ pub fn feed(lister: Lister, input: &[u8], out: &mut [u8]) -> Fed
         taken: course.taken,
         written: course.written,
     }
-}
-
-// How many bytes the carriage return that was held back takes.
-fn held_length(held: bool) -> usize
-    ensures { λ r. ⌜ r ≡ length (heldShown held) ⌝ }
-{
-    if held { 4 } else { 0 }
-}
-
-// Writes the end of a last line that no line feed ends.
-fn write_last(line: &[u8], count: usize, held: bool, out: &mut [u8]) -> Written
-    ensures { λ r. ⌜ Answered (now (out .entry)) (heldShown held ++ verdictOf (take count (now (line .entry)))) r (now (out .exit)) ⌝ }
-{
-    let mut end = [0; 23];
-    let length = write_end(line, count, &mut end, 0);
-    if out.len() < held_length(held) + length {
-        return Written::Refused(Refusal::Room);
-    }
-    let place = show_held(held, out, 0);
-    Written::Length(copy(&end[..length], out, place))
-}
-
-// Writes what stands behind the last byte: the end of the last line, if that has a byte and no line feed.
-pub fn close(lister: Lister, out: &mut [u8]) -> Written
-    ensures { λ r. ⌜ Answered (now (out .entry)) (closes (standOf lister)) r (now (out .exit)) ⌝ }
-{
-    let mut line = lister.line;
-    let count = keep_held(&mut line, lister.count, lister.held);
-    if count == 0 {
-        return Written::Length(0);
-    }
-    write_last(&line, count, lister.held, out)
 }

@@ -141,7 +141,7 @@ fn write_title() -> bool {
 // Writes the end of the last line.
 fn write_close(lister: Lister) -> bool {
     let mut out = io::buffer();
-    let answer = lister::close(lister, &mut out);
+    let answer = closing::close(lister, &mut out);
     write_put(answer, &out)
 }
 

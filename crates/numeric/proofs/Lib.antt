@@ -3,7 +3,3 @@ pub mod Codes
 pub mod Examples
 pub mod Heads
 pub mod Laws
-pub mod Readable
-pub mod Reading
-pub mod Writable
-pub mod Writing

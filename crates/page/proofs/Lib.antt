@@ -1,0 +1,2 @@
+mod Readable
+mod Reading

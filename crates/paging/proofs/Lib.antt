@@ -1,0 +1,2 @@
+mod Writable
+mod Writing
