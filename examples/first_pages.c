@@ -1,9 +1,11 @@
 /*
- * The first pages of a pager, for a C programmer who links libmortisevane.a: from the reset of the decoder to a text on
- * the display. Read it from the end: main says what happens, and each function above it is one step.
+ * The first pages of a pager, for a C programmer who links libmortisevane.a: from the reset of the decoder to a text
+ * on the display. Read it from the end: main says what happens, and each function above it is one step.
  *
- * No decoder is needed: what it would send is built here too. docs/start-up.md explains the set-up packet by packet, and
- * pager.c is the same host for every packet that may come.
+ *   cc -std=c11 -I include examples/first_pages.c target/staticlib/libmortisevane.a -o first_pages
+ *
+ * No decoder is needed: what it would send is built here too. docs/start-up.md explains the set-up packet by packet,
+ * and pager.c is the same host for every packet that may come.
  */
 #include "mortisevane.h"
 
@@ -190,9 +192,10 @@ static void hear_end_of_frame(void)
 }
 
 /*
- * What the decoder sends for a page in a frame: an address, a vector and the words. The library builds no packets of the
- * decoder's, so their bits are put together here by the tables in docs/datasheet.md. The address packet (Table 30) is
- * that of address 0 on phase A, its vector at word 2; the vector (Tables 31 and 36) says that the words begin at word 3.
+ * What the decoder sends for a page in a frame: an address, a vector and the words. The library builds no packets of
+ * the decoder's, so their bits are put together here by the tables in docs/datasheet.md. The address packet (Table 30)
+ * is that of address 0 on phase A, its vector at word 2; the vector (Tables 31 and 36) says that the words begin at
+ * word 3.
  */
 static void hear_page(uint32_t kind, uint32_t check_and_count, const uint32_t *words, size_t count)
 {
