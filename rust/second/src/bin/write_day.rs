@@ -132,7 +132,9 @@ impl Day {
     }
 
     fn reset(&mut self) {
-        self.part("The set-up, as in docs/start-up.md");
+        self.part(
+            "The set-up, as in docs/start-up.md; ranges without a frame are clear since the reset",
+        );
         let part_id = part_id();
         println!("reset {part_id:08X} the PCD5008: model 0, compatibility 1, revision 6");
         self.mirror = mirror::reset(part_id).expect("a part ID");
