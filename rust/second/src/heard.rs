@@ -8,8 +8,8 @@ use crate::numbers::numbers;
 use crate::refusal::Refusal;
 
 /// The packet IDs (Table 3). Vectors and messages have their word number as ID.
-const ADDRESS: u32 = 0x01;
-const STATUS: u32 = 0x7F;
+pub const ADDRESS: u32 = 0x01;
+pub const STATUS: u32 = 0x7F;
 pub(crate) const WORD_NUMBER: u32 = 0x00;
 
 /// The last word of a frame (S8.7.3).

@@ -7,6 +7,7 @@ pub mod address;
 pub mod call;
 pub mod capcode;
 pub mod chain;
+pub mod day;
 pub mod fragment;
 pub mod frames;
 pub mod heard;

@@ -86,9 +86,9 @@ fn append_refused(text: &[u8], refusal: Refusal, listed: &mut Vec<u8>) {
     listed.push(b'\n');
 }
 
-/// A refused text may hold anything: what a terminal could act on is escaped,
+/// A text may hold anything: what a terminal could act on is escaped,
 /// and so is the backslash, so that nothing is hidden.
-fn append_shown(byte: u8, listed: &mut Vec<u8>) {
+pub(crate) fn append_shown(byte: u8, listed: &mut Vec<u8>) {
     match byte {
         b'\\' => listed.extend_from_slice(b"\\\\"),
         0x20..=0x7E => listed.push(byte),

@@ -83,6 +83,7 @@ pub const SHORT_INSTRUCTION: u32 = 1;
 pub const SHORT_MESSAGE: u32 = 2;
 pub const STANDARD_NUMERIC: u32 = 3;
 pub const SPECIAL_NUMERIC: u32 = 4;
+pub const ALPHANUMERIC: u32 = 5;
 pub const NUMBERED_NUMERIC: u32 = 7;
 
 /// Table 31: K and n of a numeric vector; Table 36: n of the others; b in both.

@@ -1,0 +1,227 @@
+#include "pager.h"
+
+#include <stdio.h>
+
+enum {
+    ID_PLACE = 24,
+    FIRST_PRINTABLE = 0x20,
+    LAST_PRINTABLE = 0x7E
+};
+
+/* A packet is any 32 bits, and is shown by all of its digits. */
+static void print_packet(const char *before, uint32_t packet)
+{
+    printf("%s%08lX\n", before, (unsigned long)packet);
+}
+
+static void print_refused(uint32_t number, uint32_t packet)
+{
+    printf("refused %lu", (unsigned long)number);
+    print_packet(": ", packet);
+}
+
+static void print_address(uint32_t address)
+{
+    printf("address %lu", (unsigned long)address);
+}
+
+/* A text through the air may hold any character: nothing is hidden, and a terminal is safe. */
+static void print_text(const uint8_t *text, size_t length)
+{
+    putchar('[');
+    for (size_t place = 0; place < length; place += 1) {
+        unsigned character = text[place];
+        if (character == '\\')
+            printf("\\\\");
+        else if (character >= FIRST_PRINTABLE && character <= LAST_PRINTABLE)
+            putchar((int)character);
+        else
+            printf("\\x%02X", character);
+    }
+    putchar(']');
+}
+
+/*
+ * After a refusal too the decoder has been reset, and nothing of before holds. The answer's mirror is then that of
+ * zeros.
+ */
+void pager_reset(struct pager *pager, uint32_t part_id)
+{
+    struct mortisevane_mirrored answer = mortisevane_mirror_reset(part_id);
+
+    pager->mirror = answer.mirror;
+    pager->calls = mortisevane_calls_fresh();
+    pager->chains = mortisevane_chains_fresh();
+    if (answer.number == 0)
+        print_packet("reset: part ID ", part_id);
+    else
+        print_refused(answer.number, part_id);
+}
+
+bool pager_sent(struct pager *pager, uint32_t packet)
+{
+    bool was_talking = pager->mirror.talking != 0;
+    uint32_t refused = mortisevane_may_send(packet);
+    struct mortisevane_mirrored answer;
+
+    if (refused != 0) {
+        printf("not sent, %lu", (unsigned long)refused);
+        print_packet(": ", packet);
+        return false;
+    }
+    answer = mortisevane_mirror_step(pager->mirror, packet);
+    if (answer.number != 0) {
+        print_refused(answer.number, packet);
+        return false;
+    }
+    pager->mirror = answer.mirror;
+    if (!was_talking && answer.mirror.talking != 0)
+        puts("talking");
+    if (was_talking && answer.mirror.talking == 0)
+        puts("silent");
+    return true;
+}
+
+static void hear_address(struct pager *pager, uint32_t packet)
+{
+    struct mortisevane_call_opening opening = mortisevane_call_open(pager->calls, packet);
+
+    pager->calls = opening.calls;
+    if (opening.answer.number != 0) {
+        print_refused(opening.answer.number, packet);
+    } else if (opening.answer.opened == 0) {
+        print_address(opening.answer.fields.address);
+        puts(": tone");
+    }
+}
+
+/* A status says many things, which this pager leaves; of calls it says that their frame has ended. */
+static void hear_status(struct pager *pager, uint32_t packet)
+{
+    struct mortisevane_status_read status = mortisevane_read_status(packet);
+    struct mortisevane_frame_end end;
+
+    if (status.fields.end_of_frame == 0)
+        return;
+    end = mortisevane_call_end(pager->calls, pager->words, MORTISEVANE_CALL_WORDS);
+    pager->calls = end.calls;
+    if (end.number != 0)
+        print_refused(end.number, packet);
+    for (size_t place = 0; place < end.incomplete.size; place += 1) {
+        const struct mortisevane_call *call = &end.incomplete.calls[place];
+        printf("incomplete: ");
+        print_address(call->address);
+        if (call->has_vector != 0)
+            printf(", %lu words\n", (unsigned long)call->words);
+        else
+            puts(", no vector");
+    }
+}
+
+static void page_numeric(const struct mortisevane_call *call, const uint32_t *words)
+{
+    uint8_t text[MORTISEVANE_PAGE_CHARACTERS];
+    struct mortisevane_page_read page = mortisevane_numeric_read(call->kind, call->check,
+            words, call->words, text, sizeof text);
+
+    print_address(call->address);
+    if (page.number != 0) {
+        printf(": numeric page refused %lu\n", (unsigned long)page.number);
+        return;
+    }
+    printf(": numeric ");
+    print_text(text, page.characters);
+    putchar('\n');
+}
+
+/* A text that is handed out lies in the lent texts, and is to be read before the next fragment. */
+static void join_fragment(struct pager *pager, const struct mortisevane_call *call, const uint32_t *words)
+{
+    struct mortisevane_chain_step step = mortisevane_chain_step(pager->chains,
+            pager->texts, MORTISEVANE_CHAIN_BYTES, call->address, words, call->words);
+    struct mortisevane_fragment_read heading = mortisevane_fragment_heading(words, call->words);
+
+    pager->chains = step.chains;
+    print_address(call->address);
+    if (step.answer.number != 0) {
+        printf(": fragment refused %lu", (unsigned long)step.answer.number);
+    } else {
+        printf(", message %lu: ", (unsigned long)heading.message_number);
+        if (step.answer.complete != 0)
+            print_text(pager->texts + step.answer.place, step.answer.characters);
+        else
+            printf("fragment taken");
+    }
+    if (step.answer.lost != 0)
+        printf(", an open chain is lost");
+    putchar('\n');
+}
+
+static void page(struct pager *pager, const struct mortisevane_call *call)
+{
+    const uint32_t *words = pager->words + mortisevane_call_place(*call);
+
+    switch (call->kind) {
+    case MORTISEVANE_VECTOR_STANDARD:
+    case MORTISEVANE_VECTOR_SPECIAL:
+    case MORTISEVANE_VECTOR_NUMBERED:
+        page_numeric(call, words);
+        break;
+    case MORTISEVANE_VECTOR_ALPHANUMERIC:
+        join_fragment(pager, call, words);
+        break;
+    default:
+        print_address(call->address);
+        printf(": vector type %lu, not read\n", (unsigned long)call->kind);
+    }
+}
+
+/* A word may complete several calls, those of a group page; the one opened first is paged first. */
+static void hear_word(struct pager *pager, uint32_t packet)
+{
+    struct mortisevane_call_hearing hearing = mortisevane_call_hear(pager->calls,
+            pager->words, MORTISEVANE_CALL_WORDS, packet);
+
+    pager->calls = hearing.calls;
+    if (hearing.answer.number != 0)
+        print_refused(hearing.answer.number, packet);
+    for (size_t place = 0; place < MORTISEVANE_CALLS; place += 1) {
+        if ((hearing.answer.completed >> place & 1) != 0)
+            page(pager, &hearing.calls.calls[place]);
+    }
+}
+
+/*
+ * A decoder that is not talking tells its part ID over and over and nothing else: whatever seems to come from it is not
+ * believed.
+ */
+void pager_heard(struct pager *pager, uint32_t packet)
+{
+    uint32_t id = packet >> ID_PLACE;
+
+    if (pager->mirror.talking == 0) {
+        if (id != MORTISEVANE_PACKET_PART_ID)
+            print_packet("left aside, the decoder is not talking: ", packet);
+    } else if (id == MORTISEVANE_PACKET_ADDRESS) {
+        hear_address(pager, packet);
+    } else if (id == MORTISEVANE_PACKET_STATUS) {
+        hear_status(pager, packet);
+    } else if (id >= MORTISEVANE_PACKET_FIRST_VECTOR && id <= MORTISEVANE_PACKET_LAST_WORD) {
+        hear_word(pager, packet);
+    } else {
+        print_refused(MORTISEVANE_REFUSED_PACKET, packet);
+    }
+}
+
+void pager_end(const struct pager *pager)
+{
+    for (size_t slot = 0; slot < MORTISEVANE_SLOTS; slot += 1) {
+        const struct mortisevane_chain *chain = &pager->chains.slots[slot];
+        if (chain->is_open == 0)
+            continue;
+        printf("open: ");
+        print_address(chain->address);
+        printf(", message %lu, awaits %lu\n", (unsigned long)chain->message_number,
+                (unsigned long)chain->next_fragment);
+    }
+}
