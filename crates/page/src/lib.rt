@@ -8,35 +8,14 @@ ghost use Rattle.laws.specs.Layouts.{size, fieldsOf};
 ghost use Rattle.laws.specs.Lists.{put};
 ghost use Rattle.laws.specs.Numerals.{number};
 ghost use Rattle.refusal.specs.Told.{numberTold};
-ghost use Rattle.vector.specs.Reads.{isNumeric};
 ghost use Rattle.sums.specs.Words.{undamaged};
 ghost use Rattle.numeric.specs.Pages.{standardSet, headOf, roomOf, textIn, vectorFits, isSize, checked};
 ghost use Rattle.numeric.specs.Answers.{asNumbering, readOf, textAfter, asRead};
-use numeric::HEAD_SIZE;
 use numeric::MOST_WORDS;
-use numeric::NUMBERED_HEAD_SIZE;
 use numeric::Numbering;
 use numeric::PageRead;
 use refusal::Refusal;
 use vector::Vector;
-
-// Whether a vector's type is that of a numeric page (Table 32).
-fn is_numeric(kind: u32) -> bool
-    ensures { λ r. ⌜ r ≡ isNumeric kind ⌝ }
-{
-    (kind == Vector::STANDARD) | (kind == Vector::SPECIAL) | (kind == Vector::NUMBERED)
-}
-
-// How many bits stand before the first character (Tables 41 and 42).
-fn head_size(numbered: bool) -> usize
-    ensures { λ r. ⌜ r ≡ size (headOf numbered) ⌝ }
-{
-    if numbered {
-        NUMBERED_HEAD_SIZE
-    } else {
-        HEAD_SIZE
-    }
-}
 
 // How many characters a page of so many words has room for.
 fn room_of(numbered: bool, words: usize) -> usize
@@ -44,7 +23,7 @@ fn room_of(numbered: bool, words: usize) -> usize
     requires { ⌜ words ≤ 8 ⌝ }
     ensures { λ r. ⌜ r ≡ roomOf numbered words ⌝ }
 {
-    (21 * words - head_size(numbered)) / 4
+    (21 * words - numeric::head_size(numbered)) / 4
 }
 
 // The character of a code.
@@ -67,7 +46,7 @@ fn character_of(code: u32) -> u8
 fn vector_fits(kind: u32, check: u32) -> bool
     ensures { λ r. ⌜ r ≡ vectorFits kind check ⌝ }
 {
-    is_numeric(kind) & (check < 16)
+    numeric::is_numeric(kind) & (check < 16)
 }
 
 // 01's table, 9: whether a page has so many words.
@@ -135,7 +114,7 @@ fn write_characters(words: &[u32], numbered: bool, room: usize, text: &mut [u8])
     ensures { λ r. ⌜ now (text .exit) ≡ put (now (text .entry)) 0 (textIn standardSet numbered (now (words .entry))) ⌝ }
 {
     let mut at: usize = 0;
-    let mut place = head_size(numbered);
+    let mut place = numeric::head_size(numbered);
     let mut i: usize = 0;
     while i < room {
         text[i] = character_of(code_in(words, at, place));

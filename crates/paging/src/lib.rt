@@ -9,36 +9,15 @@ ghost use Rattle.laws.specs.Layouts.{size, fit, packed};
 ghost use Rattle.laws.specs.Lists.{put, placeIn};
 ghost use Rattle.laws.specs.Numerals.{digits};
 ghost use Rattle.refusal.specs.Told.{numberTold};
-ghost use Rattle.vector.specs.Reads.{isNumeric};
 ghost use Rattle.numeric.specs.Pages.{standardSet, headOf, roomOf, wordsFor, spaced, codesOf, inSet, headed};
 ghost use Rattle.numeric.specs.Answers.{flagsOf, writtenOf, wordsAfter, asWritten};
 ghost use Rattle.paging.specs.Pieces.{threeFrom};
-use numeric::HEAD_SIZE;
 use numeric::MOST_WORDS;
-use numeric::NUMBERED_HEAD_SIZE;
 use numeric::Numbering;
 use numeric::Written;
 use refusal::Refusal;
 use sums::WORD_LIMIT;
 use vector::Vector;
-
-// Whether a vector's type is that of a numeric page (Table 32).
-fn is_numeric(kind: u32) -> bool
-    ensures { λ r. ⌜ r ≡ isNumeric kind ⌝ }
-{
-    (kind == Vector::STANDARD) | (kind == Vector::SPECIAL) | (kind == Vector::NUMBERED)
-}
-
-// How many bits stand before the first character (Tables 41 and 42).
-fn head_size(numbered: bool) -> usize
-    ensures { λ r. ⌜ r ≡ size (headOf numbered) ⌝ }
-{
-    if numbered {
-        NUMBERED_HEAD_SIZE
-    } else {
-        HEAD_SIZE
-    }
-}
 
 // How many characters a page of so many words has room for.
 fn room_of(numbered: bool, words: usize) -> usize
@@ -46,7 +25,7 @@ fn room_of(numbered: bool, words: usize) -> usize
     requires { ⌜ words ≤ 8 ⌝ }
     ensures { λ r. ⌜ r ≡ roomOf numbered words ⌝ }
 {
-    (21 * words - head_size(numbered)) / 4
+    (21 * words - numeric::head_size(numbered)) / 4
 }
 
 // The code of a character of the set (Table 39), 16 where it is in none.
@@ -93,7 +72,7 @@ fn fits_head(numbered: bool, n: Numbering) -> bool
 fn headed(kind: u32, numbering: Numbering) -> bool
     ensures { λ r. ⌜ r ≡ headed kind (flagsOf numbering) ⌝ }
 {
-    is_numeric(kind) & fits_head(kind == Vector::NUMBERED, numbering)
+    numeric::is_numeric(kind) & fits_head(kind == Vector::NUMBERED, numbering)
 }
 
 // How many words so many characters need.
@@ -101,7 +80,7 @@ fn words_for(numbered: bool, characters: usize) -> usize
     requires { ⌜ characters ≤ 41 ⌝ }
     ensures { λ r. ⌜ r ≡ wordsFor numbered characters ⌝ }
 {
-    (head_size(numbered) + 4 * characters + 20) / 21
+    (numeric::head_size(numbered) + 4 * characters + 20) / 21
 }
 
 // The first refusal of a page to write, or 0.
@@ -174,7 +153,7 @@ fn first_word(text: &[u8], numbered: bool, head: u32, room: usize) -> u32
     requires { ⌜ head < 2 ^ size (headOf numbered) ⌝ }
     ensures { λ r. ⌜ r ≡ (head + 2 ^ size (headOf numbered) * codesOf standardSet (spaced room (now (text .entry)))) % 2 ^ 21 ⌝ }
 {
-    head + (six_codes(text, 0, room) << head_size(numbered)) % WORD_LIMIT
+    head + (six_codes(text, 0, room) << numeric::head_size(numbered)) % WORD_LIMIT
 }
 
 // A later word: 21 of the characters' bits from a bit on.
@@ -199,7 +178,7 @@ fn write_words(text: &[u8], numbered: bool, head: u32, count: usize, words: &mut
 {
     let room = room_of(numbered, count);
     words[0] = first_word(text, numbered, head, room);
-    let mut start = 21 - head_size(numbered);
+    let mut start = 21 - numeric::head_size(numbered);
     let mut i: usize = 1;
     while i < count {
         words[i] = later_word(text, start, room);
