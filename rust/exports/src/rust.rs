@@ -63,27 +63,25 @@ fn number(prefix: &str, known: &Constant, comment: &str) -> String {
 /// The first sentence of a heading, and which of the constants below it this is.
 fn under(heading: &str, prefix: &str, known: &Constant) -> String {
     let sentence = heading.split(". ").next().unwrap_or(heading).trim_end_matches('.');
-    let name = constant("", &known.name).replace("MORTISEVANE__", "").replace('_', " ").to_ascii_lowercase();
+    let name = constant(prefix, &known.name).replace(&format!("MORTISEVANE_{prefix}_"), "");
     let id = if prefix == "PACKET" { format!(", {:02X}H", known.value) } else { String::new() };
-    format!("/// {sentence}: {name}{id}.\n")
+    format!("/// {sentence}: {}{id}.\n", name.replace('_', " ").to_ascii_lowercase())
 }
 
-/// A comment with constants behind it that have none is the heading of them all.
+/// A comment is its constant's own, unless there are constants behind it that have none: then it is the heading of them
+/// all.
 fn group(known: &Group) -> String {
     let mut heading = known.about.to_string();
     let mut written = format!("\n// {heading}\n");
     for (place, one) in known.constants.iter().enumerate() {
-        let next = known.constants.get(place + 1);
-        let own = if one.comment.is_empty() || next.is_some_and(|next| next.comment.is_empty()) {
-            if !one.comment.is_empty() {
-                heading = one.comment.join(" ");
-                written.push_str(&format!("// {heading}\n"));
-            }
-            under(&heading, known.prefix, one)
-        } else {
-            comment(&one.comment, "")
-        };
-        written.push_str(&number(known.prefix, one, &own));
+        let stands_alone = known.constants.get(place + 1).is_none_or(|next| !next.comment.is_empty());
+        if !one.comment.is_empty() && !stands_alone {
+            heading = one.comment.join(" ");
+            written.push_str(&format!("// {heading}\n"));
+        }
+        let own = !one.comment.is_empty() && stands_alone;
+        let told = if own { comment(&one.comment, "") } else { under(&heading, known.prefix, one) };
+        written.push_str(&number(known.prefix, one, &told));
     }
     written
 }

@@ -128,8 +128,8 @@ impl Calls {
     ///
     /// Refuses [`Refusal::State`], [`Refusal::Packet`], [`Refusal::Damaged`], and then of a vector [`Refusal::Size`] (its
     /// span) and [`Refusal::OutOfTurn`], of a word [`Refusal::OutOfTurn`], or [`Refusal::NoCall`], and last
-    /// [`Refusal::Room`]. The memory is then as it was, and so are the calls, but for [`Refusal::Size`], by which the call of
-    /// the vector is closed.
+    /// [`Refusal::Room`]. The memory is then as it was, and so are the calls, but for [`Refusal::Size`], by which the call
+    /// of the vector is closed.
     pub fn hear<'a>(&'a mut self, memory: &'a mut [u32], packet: u32) -> Result<Heard<'a>, Refusal> {
         let calls = *self;
         let hearing = ask!(mortisevane_call_hear(calls, lent mut memory, packet));

@@ -19,13 +19,12 @@
 //! }
 //! assert_eq!(handed_out.as_deref(), Some(&b"Bay 12, shelf 4."[..]));
 //!
-//! // The last fragment again has no chain to go on with, and the third behind the first is out of turn.
-//! let [first, second, third] = fragments.collect::<Vec<_>>().try_into().unwrap();
+//! // The last fragment again has no chain to go on with; right behind the first one it is out of turn.
+//! let [first, _, third] = fragments.collect::<Vec<_>>().try_into().unwrap();
 //! assert_eq!(chains.fragment(&mut buffer, 4, third).unwrap_err().refusal, Refusal::NoChain);
 //! assert!(chains.fragment(&mut buffer, 4, first).unwrap().begun.is_some());
 //! let refused = chains.fragment(&mut buffer, 4, third).unwrap_err();
 //! assert_eq!((refused.refusal, refused.lost), (Refusal::OutOfTurn, true));
-//! # let _ = second;
 //! ```
 
 use core::error::Error;
@@ -99,6 +98,28 @@ impl Chains {
     /// [`Refusal::Checksum`], [`Refusal::NoChain`], [`Refusal::OutOfTurn`], [`Refusal::TooLong`],
     /// [`Refusal::Signature`], [`Refusal::Full`], the first that applies; the buffer is then as it was, and the chains too
     /// unless [`Refused::lost`] says otherwise.
+    ///
+    /// The text is a part of the buffer, so that it cannot be read any more once the next fragment has come:
+    ///
+    /// ```compile_fail,E0499
+    /// # use mortisevane::chains::{Chains, CHAIN_BYTES};
+    /// # let (mut chains, mut buffer) = (Chains::default(), [0; CHAIN_BYTES]);
+    /// # let (page, next) = ([0x00B966, 0x0D1830, 0x00DBB1], [0; 2]);
+    /// let text = chains.fragment(&mut buffer, 4, &page).unwrap().text;
+    /// chains.fragment(&mut buffer, 4, &next).unwrap_err();
+    /// assert_eq!(text, Some(&b"0417"[..]));
+    /// ```
+    ///
+    /// Read before, it is:
+    ///
+    /// ```
+    /// # use mortisevane::chains::{Chains, CHAIN_BYTES};
+    /// # let (mut chains, mut buffer) = (Chains::default(), [0; CHAIN_BYTES]);
+    /// # let (page, next) = ([0x00B966, 0x0D1830, 0x00DBB1], [0; 2]);
+    /// let text = chains.fragment(&mut buffer, 4, &page).unwrap().text;
+    /// assert_eq!(text, Some(&b"0417"[..]));
+    /// chains.fragment(&mut buffer, 4, &next).unwrap_err();
+    /// ```
     pub fn fragment<'a>(&mut self, buffer: &'a mut [u8], address: u32, words: &[u32]) -> Result<Taken<'a>, Refused> {
         let chains = *self;
         let step = ask!(mortisevane_chain_step(chains, lent mut buffer, address, lent words));

@@ -94,9 +94,12 @@ read! {
     AddressEnable mortisevane_read_address_enable "another packet, or a bit set that its table prints as 0"
     PartId mortisevane_read_part_id "another packet"
     Status mortisevane_read_status "another packet"
-    Address mortisevane_read_address "another packet, or a vector's word number over 87. Then [`Refusal::Address`]: an index of no address"
-    Vector mortisevane_read_vector "another packet. Whether an ID of 02H to 57H is a vector only the [calls](crate::calls) tell"
-    Message mortisevane_read_message "another packet. Whether an ID of 03H to 57H is a message word only the [calls](crate::calls) tell"
+    Address mortisevane_read_address "another packet, or a vector's word number over 87. \
+        Then [`Refusal::Address`]: an index of no address"
+    Vector mortisevane_read_vector "another packet. \
+        Whether an ID of 02H to 57H is a vector only the [calls](crate::calls) tell"
+    Message mortisevane_read_message "another packet. \
+        Whether an ID of 03H to 57H is a message word only the [calls](crate::calls) tell"
 }
 
 /// What a vector brings, by its type.

@@ -86,6 +86,10 @@ fn a_value_is_the_text_that_it_says() {
     assert_eq!((capcode.letter(), capcode.frame(), capcode.collapse(), capcode.address()), (b'W', 64, 1, 2101249));
     assert_eq!((capcode.phase(), capcode.base_frame()), (Phase::C, 64));
     assert_eq!(format!("{capcode:>16}"), " 0641W0002101249");
+    // The standard rules of Table 25: 1234 div 16 is 77.
+    let capcode = Capcode::new(b'E', 0, 4, 1234).unwrap();
+    assert_eq!(Ok(capcode), "E0001234".parse());
+    assert_eq!((capcode.phase(), capcode.base_frame()), (Phase::Any, 77));
 }
 
 #[test]

@@ -66,11 +66,14 @@ fn three_fragments_are_a_text() {
 #[test]
 fn texts_of_two_keys_do_not_touch() {
     let [first, second] = five_letters();
+    // 56H + 57H + 58H + 59H + 5AH is 440, 56 modulo 128, and its complement 71, the code of G.
+    let [other_first, other_second] = [words_of(1, 3, 9, b"GVW"), words_of(0, 0, 9, b"XYZ")];
     let mut receiver = Receiver::new();
     receiver.take(&first).unwrap();
-    receiver.chains.fragment(&mut receiver.buffer, 0, &first).unwrap();
+    receiver.chains.fragment(&mut receiver.buffer, 0, &other_first).unwrap();
+    let other = receiver.chains.fragment(&mut receiver.buffer, 0, &other_second).unwrap();
+    assert_eq!(other.text, Some(&b"VWXYZ"[..]));
     assert_eq!(receiver.take(&second).unwrap().text, Some(&b"ABCDE"[..]));
-    assert_eq!(receiver.chains.fragment(&mut receiver.buffer, 0, &second).unwrap().text, Some(&b"ABCDE"[..]));
 }
 
 #[test]

@@ -3,8 +3,8 @@
 use std::fmt::Debug;
 
 use mortisevane::packet::{
-    self, Address, AddressEnable, AllFrameMode, Brings, Checksum, Configuration, Control, FrameAssignment, Instruction, Message,
-    PartId, ReceiverLines, ShortMessage, ShutDown, Span, Status, UserAddress, Vector, INSTRUCTION_TEMPORARY,
+    self, Address, AddressEnable, AllFrameMode, Brings, Checksum, Configuration, Control, FrameAssignment, Instruction,
+    Message, PartId, ReceiverLines, ShortMessage, ShutDown, Span, Status, UserAddress, Vector, INSTRUCTION_TEMPORARY,
     SHORT_MESSAGE_CHARACTERS, VECTOR_ALPHANUMERIC, VECTOR_INSTRUCTION, VECTOR_SHORT, VECTOR_STANDARD,
 };
 use mortisevane::Refusal;
@@ -174,7 +174,8 @@ fn tables_31_and_36_vectors_with_words() {
 #[test]
 fn tables_33_and_37_vectors_without_words() {
     let short = Vector::read(0x0802_0C84).unwrap();
-    let characters = ShortMessage { kind: SHORT_MESSAGE_CHARACTERS, first: 1, second: 2, third: 3, ..ShortMessage::default() };
+    let kind = SHORT_MESSAGE_CHARACTERS;
+    let characters = ShortMessage { kind, first: 1, second: 2, third: 3, ..ShortMessage::default() };
     assert_eq!((short.kind, short.brings()), (VECTOR_SHORT, Brings::ShortMessage(characters)));
     let instruction = Vector::read(0x0901_1668).unwrap();
     let temporary = Instruction { kind: INSTRUCTION_TEMPORARY, address: 16 + 5, frame: 77, unread: 0 };

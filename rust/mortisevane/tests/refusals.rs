@@ -22,8 +22,8 @@ fn the_eighteen_are_numbered_from_1() {
 
 #[test]
 fn each_is_told_in_words_of_its_own() {
-    let meanings: BTreeSet<String> =
-        Refusal::ALL.iter().map(|refusal| refusal.to_string().split_once(": ").expect("a meaning follows").1.into()).collect();
+    let told = Refusal::ALL.map(|refusal| refusal.to_string());
+    let meanings: BTreeSet<&str> = told.iter().map(|told| told.split_once(": ").expect("a meaning follows").1).collect();
     assert_eq!(meanings.len(), 18);
     assert!(Refusal::Character.to_string().starts_with("refused 18: "));
 }
