@@ -99,7 +99,7 @@ impl Chains {
     /// [`Refusal::Signature`], [`Refusal::Full`], the first that applies; the buffer is then as it was, and the chains too
     /// unless [`Refused::lost`] says otherwise.
     ///
-    /// The text is a part of the buffer, so that it cannot be read any more once the next fragment has come:
+    /// The text is a part of the buffer, so that it cannot be read once the next fragment has come:
     ///
     /// ```compile_fail,E0499
     /// # use mortisevane::chains::{Chains, CHAIN_BYTES};
@@ -110,7 +110,7 @@ impl Chains {
     /// assert_eq!(text, Some(&b"0417"[..]));
     /// ```
     ///
-    /// Read before, it is:
+    /// Before that it can:
     ///
     /// ```
     /// # use mortisevane::chains::{Chains, CHAIN_BYTES};

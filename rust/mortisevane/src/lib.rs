@@ -22,7 +22,7 @@
 //!
 //! There is no allocation and no hidden state. Memory is lent as slices, and the states ([`Mirror`], [`Chains`],
 //! [`Calls`]) are plain numbers that a caller may keep anywhere and hand back: an unsound one is refused,
-//! [`Refusal::State`]. `Default` makes a fresh one.
+//! [`Refusal::State`]. `Default` makes fresh chains and calls; a mirror begins with [`Mirror::reset`].
 //!
 //! In this documentation "01" is the paper that defines the pager host; S8.x and Table n are the PCD5008 data sheet's.
 //!
