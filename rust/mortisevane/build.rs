@@ -7,8 +7,15 @@ use std::path::Path;
 fn main() {
     let own = Path::new(&env::var("CARGO_MANIFEST_DIR").expect("cargo sets it")).join("../../target/staticlib");
     let folder = env::var("MORTISEVANE_LIBRARY").unwrap_or(own.display().to_string());
+    let library = Path::new(&folder).join("libmortisevane.a");
+    if !library.exists() {
+        println!("cargo:warning=there is no {}; tools/build-library makes it", library.display());
+    }
+    if env::var("CARGO_CFG_TARGET_ARCH").as_deref() != Ok("x86_64") {
+        println!("cargo:warning=libmortisevane.a is x86-64 code, and cannot be linked for another machine");
+    }
     println!("cargo:rerun-if-env-changed=MORTISEVANE_LIBRARY");
-    println!("cargo:rerun-if-changed={folder}/libmortisevane.a");
+    println!("cargo:rerun-if-changed={}", library.display());
     println!("cargo:rustc-link-search=native={folder}");
     println!("cargo:rustc-link-lib=static=mortisevane");
 }

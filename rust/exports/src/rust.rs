@@ -9,10 +9,22 @@ const TOP: &str = "\
 //!
 //! Written by `tools/write-exports` from the Rattle source, in which every function is proved; the tests fail where the
 //! two differ.
+
+// What a struct's comment says, it says of its fields, by their names or in their order.
+#![allow(missing_docs)]
 ";
 
+/// What is said of a function stands in paragraphs. Constants are named as here, and brackets are no links.
 fn comment(text: &[String], indent: &str) -> String {
-    text.iter().map(|line| format!("{indent}/// {line}\n")).collect()
+    let mut written = String::new();
+    for line in text {
+        if ["Takes ", "Answers ", "Refuses "].iter().any(|word| line.starts_with(word)) {
+            written.push_str(&format!("{indent}///\n"));
+        }
+        let line = line.replace("MORTISEVANE_", "").replace('[', "\\[").replace(']', "\\]");
+        written.push_str(&format!("{indent}/// {line}\n"));
+    }
+    written
 }
 
 fn declared(named: &Named) -> Vec<String> {
@@ -42,15 +54,36 @@ fn function(known: &Function) -> String {
     format!("{}    pub fn {}({parameters}) -> {};\n", comment(&known.comment, "    "), known.name, bare(answer))
 }
 
-fn number(prefix: &str, known: &Constant) -> String {
+fn number(prefix: &str, known: &Constant, comment: &str) -> String {
     let name = constant(prefix, &known.name).replace("MORTISEVANE_", "");
     let value = if prefix == "PACKET" { format!("0x{:02X}", known.value) } else { known.value.to_string() };
-    format!("{}pub const {name}: u32 = {value};\n", comment(&known.comment, ""))
+    format!("{comment}pub const {name}: u32 = {value};\n")
 }
 
+/// The first sentence of a heading, and which of the constants below it this is.
+fn under(heading: &str, prefix: &str, known: &Constant) -> String {
+    let sentence = heading.split(". ").next().unwrap_or(heading).trim_end_matches('.');
+    let name = constant(prefix, &known.name).replace(&format!("MORTISEVANE_{prefix}_"), "");
+    let id = if prefix == "PACKET" { format!(", {:02X}H", known.value) } else { String::new() };
+    format!("/// {sentence}: {}{id}.\n", name.replace('_', " ").to_ascii_lowercase())
+}
+
+/// A comment is its constant's own, unless there are constants behind it that have none: then it is the heading of them
+/// all.
 fn group(known: &Group) -> String {
-    let numbers: String = known.constants.iter().map(|one| number(known.prefix, one)).collect();
-    format!("\n// {}\n{numbers}", known.about)
+    let mut heading = known.about.to_string();
+    let mut written = format!("\n// {heading}\n");
+    for (place, one) in known.constants.iter().enumerate() {
+        let stands_alone = known.constants.get(place + 1).is_none_or(|next| !next.comment.is_empty());
+        if !one.comment.is_empty() && !stands_alone {
+            heading = one.comment.join(" ");
+            written.push_str(&format!("// {heading}\n"));
+        }
+        let own = !one.comment.is_empty() && stands_alone;
+        let told = if own { comment(&one.comment, "") } else { under(&heading, known.prefix, one) };
+        written.push_str(&number(known.prefix, one, &told));
+    }
+    written
 }
 
 fn size(known: &Size) -> String {

@@ -3,6 +3,9 @@
 //! Written by `tools/write-exports` from the Rattle source, in which every function is proved; the tests fail where the
 //! two differ.
 
+// What a struct's comment says, it says of its fields, by their names or in their order.
+#![allow(missing_docs)]
+
 // The refusals, by the paper's numbers. A `number` of 0 says that nothing was refused.
 /// A lent buffer is too short for what is to stand in it.
 pub const REFUSED_ROOM: u32 = 1;
@@ -42,58 +45,101 @@ pub const REFUSED_NO_CALL: u32 = 17;
 pub const REFUSED_CHARACTER: u32 = 18;
 
 // The classes of addresses.
+/// The classes of addresses: short.
 pub const CLASS_SHORT: u32 = 1;
+/// The classes of addresses: information service.
 pub const CLASS_INFORMATION_SERVICE: u32 = 2;
+/// The classes of addresses: network.
 pub const CLASS_NETWORK: u32 = 3;
+/// The classes of addresses: operator.
 pub const CLASS_OPERATOR: u32 = 4;
+/// The classes of addresses: set 12.
 pub const CLASS_SET_12: u32 = 5;
+/// The classes of addresses: set 13.
 pub const CLASS_SET_13: u32 = 6;
+/// The classes of addresses: set 14.
 pub const CLASS_SET_14: u32 = 7;
+/// The classes of addresses: set 23 country.
 pub const CLASS_SET_23_COUNTRY: u32 = 8;
+/// The classes of addresses: set 23 information service.
 pub const CLASS_SET_23_INFORMATION_SERVICE: u32 = 9;
 
 // The IDs of packets, the highest byte of their 32 bits. The same ID means one thing to the decoder and another from it.
-/// What the host sends (Table 2).
+// What the host sends (Table 2).
+/// What the host sends (Table 2): checksum, 00H.
 pub const PACKET_CHECKSUM: u32 = 0x00;
+/// What the host sends (Table 2): configuration, 01H.
 pub const PACKET_CONFIGURATION: u32 = 0x01;
+/// What the host sends (Table 2): control, 02H.
 pub const PACKET_CONTROL: u32 = 0x02;
+/// What the host sends (Table 2): all frame mode, 03H.
 pub const PACKET_ALL_FRAME_MODE: u32 = 0x03;
+/// What the host sends (Table 2): receiver lines, 0FH.
 pub const PACKET_RECEIVER_LINES: u32 = 0x0F;
+/// What the host sends (Table 2): first setting, 10H.
 pub const PACKET_FIRST_SETTING: u32 = 0x10;
+/// What the host sends (Table 2): last setting, 19H.
 pub const PACKET_LAST_SETTING: u32 = 0x19;
+/// What the host sends (Table 2): shut down 1, 1AH.
 pub const PACKET_SHUT_DOWN_1: u32 = 0x1A;
+/// What the host sends (Table 2): shut down 2, 1BH.
 pub const PACKET_SHUT_DOWN_2: u32 = 0x1B;
+/// What the host sends (Table 2): first special, 1CH.
 pub const PACKET_FIRST_SPECIAL: u32 = 0x1C;
+/// What the host sends (Table 2): last special, 1FH.
 pub const PACKET_LAST_SPECIAL: u32 = 0x1F;
+/// What the host sends (Table 2): first frames, 20H.
 pub const PACKET_FIRST_FRAMES: u32 = 0x20;
+/// What the host sends (Table 2): last frames, 27H.
 pub const PACKET_LAST_FRAMES: u32 = 0x27;
+/// What the host sends (Table 2): address enable, 78H.
 pub const PACKET_ADDRESS_ENABLE: u32 = 0x78;
+/// What the host sends (Table 2): first user address, 80H.
 pub const PACKET_FIRST_USER_ADDRESS: u32 = 0x80;
+/// What the host sends (Table 2): last user address, 8FH.
 pub const PACKET_LAST_USER_ADDRESS: u32 = 0x8F;
-/// What the decoder sends (Table 3). A vector's or message word's ID is its word number.
+// What the decoder sends (Table 3). A vector's or message word's ID is its word number.
+/// What the decoder sends (Table 3): address, 01H.
 pub const PACKET_ADDRESS: u32 = 0x01;
+/// What the decoder sends (Table 3): first vector, 02H.
 pub const PACKET_FIRST_VECTOR: u32 = 0x02;
+/// What the decoder sends (Table 3): first message, 03H.
 pub const PACKET_FIRST_MESSAGE: u32 = 0x03;
+/// What the decoder sends (Table 3): last word, 57H.
 pub const PACKET_LAST_WORD: u32 = 0x57;
+/// What the decoder sends (Table 3): status, 7FH.
 pub const PACKET_STATUS: u32 = 0x7F;
+/// What the decoder sends (Table 3): part id, FFH.
 pub const PACKET_PART_ID: u32 = 0xFF;
 
 // The types of vectors.
-/// The vector types V (Tables 32, 33 and 35, S8.7.7).
+// The vector types V (Tables 32, 33 and 35, S8.7.7).
+/// The vector types V (Tables 32, 33 and 35, S8.7.7): secure.
 pub const VECTOR_SECURE: u32 = 0;
+/// The vector types V (Tables 32, 33 and 35, S8.7.7): instruction.
 pub const VECTOR_INSTRUCTION: u32 = 1;
+/// The vector types V (Tables 32, 33 and 35, S8.7.7): short.
 pub const VECTOR_SHORT: u32 = 2;
+/// The vector types V (Tables 32, 33 and 35, S8.7.7): standard.
 pub const VECTOR_STANDARD: u32 = 3;
+/// The vector types V (Tables 32, 33 and 35, S8.7.7): special.
 pub const VECTOR_SPECIAL: u32 = 4;
+/// The vector types V (Tables 32, 33 and 35, S8.7.7): alphanumeric.
 pub const VECTOR_ALPHANUMERIC: u32 = 5;
+/// The vector types V (Tables 32, 33 and 35, S8.7.7): hex.
 pub const VECTOR_HEX: u32 = 6;
+/// The vector types V (Tables 32, 33 and 35, S8.7.7): numbered.
 pub const VECTOR_NUMBERED: u32 = 7;
 
 // The types of short messages.
-/// The message types t (Table 34).
+// The message types t (Table 34).
+/// The message types t (Table 34): characters.
 pub const SHORT_MESSAGE_CHARACTERS: u32 = 0;
+/// The message types t (Table 34): source.
 pub const SHORT_MESSAGE_SOURCE: u32 = 1;
+/// The message types t (Table 34): numbered.
 pub const SHORT_MESSAGE_NUMBERED: u32 = 2;
+/// The message types t (Table 34): spare.
 pub const SHORT_MESSAGE_SPARE: u32 = 3;
 
 // The types of short instructions.
@@ -156,26 +202,38 @@ pub struct Found {
 
 extern "C" {
     /// The class of an address.
+    ///
     /// Takes an address, any number.
-    /// Answers its class, one of MORTISEVANE_CLASS_..
+    ///
+    /// Answers its class, one of CLASS_..
+    ///
     /// Refuses 5.
     pub fn mortisevane_address_class(address: u64) -> Class;
 
     /// The words of an address, for the decoder's address packets (Table 24).
+    ///
     /// Takes an address, any number.
+    ///
     /// Answers how many words there are, 1 for a short address and 2 for a long one, and the words.
+    ///
     /// Refuses 5.
     pub fn mortisevane_address_words(address: u64) -> Words;
 
     /// The address that one word belongs to.
+    ///
     /// Takes a word, any number.
+    ///
     /// Answers the short address.
+    ///
     /// Refuses 5: a word of no accepted address.
     pub fn mortisevane_word_address(word: u32) -> Found;
 
     /// The address that two words belong to.
+    ///
     /// Takes the first and the second word, any numbers.
+    ///
     /// Answers the long address.
+    ///
     /// Refuses 5: words of no accepted address.
     pub fn mortisevane_pair_address(first: u32, second: u32) -> Found;
 }
@@ -217,21 +275,30 @@ pub struct Length {
 
 extern "C" {
     /// What a CAPCODE text says.
+    ///
     /// Takes the text, without a line's end.
+    ///
     /// Answers its letter, frame digits, collapse and address, and the phase and base frame that it assigns.
+    ///
     /// Refuses 3, 4, 5, 6, the first that applies.
     pub fn mortisevane_capcode_read(text: *const u8, text_length: usize) -> Capcode;
 
     /// The phase and base frame of a CAPCODE.
+    ///
     /// Takes the letter as a character, the frame (0 with A to H), the collapse and the address.
+    ///
     /// Answers the phase (0 to 3 for A to D, 4 for any-phase) and the base frame.
+    ///
     /// Refuses 3, 4, 5, 6, 7, the first that applies.
     pub fn mortisevane_capcode_assign(letter: u8, frame: u8, collapse: u8, address: u64) -> Assignment;
 
     /// The text of a CAPCODE, written at the start of a lent buffer.
+    ///
     /// Takes the letter as a character, the frame (0 with A to H), the collapse, the address and the buffer, for which
-    /// MORTISEVANE_CAPCODE_BYTES are always enough.
+    /// CAPCODE_BYTES are always enough.
+    ///
     /// Answers how many bytes were written; no zero byte stands behind them.
+    ///
     /// Refuses 3, 4, 5, 6, 7, the first that applies, and last 1; the buffer is then as it was.
     pub fn mortisevane_capcode_print(letter: u8, frame: u8, collapse: u8, address: u64, out: *mut u8, out_length: usize) -> Length;
 }
@@ -275,14 +342,20 @@ pub struct Frames {
 
 extern "C" {
     /// The wait from the present frame to a designated one.
+    ///
     /// Takes both frames, 0 to 127.
+    ///
     /// Answers the wait, 0 to 127 frames.
+    ///
     /// Refuses 7: a frame over 127.
     pub fn mortisevane_frames_wait(from: u8, to: u8) -> Wait;
 
     /// The frames that a pager with these addresses listens to.
+    ///
     /// Takes the base frame and the collapse of each address, and how many there are.
-    /// Answers the number of frames, and masks[i], the frame bits of packet 20H + i.
+    ///
+    /// Answers the number of frames, and masks\[i\], the frame bits of packet 20H + i.
+    ///
     /// Refuses 7 and then 9: a frame over 127 or a collapse over 5; over 16 addresses.
     pub fn mortisevane_frames_listened(listeners: Listeners) -> Frames;
 }
@@ -604,152 +677,227 @@ pub struct MessageRead {
 
 extern "C" {
     /// Builds a checksum packet.
+    ///
     /// Takes its fields.
+    ///
     /// Answers the packet.
+    ///
     /// Refuses 7: a field too large.
     pub fn mortisevane_build_checksum(fields: Checksum) -> Built;
 
     /// Builds a configuration packet.
+    ///
     /// Takes its fields.
+    ///
     /// Answers the packet.
+    ///
     /// Refuses 7: a field too large.
     pub fn mortisevane_build_configuration(fields: Configuration) -> Built;
 
     /// Builds a control packet.
+    ///
     /// Takes its fields.
+    ///
     /// Answers the packet.
+    ///
     /// Refuses 7: a field too large.
     pub fn mortisevane_build_control(fields: Control) -> Built;
 
     /// Builds an all frame mode packet.
+    ///
     /// Takes its fields.
+    ///
     /// Answers the packet.
+    ///
     /// Refuses 7: a field too large.
     pub fn mortisevane_build_all_frame_mode(fields: AllFrameMode) -> Built;
 
     /// Builds a receiver line control packet.
+    ///
     /// Takes its fields.
+    ///
     /// Answers the packet.
+    ///
     /// Refuses 7: a field too large.
     pub fn mortisevane_build_receiver_lines(fields: ReceiverLines) -> Built;
 
     /// Builds a receiver shut-down packet.
+    ///
     /// Takes its fields.
+    ///
     /// Answers the packet.
+    ///
     /// Refuses 7: a field too large.
     pub fn mortisevane_build_shut_down(fields: ShutDown) -> Built;
 
     /// Builds a frame assignment packet.
+    ///
     /// Takes its fields.
+    ///
     /// Answers the packet.
+    ///
     /// Refuses 7: a field too large.
     pub fn mortisevane_build_frame_assignment(fields: FrameAssignment) -> Built;
 
     /// Builds a user address assignment packet.
+    ///
     /// Takes its fields.
+    ///
     /// Answers the packet.
+    ///
     /// Refuses 7: a field too large.
     pub fn mortisevane_build_user_address(fields: UserAddress) -> Built;
 
     /// Builds a user address enable packet.
+    ///
     /// Takes its fields.
+    ///
     /// Answers the packet.
+    ///
     /// Refuses 7: a field too large.
     pub fn mortisevane_build_address_enable(fields: AddressEnable) -> Built;
 
     /// Builds a part ID packet.
+    ///
     /// Takes its fields.
+    ///
     /// Answers the packet.
+    ///
     /// Refuses 7: a field too large.
     pub fn mortisevane_build_part_id(fields: PartId) -> Built;
 
     /// Reads a checksum packet.
+    ///
     /// Takes the packet.
+    ///
     /// Answers its fields.
+    ///
     /// Refuses 7: another packet, or a bit set that its table prints as 0.
     pub fn mortisevane_read_checksum(packet: u32) -> ChecksumRead;
 
     /// Reads a configuration packet.
+    ///
     /// Takes the packet.
+    ///
     /// Answers its fields.
+    ///
     /// Refuses 7: another packet, or a bit set that its table prints as 0.
     pub fn mortisevane_read_configuration(packet: u32) -> ConfigurationRead;
 
     /// Reads a control packet.
+    ///
     /// Takes the packet.
+    ///
     /// Answers its fields.
+    ///
     /// Refuses 7: another packet, or a bit set that its table prints as 0.
     pub fn mortisevane_read_control(packet: u32) -> ControlRead;
 
     /// Reads an all frame mode packet.
+    ///
     /// Takes the packet.
+    ///
     /// Answers its fields.
+    ///
     /// Refuses 7: another packet, or a bit set that its table prints as 0.
     pub fn mortisevane_read_all_frame_mode(packet: u32) -> AllFrameModeRead;
 
     /// Reads a receiver line control packet.
+    ///
     /// Takes the packet.
+    ///
     /// Answers its fields.
+    ///
     /// Refuses 7: another packet, or a bit set that its table prints as 0.
     pub fn mortisevane_read_receiver_lines(packet: u32) -> ReceiverLinesRead;
 
     /// Reads a receiver shut-down packet.
+    ///
     /// Takes the packet.
+    ///
     /// Answers its fields.
+    ///
     /// Refuses 7: another packet, or a bit set that its table prints as 0.
     pub fn mortisevane_read_shut_down(packet: u32) -> ShutDownRead;
 
     /// Reads a frame assignment packet.
+    ///
     /// Takes the packet.
+    ///
     /// Answers its fields.
+    ///
     /// Refuses 7: another packet, or a bit set that its table prints as 0.
     pub fn mortisevane_read_frame_assignment(packet: u32) -> FrameAssignmentRead;
 
     /// Reads a user address assignment packet.
+    ///
     /// Takes the packet.
+    ///
     /// Answers its fields.
+    ///
     /// Refuses 7: another packet, or a bit set that its table prints as 0.
     pub fn mortisevane_read_user_address(packet: u32) -> UserAddressRead;
 
     /// Reads a user address enable packet.
+    ///
     /// Takes the packet.
+    ///
     /// Answers its fields.
+    ///
     /// Refuses 7: another packet, or a bit set that its table prints as 0.
     pub fn mortisevane_read_address_enable(packet: u32) -> AddressEnableRead;
 
     /// Reads a part ID packet.
+    ///
     /// Takes the packet.
+    ///
     /// Answers its fields.
+    ///
     /// Refuses 7: another packet.
     pub fn mortisevane_read_part_id(packet: u32) -> PartIdRead;
 
     /// Reads a status packet.
+    ///
     /// Takes the packet.
+    ///
     /// Answers its fields.
+    ///
     /// Refuses 7: another packet.
     pub fn mortisevane_read_status(packet: u32) -> StatusRead;
 
     /// Reads an address packet.
+    ///
     /// Takes the packet.
+    ///
     /// Answers its fields, the address number 0 to 31 among them.
+    ///
     /// Refuses 7 and then 8: another packet or a vector's word number over 87; an index of no address.
     pub fn mortisevane_read_address(packet: u32) -> AddressRead;
 
     /// Reads a vector packet.
+    ///
     /// Takes the packet.
+    ///
     /// Answers its fields.
+    ///
     /// Refuses 7: another packet.
     pub fn mortisevane_read_vector(packet: u32) -> VectorRead;
 
     /// Reads a message packet.
+    ///
     /// Takes the packet.
+    ///
     /// Answers its fields.
+    ///
     /// Refuses 7: another packet.
     pub fn mortisevane_read_message(packet: u32) -> MessageRead;
 
     /// Whether the host may send a packet.
+    ///
     /// Takes the packet.
+    ///
     /// Answers 0 if it may.
+    ///
     /// Refuses 7.
     pub fn mortisevane_may_send(packet: u32) -> u32;
 }
@@ -775,26 +923,38 @@ pub struct Mirrored {
 
 extern "C" {
     /// The mirror of a decoder that was reset and told its part ID.
+    ///
     /// Takes the part ID packet.
+    ///
     /// Answers the mirror: the register is the packet's 24 data bits, and the decoder is not talking.
+    ///
     /// Refuses 7: another packet.
     pub fn mortisevane_mirror_reset(packet: u32) -> Mirrored;
 
     /// The mirror after one packet that the host sent.
+    ///
     /// Takes the mirror and the packet, any 32 bits.
+    ///
     /// Answers the mirror then; after a checksum packet `talking` says whether the decoder talks.
+    ///
     /// Refuses 2: a register over 24 bits.
     pub fn mortisevane_mirror_step(mirror: Mirror, packet: u32) -> Mirrored;
 
     /// The mirror after a run of packets that the host sent.
+    ///
     /// Takes the mirror and the packets, any 32 bits each.
+    ///
     /// Answers the mirror after the last of them.
+    ///
     /// Refuses 2: a register over 24 bits.
     pub fn mortisevane_mirror_run(mirror: Mirror, packets: *const u32, packets_length: usize) -> Mirrored;
 
     /// The checksum packet that makes the decoder talk.
+    ///
     /// Takes the mirror.
+    ///
     /// Answers the packet, to be sent last of a set-up and run through the mirror as every other.
+    ///
     /// Refuses 2: a register over 24 bits.
     pub fn mortisevane_mirror_closing(mirror: Mirror) -> Built;
 }
@@ -805,20 +965,29 @@ extern "C" {
 extern "C" {
     /// K of a numeric page, 0 to 63: K0 to K3 belong into the vector, K4 and K5 into the first word, whose two lowest bits
     /// are taken as 0.
+    ///
     /// Takes the words of the page.
+    ///
     /// Answers K.
+    ///
     /// Refuses nothing.
     pub fn mortisevane_sum_six_bit(words: *const u32, words_length: usize) -> u32;
 
     /// K of a fragment, 0 to 1023: the ten lowest bits of its first word are taken as 0.
+    ///
     /// Takes the words of the fragment.
+    ///
     /// Answers K.
+    ///
     /// Refuses nothing.
     pub fn mortisevane_sum_ten_bit(words: *const u32, words_length: usize) -> u32;
 
     /// The signature of a text with its fill, 0 to 127.
+    ///
     /// Takes the characters, fill with them.
+    ///
     /// Answers the signature.
+    ///
     /// Refuses nothing.
     pub fn mortisevane_sum_signature(characters: *const u8, characters_length: usize) -> u32;
 }
@@ -856,18 +1025,24 @@ pub struct PageRead {
 
 extern "C" {
     /// A text as the words of a numeric page.
-    /// Takes the text, characters of Table 39; the vector's type, MORTISEVANE_VECTOR_STANDARD, _SPECIAL or _NUMBERED; what the
-    /// head of a numbered page says, all 0 with the others; and memory for the words, for which MORTISEVANE_PAGE_WORDS are
+    ///
+    /// Takes the text, characters of Table 39; the vector's type, VECTOR_STANDARD, _SPECIAL or _NUMBERED; what the
+    /// head of a numbered page says, all 0 with the others; and memory for the words, for which PAGE_WORDS are
     /// always enough.
+    ///
     /// Answers K for the vector and how many words were written, the fewest that hold the text.
+    ///
     /// Refuses 7, 15, 18, the first that applies, and last 1; the memory is then as it was.
     pub fn mortisevane_numeric_write(text: *const u8, text_length: usize, kind: u32, numbering: Numbering, words: *mut u32, words_length: usize) -> Written;
 
     /// The words of a numeric page as text, its zeros with it.
-    /// Takes the type and the K of its vector, the words, and memory for the text, for which MORTISEVANE_PAGE_CHARACTERS are
+    ///
+    /// Takes the type and the K of its vector, the words, and memory for the text, for which PAGE_CHARACTERS are
     /// always enough.
+    ///
     /// Answers what the head of a numbered page says, and how many characters were written: all that the words have room
     /// for, so that spaces may stand at the end.
+    ///
     /// Refuses 7, 9, 10, 11, the first that applies, and last 1; the memory is then as it was.
     pub fn mortisevane_numeric_read(kind: u32, check: u32, words: *const u32, words_length: usize, text: *mut u8, text_length: usize) -> PageRead;
 }
@@ -914,23 +1089,32 @@ pub struct TextCut {
 
 extern "C" {
     /// What a fragment says of itself, without its text.
+    ///
     /// Takes the words of the fragment, 2 to 85.
+    ///
     /// Answers what its first word says, its signature, its sum and how many characters its text has.
+    ///
     /// Refuses 9, 10, 11, the first that applies.
     pub fn mortisevane_fragment_heading(words: *const u32, words_length: usize) -> FragmentRead;
 
     /// A fragment, and its text.
-    /// Takes the words of the fragment, 2 to 85, and memory for the text, for which MORTISEVANE_FRAGMENT_CHARACTERS are
+    ///
+    /// Takes the words of the fragment, 2 to 85, and memory for the text, for which FRAGMENT_CHARACTERS are
     /// always enough.
+    ///
     /// Answers what mortisevane_fragment_heading answers; the text is written without its fill.
+    ///
     /// Refuses 9, 10, 11, the first that applies, and last 1; the memory is then as it was.
     pub fn mortisevane_fragment_read(words: *const u32, words_length: usize, text: *mut u8, text_length: usize) -> FragmentRead;
 
     /// A text cut into fragments, one behind the other.
+    ///
     /// Takes the text, up to 1,008 characters; N, R and M of the message; how many words the largest fragment may have, 2 to
-    /// 85; and memory for the words, for which MORTISEVANE_CUT_WORDS are always enough.
+    /// 85; and memory for the words, for which CUT_WORDS are always enough.
+    ///
     /// Answers how many fragments there are and how many words they have together. Each but the last has the largest size, so
     /// that fragment j begins at word j times it.
+    ///
     /// Refuses 7, 9, 15, 18, the first that applies, and last 1; the memory is then as it was.
     pub fn mortisevane_text_cut(text: *const u8, text_length: usize, marks: Marks, largest: usize, words: *mut u32, words_length: usize) -> TextCut;
 }
@@ -996,23 +1180,32 @@ pub struct ChainDrop {
 
 extern "C" {
     /// The records after a reset: no chain is open. They are all zero.
+    ///
     /// Takes nothing.
+    ///
     /// Answers the records.
+    ///
     /// Refuses nothing.
     pub fn mortisevane_chains_fresh() -> Chains;
 
     /// A fragment for an address number: it begins a chain, goes on with one, or hands out a text.
-    /// Takes the records, as they were answered last; the buffer of the texts, MORTISEVANE_CHAIN_BYTES or more, as it was
+    ///
+    /// Takes the records, as they were answered last; the buffer of the texts, CHAIN_BYTES or more, as it was
     /// left last; the address number, 0 to 31; and the words of the fragment.
+    ///
     /// Answers what became of it, and the records then. A text that is handed out is `characters` bytes of the buffer from
     /// `place` on, to be read before the next fragment.
+    ///
     /// Refuses 1, 2, 8, 9, 10, 11, 13, 14, 15, 16, 12, the first that applies; the buffer is then as it was. After 14, 15 and
     /// 16 the key's chain is closed.
     pub fn mortisevane_chain_step(chains: Chains, buffer: *mut u8, buffer_length: usize, address: u32, words: *const u32, words_length: usize) -> ChainStep;
 
     /// The chain of an address number and a message number, closed at the caller's wish.
+    ///
     /// Takes the records, the address number, 0 to 31, and the message number, 0 to 63.
+    ///
     /// Answers the records then.
+    ///
     /// Refuses 2, 7, 8, 13, the first that applies; the records are then as they were.
     pub fn mortisevane_chain_drop(chains: Chains, address: u32, message_number: u32) -> ChainDrop;
 }
@@ -1101,34 +1294,49 @@ pub struct FrameEnd {
 
 extern "C" {
     /// The records with no call open: after a reset, and after an end of frame. They are all zero.
+    ///
     /// Takes nothing.
+    ///
     /// Answers the records.
+    ///
     /// Refuses nothing.
     pub fn mortisevane_calls_fresh() -> Calls;
 
     /// An address packet, which opens a call.
+    ///
     /// Takes the records, as they were answered last, and the packet.
+    ///
     /// Answers what the packet says, the place of its call, and the records then. A tone-only address opens none.
+    ///
     /// Refuses 2, 7, 8, 14, 12, the first that applies; the records are then as they were.
     pub fn mortisevane_call_open(calls: Calls, bits: u32) -> CallOpening;
 
     /// A vector or message packet.
-    /// Takes the records, as they were answered last; the memory of the words, MORTISEVANE_CALL_WORDS or more, as it was left
+    ///
+    /// Takes the records, as they were answered last; the memory of the words, CALL_WORDS or more, as it was left
     /// last; and the packet.
+    ///
     /// Answers what became of it, with a bit for each call that is complete by it, and the records then.
+    ///
     /// Refuses 2, 7, 10, and then of a vector 9, 14, of a word 14, or 17, and last 1; the memory is then as it was. A span
     /// refused by 9 closes its call.
     pub fn mortisevane_call_hear(calls: Calls, memory: *mut u32, memory_length: usize, bits: u32) -> CallHearing;
 
     /// The end of a frame, which closes all calls.
+    ///
     /// Takes the records, as they were answered last, and the memory of the words.
+    ///
     /// Answers the records of the calls that were incomplete, in the order opened, and the records then.
+    ///
     /// Refuses 2 and then 1; the records are then as they were.
     pub fn mortisevane_call_end(calls: Calls, memory: *const u32, memory_length: usize) -> FrameEnd;
 
     /// Where the words of a call begin in the lent memory.
+    ///
     /// Takes the record of the call.
+    ///
     /// Answers the place of its first word; the `words` of the record are from there on.
+    ///
     /// Refuses nothing.
     pub fn mortisevane_call_place(call: Call) -> usize;
 }
