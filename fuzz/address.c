@@ -1,4 +1,7 @@
 /* Addresses and their words, CAPCODEs, frames. */
+#include <inttypes.h>
+#include <stdio.h>
+
 #include "fuzz.h"
 
 enum { WORD_BITS = 21 };
@@ -162,25 +165,43 @@ static struct mortisevane_capcode ask_capcode(struct row text)
     return capcode;
 }
 
+/* A text in the form, of any letter and address, so that what it says may still be refused; with its length. */
+static size_t form_capcode(char text[64])
+{
+    char letter = (char)(one_in(2) ? random_between('A', 'L') : random_between('U', 'Z'));
+    unsigned collapse = (unsigned)random_below(6);
+    uint64_t address = one_in(8) ? random_below(8) : some_address() % 10000000000;
+    int length = 0;
+    if (letter >= 'U')
+        length = snprintf(text, 64, "%03u%u", (unsigned)random_below(128), collapse);
+    else if (collapse != 4)
+        length = snprintf(text, 64, "%u", collapse);
+    length += snprintf(text + length, 64 - (size_t)length, "%c%0*" PRIu64, letter, address <= 2031614 ? 7 : 10, address);
+    return (size_t)length;
+}
+
+/* A text that was printed, one in the form, or characters of the form in any order; perhaps changed a little. */
 static struct row lend_some_capcode(void)
 {
     static const char signs[] = "0123456789ABCDEFGHIUVWXYZ";
-    uint8_t text[64];
+    char text[64];
     size_t length;
-    if (one_in(4)) {
-        length = random_length(MORTISEVANE_CAPCODE_BYTES, sizeof text);
+    if (one_in(3)) {
+        struct row out = lend_row(&write_memory, MORTISEVANE_CAPCODE_BYTES);
+        length = ask_print(some_capcode(), out);
+        memcpy(text, to_fill(out), length);
+    } else if (!one_in(8)) {
+        length = form_capcode(text);
+    } else {
+        length = random_length(MORTISEVANE_CAPCODE_BYTES, sizeof text - 1);
         for (size_t place = 0; place < length; place++)
-            text[place] = (uint8_t)signs[random_below(place == 0 || place == 4 ? sizeof signs - 1 : 10)];
-        return lend_copy(text, length);
+            text[place] = signs[random_below(place == 0 || place == 4 ? sizeof signs - 1 : 10)];
     }
-    struct row out = lend_row(&write_memory, MORTISEVANE_CAPCODE_BYTES);
-    length = ask_print(some_capcode(), out);
-    memcpy(text, to_fill(out), length);
-    if (length > 0 && one_in(4))
-        random_flip(text, length);
-    if (one_in(8))
-        text[length++] = (uint8_t)random_bits();
     if (length > 0 && one_in(8))
+        random_flip(text, length);
+    if (one_in(16))
+        text[length++] = (char)random_bits();
+    else if (length > 0 && one_in(16))
         length--;
     return lend_copy(text, length);
 }

@@ -159,6 +159,8 @@ static uint32_t some_heard_packet(const struct mortisevane_calls *calls)
     uint32_t packet = (uint32_t)random_below(LAST_WORD + 2) << 24 | (uint32_t)(random_bits() >> 41);
     if (open > 0 && !one_in(16)) {
         const struct mortisevane_call *call = &calls->calls[random_below(open)];
+        if (call->has_vector != 0 && call->words == 0)
+            call = &calls->calls[random_below(open)];
         packet = call->has_vector == 0 || one_in(16) ? vector_of(call) : word_of(call);
     }
     if (one_in(32))
@@ -242,6 +244,7 @@ static struct mortisevane_call_hearing ask_hear(struct mortisevane_calls calls, 
     struct mortisevane_call_hearing hearing = CALL(call_hear, calls, to_write(memory), memory.length / 4, packet);
     answered(hearing.answer.number);
     if (hearing.answer.number == 0) {
+        hold(memory.length >= 4 * MORTISEVANE_CALL_WORDS, "accepted with less memory than calls are to be lent");
         if (hearing.answer.is_vector != 0)
             hold_vector(&calls, &hearing, memory);
         else
@@ -258,16 +261,6 @@ static struct mortisevane_call_hearing ask_hear(struct mortisevane_calls calls, 
     else
         hold(same_calls(&calls, &hearing.calls), "records changed although refused");
     return hearing;
-}
-
-void fuzz_call_hear(void)
-{
-    for (uint64_t turn = random_between(1, 16); turn > 0; turn--) {
-        struct mortisevane_calls calls = some_calls();
-        struct mortisevane_call_hearing hearing = ask_hear(calls, some_memory(), some_heard_packet(&calls));
-        if (hearing.answer.number != MORTISEVANE_REFUSED_STATE)
-            kept_calls = hearing.calls;
-    }
 }
 
 /* ---- The end of a frame ---- */
@@ -296,4 +289,20 @@ void fuzz_call_end(void)
     }
     if (one_in(2))
         kept_calls = end.calls;
+}
+
+/* ---- Vectors and words, mostly of a frame that is new ---- */
+
+void fuzz_call_hear(void)
+{
+    if (one_in(2))
+        fuzz_call_end();
+    if (one_in(2))
+        fuzz_call_open();
+    for (uint64_t turn = random_between(1, 16); turn > 0; turn--) {
+        struct mortisevane_calls calls = some_calls();
+        struct mortisevane_call_hearing hearing = ask_hear(calls, some_memory(), some_heard_packet(&calls));
+        if (hearing.answer.number != MORTISEVANE_REFUSED_STATE)
+            kept_calls = hearing.calls;
+    }
 }

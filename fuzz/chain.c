@@ -51,7 +51,7 @@ static struct mortisevane_chain some_chain(void)
         .sum = (uint32_t)random_below(128), .characters = random_below(MORTISEVANE_TEXT_CHARACTERS + 1) };
 }
 
-/* One field of one record is changed: a bit of it, or to a chain that may be, nearly as long as a text may get. */
+/* A bit of a record is changed, or the record is another chain's; or all texts are nearly as long as they may get. */
 static void damage(struct mortisevane_chains *chains)
 {
     struct mortisevane_chain *chain = &chains->slots[random_below(MORTISEVANE_SLOTS)];
@@ -66,8 +66,9 @@ static void damage(struct mortisevane_chains *chains)
         *chain = chains->slots[random_below(MORTISEVANE_SLOTS)];
         break;
     default:
-        if (chain->is_open != 0)
-            chain->characters = MORTISEVANE_TEXT_CHARACTERS - random_below(32);
+        for (int slot = 0; slot < MORTISEVANE_SLOTS; slot++)
+            if (chains->slots[slot].is_open != 0)
+                chains->slots[slot].characters = MORTISEVANE_TEXT_CHARACTERS - random_below(32);
     }
 }
 
@@ -180,16 +181,19 @@ static struct row some_buffer(void)
     return lend_row(&chain_memory, random_length(MORTISEVANE_CHAIN_BYTES, MEMORY_BYTES));
 }
 
-/* A run of fragments of one message, mostly in their order and mostly good. */
+/* A run of fragments, mostly of one message in their order and mostly good; or first ones alone, which fill the slots. */
 void fuzz_chain_step(void)
 {
+    bool filling = one_in(16);
     struct message *message = some_message();
     if (message->fragments <= 16 && one_in(8)) {
         hold_handed_out(message);
         return;
     }
-    for (uint64_t turn = random_between(1, 6); turn > 0; turn--) {
-        size_t fragment = one_in(8) ? random_below(message->fragments) : message->next;
+    for (uint64_t turn = filling ? 16 : random_between(1, 6); turn > 0; turn--) {
+        if (filling)
+            message = some_message();
+        size_t fragment = one_in(8) ? random_below(message->fragments) : filling ? 0 : message->next;
         uint32_t address = one_in(32) ? (uint32_t)random_of_width(32) : message->address;
         struct row words = lend_some_fragment(message, fragment);
         struct mortisevane_chain_step step = ask_step(some_chains(), some_buffer(), address, words);

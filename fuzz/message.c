@@ -223,22 +223,23 @@ struct row lend_fragment(const struct message *message, size_t fragment)
 
 struct row lend_some_fragment(const struct message *message, size_t fragment)
 {
+    uint32_t words[MORTISEVANE_FRAGMENT_WORDS];
     if (one_in(32))
         return lend_some_words(MORTISEVANE_FRAGMENT_WORDS);
-    struct row words = lend_fragment(message, fragment);
+    struct row good = lend_fragment(message, fragment);
     if (!one_in(8))
-        return words;
-    uint32_t *filled = to_fill(words);
+        return good;
+    size_t length = good.length;
+    memcpy(words, to_read(good), length);
     if (one_in(8))
-        random_flip(filled, words.length);
+        random_flip(words, length);
     else
-        filled[random_below(words.length / 4)] ^= 1u << random_below(WORD_BITS);
+        words[random_below(length / 4)] ^= 1u << random_below(WORD_BITS);
     if (one_in(16))
-        words.length -= 4;
-    uint32_t sum = ask_ten_bit(words);
+        length -= 4;
     if (!one_in(4))
-        filled[0] = (filled[0] & ~(uint32_t)FRAGMENT_CHECK) | sum;
-    return words;
+        words[0] = (words[0] & ~(uint32_t)FRAGMENT_CHECK) | ask_ten_bit(lend_copy(words, length));
+    return lend_copy(words, length);
 }
 
 void fuzz_fragment_heading(void)
