@@ -151,7 +151,7 @@ static size_t ask_print(struct mortisevane_capcode capcode, struct row out)
     hold_written_only(out, 0, printed.length);
     hold((printed.number == 0) == (printed.length > 0), "a length told although refused, or none");
     hold(printed.length <= MORTISEVANE_CAPCODE_BYTES, "longer than a CAPCODE can be");
-    hold(printed.number != MORTISEVANE_REFUSED_ROOM || out.length < MORTISEVANE_CAPCODE_BYTES, "refused room that is enough");
+    hold_room(printed.number, out.length, MORTISEVANE_CAPCODE_BYTES);
     return printed.length;
 }
 
@@ -170,7 +170,7 @@ static size_t form_capcode(char text[64])
 {
     char letter = (char)(one_in(2) ? random_between('A', 'L') : random_between('U', 'Z'));
     unsigned collapse = (unsigned)random_below(6);
-    uint64_t address = one_in(8) ? random_below(8) : some_address() % 10000000000;
+    uint64_t address = one_in(4) ? random_below(4) : some_address() % 10000000000;
     int length = 0;
     if (letter >= 'U')
         length = snprintf(text, 64, "%03u%u", (unsigned)random_below(128), collapse);

@@ -58,10 +58,31 @@ void fuzz_call_place(void)
     ask_place(call);
 }
 
-/* The kept records, seldom damaged or random. */
+/* A call that may be: before its vector, or with one and a span that mostly fits. */
+static struct mortisevane_call some_call(void)
+{
+    struct mortisevane_call call = { .phase = (uint32_t)random_below(4), .vector = (uint32_t)random_below(LAST_WORD - 8),
+        .address = (uint32_t)random_below(32), .priority = (uint32_t)random_below(2),
+        .long_address = (uint32_t)random_below(2), .has_vector = (uint32_t)random_below(3) };
+    if (call.has_vector == 0)
+        return call;
+    call.kind = (uint32_t)random_below(8);
+    call.check = (uint32_t)random_below(16);
+    call.words = (uint32_t)random_below(8);
+    call.start = (uint32_t)random_between(call.vector + 2, LAST_WORD - 6);
+    call.area = (uint32_t)random_below(one_in(4) ? 16 : MORTISEVANE_CALLS);
+    return call;
+}
+
+/* The kept records, seldom damaged or random, or records that may be. */
 static struct mortisevane_calls some_calls(void)
 {
     struct mortisevane_calls calls = kept_calls;
+    if (one_in(128)) {
+        calls.size = random_below(MORTISEVANE_CALLS + 2);
+        for (int place = 0; place < MORTISEVANE_CALLS; place++)
+            calls.calls[place] = some_call();
+    }
     if (one_in(64))
         random_flip(&calls.calls[random_below(MORTISEVANE_CALLS)], sizeof calls.calls[0]);
     if (one_in(64))
@@ -97,10 +118,20 @@ static uint32_t some_address_packet(void)
     return one_in(64) ? (uint32_t)random_bits() : packet;
 }
 
+/* What is told of an address packet is what its reader tells. */
+static void hold_read(const struct mortisevane_call_opened *answer, uint32_t packet)
+{
+    struct mortisevane_address_read read = CALL(read_address, packet);
+    answered(read.number);
+    hold(answer->number != 0 || (read.number == 0 && memcmp(&read.fields, &answer->fields, sizeof read.fields) == 0),
+        "the packet reads otherwise");
+}
+
 static struct mortisevane_call_opening ask_open(struct mortisevane_calls calls, uint32_t packet)
 {
     struct mortisevane_call_opening opening = CALL(call_open, calls, packet);
     answered(opening.answer.number);
+    hold_read(&opening.answer, packet);
     if (opening.answer.number != 0 || opening.answer.opened == 0) {
         hold(same_calls(&calls, &opening.calls), "records changed and no call opened");
         hold(opening.answer.call == 0, "the place of no call is told");
@@ -172,13 +203,18 @@ static uint32_t some_heard_packet(const struct mortisevane_calls *calls)
 
 /* A call's vector marks its words as not come, in its own area. */
 static void hold_vector(const struct mortisevane_calls *before, const struct mortisevane_call_hearing *hearing,
-    struct row memory)
+    struct row memory, uint32_t packet)
 {
+    struct mortisevane_vector_read read = CALL(read_vector, packet);
+    answered(read.number);
+    hold(read.number == 0 && read.fields.damaged == 0 && read.fields.kind == hearing->answer.kind
+            && read.fields.span.check == hearing->answer.check,
+        "the packet reads otherwise");
     hold(hearing->answer.call < open_in(&hearing->calls) && open_in(before) == open_in(&hearing->calls), "a vector of no call");
     const struct mortisevane_call *call = &hearing->calls.calls[hearing->answer.call];
-    hold(call->has_vector != 0 && call->kind == hearing->answer.kind && call->check == hearing->answer.check,
+    hold(call->has_vector != 0 && call->kind == read.fields.kind && call->check == read.fields.span.check
+            && call->words == read.fields.span.words && call->words <= AREA_WORDS,
         "the call has not the vector that is told");
-    hold(call->words <= AREA_WORDS, "a call of more words than an area has");
     size_t place = ask_place(*call);
     hold_written_only(memory, 4 * place, 4 * call->words);
     const uint32_t *words = to_fill(memory);
@@ -246,7 +282,7 @@ static struct mortisevane_call_hearing ask_hear(struct mortisevane_calls calls, 
     if (hearing.answer.number == 0) {
         hold(memory.length >= 4 * MORTISEVANE_CALL_WORDS, "accepted with less memory than calls are to be lent");
         if (hearing.answer.is_vector != 0)
-            hold_vector(&calls, &hearing, memory);
+            hold_vector(&calls, &hearing, memory, packet);
         else
             hold_word(&calls, &hearing, memory, packet);
         hold_completed(&hearing, memory);
@@ -297,7 +333,7 @@ void fuzz_call_hear(void)
 {
     if (one_in(2))
         fuzz_call_end();
-    if (one_in(2))
+    if (kept_calls.size == 0 || one_in(4))
         fuzz_call_open();
     for (uint64_t turn = random_between(1, 16); turn > 0; turn--) {
         struct mortisevane_calls calls = some_calls();

@@ -72,12 +72,15 @@ static void damage(struct mortisevane_chains *chains)
     }
 }
 
-/* The kept records, seldom damaged, random or begun anew. What an answer leaves is then gone on with or not. */
+/* The kept records, seldom damaged, random or begun anew, or records that may be. */
 static struct mortisevane_chains some_chains(void)
 {
     struct mortisevane_chains chains = kept_chains;
     if (one_in(64))
         damage(&chains);
+    if (one_in(256))
+        for (int slot = 0; slot < MORTISEVANE_SLOTS; slot++)
+            chains.slots[slot] = one_in(2) ? some_chain() : (struct mortisevane_chain) { 0 };
     if (one_in(256))
         chains = ask_fresh();
     if (one_in(64))

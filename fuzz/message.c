@@ -127,7 +127,7 @@ static struct mortisevane_written ask_write(struct row text, uint32_t kind, stru
     hold(written.number == 0 || written.check == 0, "K told although refused");
     hold((written.number == 0) == (written.words > 0), "words told although refused, or none");
     hold(written.words <= MORTISEVANE_PAGE_WORDS && written.check <= 15, "more than a page");
-    hold(written.number != MORTISEVANE_REFUSED_ROOM || words.length / 4 < MORTISEVANE_PAGE_WORDS, "refused room that is enough");
+    hold_room(written.number, words.length / 4, MORTISEVANE_PAGE_WORDS);
     return written;
 }
 
@@ -140,7 +140,7 @@ static struct mortisevane_page_read ask_page(uint32_t kind, uint32_t check, stru
     hold(read.number == 0 || (read.characters == 0 && all_zero(&read.numbering, sizeof read.numbering)),
         "fields told although refused");
     hold(read.characters <= MORTISEVANE_PAGE_CHARACTERS, "more than a page");
-    hold(read.number != MORTISEVANE_REFUSED_ROOM || text.length < MORTISEVANE_PAGE_CHARACTERS, "refused room that is enough");
+    hold_room(read.number, text.length, MORTISEVANE_PAGE_CHARACTERS);
     return read;
 }
 
@@ -210,7 +210,7 @@ static struct mortisevane_fragment_read ask_fragment(struct row words, struct ro
     answered(read.number);
     hold(read.number == 0 || all_zero(&read.continued, sizeof read - sizeof read.number), "fields told although refused");
     hold_written_only(text, 0, read.characters);
-    hold(read.number != MORTISEVANE_REFUSED_ROOM || text.length < MORTISEVANE_FRAGMENT_CHARACTERS, "refused room that is enough");
+    hold_room(read.number, text.length, MORTISEVANE_FRAGMENT_CHARACTERS);
     return read;
 }
 
@@ -328,7 +328,7 @@ static struct mortisevane_text_cut ask_cut(struct row text, size_t largest, stru
     hold((cut.number == 0) == (cut.words > 0) && (cut.number == 0) == (cut.fragments > 0),
         "fragments told although refused, or none");
     hold(cut.words <= MORTISEVANE_CUT_WORDS && cut.fragments <= cut.words, "more than a text");
-    hold(cut.number != MORTISEVANE_REFUSED_ROOM || words.length / 4 < MORTISEVANE_CUT_WORDS, "refused room that is enough");
+    hold_room(cut.number, words.length / 4, MORTISEVANE_CUT_WORDS);
     return cut;
 }
 
