@@ -77,7 +77,7 @@ static void on_fault(int signal_number, siginfo_t *information, void *context)
 {
     (void)context;
     if (signal_number == SIGSEGV || signal_number == SIGBUS)
-        fail(where_it_lies(information->si_addr));
+        fail(fault_told(information->si_addr));
     fail(strsignal(signal_number));
 }
 

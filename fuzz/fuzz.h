@@ -39,7 +39,7 @@ void hold(bool truth, const char *what);
 /* 1 is told only where less was lent than the header calls always enough. */
 void hold_room(uint32_t number, size_t lent, size_t enough);
 
-/* Every byte of an answer that is told as 0. The struct must have no padding. */
+/* Whether all bytes are 0, of a part of an answer that has no padding. */
 bool all_zero(const void *bytes, size_t length);
 
 /* ---- Random numbers (random.c) ---- */
@@ -86,8 +86,8 @@ extern struct memory read_memory, write_memory, chain_memory, call_memory;
 
 void map_memories(void);
 
-/* Which memory an address lies in or beside, for a fault; a sentence. */
-const char *where_it_lies(const void *address);
+/* What is told of a fault at an address: which memory was left, and to which side. */
+const char *fault_told(const void *address);
 
 /* A row: so many bytes at the front of a memory, right behind the page before it, or right before the page behind it. */
 struct row {
@@ -112,7 +112,7 @@ struct row lend_copy(const void *bytes, size_t length);
 /* What a row held before the call. */
 const void *as_before(struct row row);
 
-/* Says that the memory is as it is to be before a call, after it was filled. */
+/* Takes what a row holds now for what it held before the next call. */
 void remember(struct row row);
 
 /* After a call: nothing in all the memory is other than it was, but so many bytes from a place of the row on. */

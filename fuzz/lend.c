@@ -59,31 +59,31 @@ void map_memories(void)
         map_memory(memories[place]);
 }
 
-/* Where an address lies as seen from pages: NULL where it is far from them. */
-static const char *side_of(const uint8_t *pages, const uint8_t *address, const char *inside)
+/* What a fault at an address is, as seen from pages; NULL where it is far from them. Within them only a write faults. */
+static const char *fault_at(const uint8_t *pages, const uint8_t *address)
 {
     if (address >= pages - PAGE_BYTES && address < pages)
-        return "before";
+        return "an access before";
     if (address >= pages && address < pages + MEMORY_BYTES)
-        return inside;
+        return "a write to the read-only pages of";
     if (address >= pages + MEMORY_BYTES && address < pages + MEMORY_BYTES + PAGE_BYTES)
-        return "behind";
+        return "an access behind";
     return NULL;
 }
 
-const char *where_it_lies(const void *address)
+const char *fault_told(const void *address)
 {
     static char sentence[128];
     for (int place = 0; place < MEMORY_COUNT; place++) {
-        const char *side = side_of(memories[place]->writable, address, "in");
-        if (side == NULL)
-            side = side_of(memories[place]->read_only, address, "written in the read-only pages of");
-        if (side != NULL) {
-            snprintf(sentence, sizeof sentence, "a fault %s %s", side, memory_names[place]);
+        const char *fault = fault_at(memories[place]->writable, address);
+        if (fault == NULL)
+            fault = fault_at(memories[place]->read_only, address);
+        if (fault != NULL) {
+            snprintf(sentence, sizeof sentence, "%s %s", fault, memory_names[place]);
             return sentence;
         }
     }
-    return "a fault far from all that is lent";
+    return "an access far from all that is lent";
 }
 
 struct row row_at_front(struct memory *memory, size_t length)

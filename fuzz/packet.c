@@ -1,16 +1,16 @@
 /* Packets: building, reading, what may be sent; the mirror of the decoder. */
 #include "fuzz.h"
 
-/* How often each of a packet's fields is any number, else one of its width. */
-enum { DATA_BITS = 24, WILD_FIELD = 24 };
+/* The bits behind a packet's ID. */
+enum { DATA_BITS = 24 };
 
-/* Fields of these widths, of which now and then one is too large. */
+/* Fields of these widths; now and then some are too large, or all are any numbers. */
 static void fill_fields(uint32_t *fields, const unsigned *widths, size_t count)
 {
     bool wild = one_in(4);
     for (size_t place = 0; place < count; place++)
         fields[place] = (uint32_t)random_of_width(wild && one_in(2) ? 32 : widths[place]);
-    if (one_in(WILD_FIELD))
+    if (one_in(24))
         random_fill(fields, 4 * count);
 }
 
