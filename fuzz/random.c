@@ -1,4 +1,4 @@
-/* Random numbers by xorshift64*: the same for the same seed on every machine, so that a failure can be run again. */
+/* Random numbers by xorshift64*: the same for the same seed, so that a failure can be run again. */
 #include "fuzz.h"
 
 static uint64_t state;
