@@ -1,0 +1,275 @@
+/* Addresses and their words, CAPCODEs, frames. */
+#include <inttypes.h>
+#include <stdio.h>
+
+#include "fuzz.h"
+
+enum { WORD_BITS = 21 };
+
+/* ---- Addresses ---- */
+
+/* Both ends of Table 22's rows; an address near one of them is as likely as any number. */
+static const uint64_t range_ends[] = { 1, 1933312, 1998848, 2009088, 2025471, 2029567, 2029584, 2029599, 2031614, 2101249,
+    102101250, 402101250, 1075843072, 2149584896, 3223326720, 3923326750, 4280000000, 4285000000, 4290000000, 4291000000,
+    4297068542, 9999999999 };
+
+static uint64_t some_address(void)
+{
+    switch (random_below(4)) {
+    case 0:
+        return random_of_width(64);
+    case 1:
+        return range_ends[random_below(sizeof range_ends / sizeof *range_ends)] + random_below(5) - 2;
+    case 2:
+        return random_between(1, 2031614);
+    default:
+        return random_below(4400000000);
+    }
+}
+
+static struct mortisevane_words ask_words(uint64_t address)
+{
+    struct mortisevane_words words = CALL(address_words, address);
+    answered(words.number);
+    hold(words.number == 0 || (words.count | words.first | words.second) == 0, "fields told although refused");
+    return words;
+}
+
+static struct mortisevane_found ask_word(uint32_t word)
+{
+    struct mortisevane_found found = CALL(word_address, word);
+    answered(found.number);
+    hold(found.number == 0 || found.address == 0, "an address told although refused");
+    return found;
+}
+
+static struct mortisevane_found ask_pair(uint32_t first, uint32_t second)
+{
+    struct mortisevane_found found = CALL(pair_address, first, second);
+    answered(found.number);
+    hold(found.number == 0 || found.address == 0, "an address told although refused");
+    return found;
+}
+
+void fuzz_address_class(void)
+{
+    uint64_t address = some_address();
+    struct mortisevane_class class = CALL(address_class, address);
+    answered(class.number);
+    hold(class.number == 0 ? class.address_class >= MORTISEVANE_CLASS_SHORT
+                && class.address_class <= MORTISEVANE_CLASS_SET_23_INFORMATION_SERVICE
+                           : class.address_class == 0,
+        "no class");
+    struct mortisevane_words words = ask_words(address);
+    hold(words.number == class.number, "a class without words, or words without a class");
+}
+
+void fuzz_address_words(void)
+{
+    uint64_t address = some_address();
+    struct mortisevane_words words = ask_words(address);
+    if (words.number != 0)
+        return;
+    hold(words.count == 1 || words.count == 2, "neither one word nor two");
+    hold(words.first >> WORD_BITS == 0 && words.second >> WORD_BITS == 0, "a word over 21 bits");
+    hold(words.count == 2 || words.second == 0, "a second word of a short address");
+    struct mortisevane_found found = words.count == 1 ? ask_word(words.first) : ask_pair(words.first, words.second);
+    hold(found.number == 0 && found.address == address, "the words do not lead back to their address");
+}
+
+/* One of the words of an address with a bit changed or none, or any word. */
+static struct mortisevane_words some_words(void)
+{
+    struct mortisevane_words words = ask_words(some_address());
+    if (words.number != 0 || one_in(8)) {
+        words.first = (uint32_t)random_of_width(one_in(2) ? WORD_BITS : 32);
+        words.second = (uint32_t)random_of_width(one_in(2) ? WORD_BITS : 32);
+    } else if (one_in(4)) {
+        random_flip(one_in(2) ? &words.first : &words.second, sizeof words.first);
+    }
+    return words;
+}
+
+void fuzz_word_address(void)
+{
+    uint32_t word = some_words().first;
+    struct mortisevane_found found = ask_word(word);
+    if (found.number != 0)
+        return;
+    struct mortisevane_words words = ask_words(found.address);
+    hold(words.number == 0 && words.count == 1 && words.first == word, "the address does not lead back to its word");
+}
+
+void fuzz_pair_address(void)
+{
+    struct mortisevane_words asked = some_words();
+    struct mortisevane_found found = ask_pair(asked.first, asked.second);
+    if (found.number != 0)
+        return;
+    struct mortisevane_words words = ask_words(found.address);
+    hold(words.number == 0 && words.count == 2 && words.first == asked.first && words.second == asked.second,
+        "the address does not lead back to its words");
+}
+
+/* ---- CAPCODEs ---- */
+
+/* Letter, frame, collapse and address, as mostly belong together. */
+static struct mortisevane_capcode some_capcode(void)
+{
+    struct mortisevane_capcode capcode = { .address = some_address() };
+    if (one_in(4)) {
+        capcode.letter = (uint8_t)random_bits();
+        capcode.frame = (uint8_t)random_bits();
+        capcode.collapse = (uint8_t)random_bits();
+        return capcode;
+    }
+    capcode.letter = (uint8_t)random_between('A', one_in(4) ? 'Z' : 'H');
+    if (capcode.letter >= 'U')
+        capcode.frame = (uint8_t)random_below(130);
+    capcode.collapse = (uint8_t)random_below(one_in(8) ? 8 : 6);
+    if (one_in(16))
+        capcode.address = random_below(4);
+    return capcode;
+}
+
+static struct mortisevane_assignment ask_assignment(struct mortisevane_capcode capcode)
+{
+    struct mortisevane_assignment assignment = CALL(capcode_assign, capcode.letter, capcode.frame, capcode.collapse,
+        capcode.address);
+    answered(assignment.number);
+    hold(assignment.number == 0 || (assignment.phase | assignment.base) == 0, "fields told although refused");
+    hold(assignment.phase <= 4 && assignment.base <= 127, "no phase or no frame");
+    return assignment;
+}
+
+/* Prints into the row and gives how many bytes, or 0. */
+static size_t ask_print(struct mortisevane_capcode capcode, struct row out)
+{
+    struct mortisevane_length printed = CALL(capcode_print, capcode.letter, capcode.frame, capcode.collapse,
+        capcode.address, to_write(out), out.length);
+    answered(printed.number);
+    hold_written_only(out, 0, printed.length);
+    hold((printed.number == 0) == (printed.length > 0), "a length told although refused, or none");
+    hold(printed.length <= MORTISEVANE_CAPCODE_BYTES, "longer than a CAPCODE can be");
+    hold_room(printed.number, out.length, MORTISEVANE_CAPCODE_BYTES);
+    return printed.length;
+}
+
+static struct mortisevane_capcode ask_capcode(struct row text)
+{
+    struct mortisevane_capcode capcode = CALL(capcode_read, to_read(text), text.length);
+    answered(capcode.number);
+    hold(capcode.number == 0
+            || (capcode.letter | capcode.frame | capcode.collapse | capcode.phase | capcode.base | capcode.address) == 0,
+        "fields told although refused");
+    return capcode;
+}
+
+/* A text in the form, of any letter and address, so that what it says may still be refused; with its length. */
+static size_t form_capcode(char text[64])
+{
+    char letter = (char)(one_in(2) ? random_between('A', 'L') : random_between('U', 'Z'));
+    unsigned collapse = (unsigned)random_below(6);
+    uint64_t address = one_in(4) ? random_below(4) : some_address() % 10000000000;
+    int length = 0;
+    if (letter >= 'U')
+        length = snprintf(text, 64, "%03u%u", (unsigned)random_below(128), collapse);
+    else if (collapse != 4)
+        length = snprintf(text, 64, "%u", collapse);
+    length += snprintf(text + length, 64 - (size_t)length, "%c%0*" PRIu64, letter, address <= 2031614 ? 7 : 10, address);
+    return (size_t)length;
+}
+
+/* A text that was printed, one in the form, or characters of the form in any order; perhaps changed a little. */
+static struct row lend_some_capcode(void)
+{
+    static const char signs[] = "0123456789ABCDEFGHIUVWXYZ";
+    char text[64];
+    size_t length;
+    if (one_in(3)) {
+        struct row out = lend_row(&write_memory, MORTISEVANE_CAPCODE_BYTES);
+        length = ask_print(some_capcode(), out);
+        memcpy(text, to_fill(out), length);
+    } else if (!one_in(8)) {
+        length = form_capcode(text);
+    } else {
+        length = random_length(MORTISEVANE_CAPCODE_BYTES, sizeof text - 1);
+        for (size_t place = 0; place < length; place++)
+            text[place] = signs[random_below(place == 0 || place == 4 ? sizeof signs - 1 : 10)];
+    }
+    if (length > 0 && one_in(8))
+        random_flip(text, length);
+    if (one_in(16))
+        text[length++] = (char)random_bits();
+    else if (length > 0 && one_in(16))
+        length--;
+    return lend_copy(text, length);
+}
+
+void fuzz_capcode_read(void)
+{
+    struct row text = one_in(8) ? lend_row(&read_memory, random_length(16, MEMORY_BYTES)) : lend_some_capcode();
+    if (one_in(64))
+        random_fill(to_fill(text), text.length);
+    struct mortisevane_capcode capcode = ask_capcode(text);
+    if (capcode.number != 0)
+        return;
+    struct mortisevane_assignment assignment = ask_assignment(capcode);
+    hold(assignment.number == 0 && assignment.phase == capcode.phase && assignment.base == capcode.base,
+        "the value is assigned otherwise than the text");
+    struct row out = lend_row(&write_memory, MORTISEVANE_CAPCODE_BYTES);
+    size_t length = ask_print(capcode, out);
+    hold(length == text.length && memcmp(to_fill(out), to_read(text), length) == 0, "the value prints as another text");
+}
+
+void fuzz_capcode_assign(void)
+{
+    ask_assignment(some_capcode());
+}
+
+void fuzz_capcode_print(void)
+{
+    struct mortisevane_capcode printed = some_capcode();
+    struct row out = lend_row(&write_memory, random_length(MORTISEVANE_CAPCODE_BYTES, MEMORY_BYTES));
+    size_t length = ask_print(printed, out);
+    if (length == 0)
+        return;
+    struct mortisevane_capcode read = ask_capcode(lend_copy(to_fill(out), length));
+    hold(read.number == 0 && read.letter == printed.letter && read.frame == printed.frame
+            && read.collapse == printed.collapse && read.address == printed.address,
+        "the text reads as another value");
+}
+
+/* ---- Frames ---- */
+
+void fuzz_frames_wait(void)
+{
+    uint8_t from = (uint8_t)random_bits();
+    uint8_t to = (uint8_t)random_bits();
+    struct mortisevane_wait wait = CALL(frames_wait, from, to);
+    answered(wait.number);
+    hold((wait.number == 0) == (from <= 127 && to <= 127), "a frame over 127 taken, or another refused");
+    hold(wait.number == 0 ? wait.frames <= 127 && (from + wait.frames) % 128 == to : wait.frames == 0,
+        "the wait does not lead to the frame");
+}
+
+void fuzz_frames_listened(void)
+{
+    struct mortisevane_listeners listeners;
+    random_fill(&listeners, sizeof listeners);
+    if (!one_in(8)) {
+        listeners.count = (uint32_t)random_below(19);
+        for (int place = 0; place < 16; place++) {
+            listeners.listeners[place].frame &= 127;
+            listeners.listeners[place].collapse %= one_in(64) ? 8 : 6;
+        }
+    }
+    struct mortisevane_frames frames = CALL(frames_listened, listeners);
+    answered(frames.number);
+    hold(frames.number == 0 || all_zero(&frames.count, sizeof frames - sizeof frames.number), "frames told although refused");
+    uint32_t marked = 0;
+    for (int packet = 0; packet < 8; packet++)
+        for (int bit = 0; bit < 16; bit++)
+            marked += frames.masks[packet] >> bit & 1;
+    hold(marked == frames.count, "the count is not that of the marked frames");
+}

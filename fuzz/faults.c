@@ -1,0 +1,186 @@
+/*
+ * Faults that the fuzzing must notice, for tools/fuzz --try-faults: each stands before an export of the library (the
+ * linker's --wrap) and spoils its answer, or what was lent, where the environment's FAULT names it. Without a name every
+ * export is as it was.
+ */
+#include <stdlib.h>
+#include <string.h>
+
+#include "mortisevane.h"
+
+/* What a fault reads goes here, so that it is read. */
+static volatile uint32_t read_there;
+
+static int is_fault(const char *name)
+{
+    static const char *chosen;
+    if (chosen == NULL)
+        chosen = getenv("FAULT");
+    return chosen != NULL && strcmp(chosen, name) == 0;
+}
+
+/* The export as the library has it, and the one that is called in its stead. */
+#define STANDS_BEFORE(result, name, ...) \
+    result __real_mortisevane_##name(__VA_ARGS__); \
+    result __wrap_mortisevane_##name(__VA_ARGS__); \
+    result __wrap_mortisevane_##name(__VA_ARGS__)
+
+STANDS_BEFORE(uint32_t, sum_six_bit, const uint32_t *words, size_t words_length)
+{
+    if (is_fault("reads_a_word_behind"))
+        read_there = words[words_length];
+    return __real_mortisevane_sum_six_bit(words, words_length);
+}
+
+STANDS_BEFORE(uint32_t, sum_signature, const uint8_t *characters, size_t characters_length)
+{
+    if (is_fault("reads_a_byte_before"))
+        read_there = characters[-1];
+    if (is_fault("reads_where_there_is_none") && characters_length == 0)
+        read_there = characters[0];
+    return __real_mortisevane_sum_signature(characters, characters_length);
+}
+
+STANDS_BEFORE(uint32_t, sum_ten_bit, const uint32_t *words, size_t words_length)
+{
+    if (is_fault("writes_what_is_lent_for_reading") && words_length > 0)
+        *(volatile uint32_t *)(uintptr_t)words = words[0];
+    return __real_mortisevane_sum_ten_bit(words, words_length);
+}
+
+STANDS_BEFORE(struct mortisevane_length, capcode_print, uint8_t letter, uint8_t frame, uint8_t collapse, uint64_t address,
+    uint8_t *out, size_t out_length)
+{
+    struct mortisevane_length printed = __real_mortisevane_capcode_print(letter, frame, collapse, address, out, out_length);
+    if (is_fault("writes_a_byte_behind_the_row"))
+        out[out_length] = 0;
+    if (is_fault("writes_a_zero_behind_the_text") && printed.number == 0 && printed.length < out_length)
+        out[printed.length] = 0;
+    return printed;
+}
+
+STANDS_BEFORE(struct mortisevane_page_read, numeric_read, uint32_t kind, uint32_t check, const uint32_t *words,
+    size_t words_length, uint8_t *text, size_t text_length)
+{
+    struct mortisevane_page_read read = __real_mortisevane_numeric_read(kind, check, words, words_length, text, text_length);
+    if (is_fault("writes_although_refused") && read.number == MORTISEVANE_REFUSED_CHECKSUM && text_length > 0)
+        text[text_length - 1] ^= 1;
+    if (is_fault("loses_the_first_zero") && read.characters > 0 && text[0] == '0')
+        text[0] = ' ';
+    return read;
+}
+
+STANDS_BEFORE(struct mortisevane_class, address_class, uint64_t address)
+{
+    struct mortisevane_class class = __real_mortisevane_address_class(address);
+    if (is_fault("answers_19") && address == 0)
+        class.number = 19;
+    return class;
+}
+
+STANDS_BEFORE(struct mortisevane_found, pair_address, uint32_t first, uint32_t second)
+{
+    uint32_t words[3] = { first, second };
+    read_there = sizeof first + sizeof second;
+    if (is_fault("copies_words_over_themselves"))
+        memcpy(words + 1, words, read_there);
+    return __real_mortisevane_pair_address(first, second);
+}
+
+STANDS_BEFORE(struct mortisevane_status_read, read_status, uint32_t packet)
+{
+    struct mortisevane_status_read read = __real_mortisevane_read_status(packet);
+    if (is_fault("refuses_by_a_number_of_another_export") && read.number != 0)
+        read.number = MORTISEVANE_REFUSED_ADDRESS;
+    return read;
+}
+
+STANDS_BEFORE(struct mortisevane_control_read, read_control, uint32_t packet)
+{
+    struct mortisevane_control_read read = __real_mortisevane_read_control(packet);
+    if (is_fault("tells_fields_although_refused") && read.number != 0)
+        read.fields.on = packet & 1;
+    return read;
+}
+
+STANDS_BEFORE(struct mortisevane_message_read, read_message, uint32_t packet)
+{
+    if (is_fault("accepts_nothing"))
+        packet = UINT32_MAX;
+    return __real_mortisevane_read_message(packet);
+}
+
+STANDS_BEFORE(struct mortisevane_assignment, capcode_assign, uint8_t letter, uint8_t frame, uint8_t collapse, uint64_t address)
+{
+    struct mortisevane_assignment assignment = __real_mortisevane_capcode_assign(letter, frame, collapse, address);
+    if (is_fault("never_refuses_by_6") && assignment.number == MORTISEVANE_REFUSED_OFFSET)
+        assignment.number = MORTISEVANE_REFUSED_RANGE;
+    return assignment;
+}
+
+STANDS_BEFORE(struct mortisevane_built, mirror_closing, struct mortisevane_mirror mirror)
+{
+    struct mortisevane_built built = __real_mortisevane_mirror_closing(mirror);
+    if (is_fault("closes_with_a_wrong_checksum") && built.number == 0)
+        built.packet.bits ^= 0x800000;
+    return built;
+}
+
+STANDS_BEFORE(struct mortisevane_text_cut, text_cut, const uint8_t *text, size_t text_length, struct mortisevane_marks marks,
+    size_t largest, uint32_t *words, size_t words_length)
+{
+    struct mortisevane_text_cut cut = __real_mortisevane_text_cut(text, text_length, marks, largest, words, words_length);
+    if (is_fault("writes_a_word_too_many") && cut.words < words_length && cut.number == 0)
+        words[cut.words] = 0;
+    return cut;
+}
+
+STANDS_BEFORE(struct mortisevane_chain_step, chain_step, struct mortisevane_chains chains, uint8_t *buffer,
+    size_t buffer_length, uint32_t address, const uint32_t *words, size_t words_length)
+{
+    struct mortisevane_chain_step step
+        = __real_mortisevane_chain_step(chains, buffer, buffer_length, address, words, words_length);
+    if (is_fault("writes_into_another_slot") && step.answer.complete == 1)
+        buffer[(step.answer.place + MORTISEVANE_TEXT_CHARACTERS) % MORTISEVANE_CHAIN_BYTES] ^= 1;
+    if (is_fault("joins_although_full") && step.answer.number == MORTISEVANE_REFUSED_FULL)
+        buffer[0] ^= 1;
+    if (is_fault("changes_a_record_although_refused") && step.answer.number == MORTISEVANE_REFUSED_DAMAGED)
+        step.chains.slots[7].sum ^= 1;
+    return step;
+}
+
+STANDS_BEFORE(struct mortisevane_call_hearing, call_hear, struct mortisevane_calls calls, uint32_t *memory,
+    size_t memory_length, uint32_t bits)
+{
+    struct mortisevane_call_hearing hearing = __real_mortisevane_call_hear(calls, memory, memory_length, bits);
+    if (is_fault("writes_a_word_to_no_call") && hearing.answer.number == 0 && calls.size < MORTISEVANE_CALLS)
+        memory[MORTISEVANE_CALL_WORDS - 1] ^= 1;
+    if (is_fault("completes_a_call_too_soon") && hearing.answer.is_vector == 1)
+        hearing.answer.completed |= 1u << hearing.answer.call;
+    return hearing;
+}
+
+STANDS_BEFORE(struct mortisevane_frame_end, call_end, struct mortisevane_calls calls, const uint32_t *memory,
+    size_t memory_length)
+{
+    struct mortisevane_frame_end end = __real_mortisevane_call_end(calls, memory, memory_length);
+    if (is_fault("lists_the_calls_in_another_order") && end.incomplete.size >= 2) {
+        end.incomplete.calls[0] = end.incomplete.calls[1];
+        end.incomplete.calls[1] = calls.calls[0];
+    }
+    return end;
+}
+
+STANDS_BEFORE(struct mortisevane_frames, frames_listened, struct mortisevane_listeners listeners)
+{
+    if (is_fault("is_no_instruction"))
+        __builtin_trap();
+    return __real_mortisevane_frames_listened(listeners);
+}
+
+STANDS_BEFORE(struct mortisevane_mirrored, mirror_step, struct mortisevane_mirror mirror, uint32_t packet)
+{
+    while (is_fault("does_not_return"))
+        read_there = packet;
+    return __real_mortisevane_mirror_step(mirror, packet);
+}

@@ -1,0 +1,148 @@
+/* What the parts of the fuzzing share: the exports, random numbers, lent memory, and what is held of an answer. */
+#ifndef FUZZ_H
+#define FUZZ_H
+
+#include <stdbool.h>
+#include <string.h>
+
+#include "mortisevane.h"
+
+/* ---- The exports, which tools/fuzz takes from the header with the refusals that each names ---- */
+
+enum export {
+#define EXPORT(name, refusals) EXPORT_##name,
+#include "exports.inc"
+#undef EXPORT
+    EXPORT_COUNT
+};
+
+/* One for each export: makes inputs for it, calls it, and holds its answers to what the header says. */
+#define EXPORT(name, refusals) void fuzz_##name(void);
+#include "exports.inc"
+#undef EXPORT
+
+/* A call of an export, which is counted and told where something fails in it. */
+#define CALL(name, ...) (begin_call(EXPORT_##name), mortisevane_##name(__VA_ARGS__))
+
+/* What is said before a call .. */
+void begin_call(enum export called);
+
+/*
+ * .. and after it: the number is one that 01 has and that the header names for the export. An export without a
+ * `number` is told by 0.
+ */
+void answered(uint32_t number);
+
+/* Ends the run with a failure where the truth does not hold. */
+void hold(bool truth, const char *what);
+
+/* 1 is told only where less was lent than the header calls always enough. */
+void hold_room(uint32_t number, size_t lent, size_t enough);
+
+/* Whether all bytes are 0, of a part of an answer that has no padding. */
+bool all_zero(const void *bytes, size_t length);
+
+/* ---- Random numbers (random.c) ---- */
+
+void random_seed(uint64_t seed);
+uint64_t random_bits(void);
+
+/* 0 to limit - 1. */
+uint64_t random_below(uint64_t limit);
+
+/* From least to most, both with it. */
+uint64_t random_between(uint64_t least, uint64_t most);
+
+/* True in one of so many cases. */
+bool one_in(uint64_t cases);
+
+/* A number of at most so many bits, whose count of bits is random too: small numbers come as often as large ones. */
+uint64_t random_of_width(unsigned most_bits);
+
+/* How many a row has: mostly up to a usual number or near it; sometimes none, sometimes up to a most. */
+size_t random_length(size_t usual, size_t most);
+
+void random_fill(void *bytes, size_t length);
+
+/* Changes one bit of a row that is not empty. */
+void random_flip(void *bytes, size_t length);
+
+/* ---- Lent memory (lend.c) ---- */
+
+enum { MEMORY_BYTES = 4 * 4096, MEMORY_WORDS = MEMORY_BYTES / 4 };
+
+/*
+ * Pages that no byte before and no byte behind can be reached from: the pages on both sides are inaccessible. They
+ * are mapped twice, so that what is lent for reading cannot be written. `before` is what they held before a call.
+ */
+struct memory {
+    uint8_t *writable;
+    uint8_t *read_only;
+    uint8_t *before;
+};
+
+/* What exports are lent: texts and words to read, room to write in, the buffer of chains, the words of calls. */
+extern struct memory read_memory, write_memory, chain_memory, call_memory;
+
+void map_memories(void);
+
+/* What is told of a fault at an address: which memory was left, and to which side. */
+const char *fault_told(const void *address);
+
+/* A row: so many bytes at the front of a memory, right behind the page before it, or right before the page behind it. */
+struct row {
+    struct memory *memory;
+    size_t place;
+    size_t length;
+};
+
+/* A row at one of the two ends, by chance. */
+struct row lend_row(struct memory *memory, size_t length);
+struct row row_at_front(struct memory *memory, size_t length);
+struct row row_at_end(struct memory *memory, size_t length);
+
+/* The row as its three users see it: the fuzzing fills it, an export reads it, an export writes it. */
+void *to_fill(struct row row);
+const void *to_read(struct row row);
+void *to_write(struct row row);
+
+/* A row of the memory for reading, with a copy of these bytes. */
+struct row lend_copy(const void *bytes, size_t length);
+
+/* What a row held before the call. */
+const void *as_before(struct row row);
+
+/* Takes what a row holds now for what it held before the next call. */
+void remember(struct row row);
+
+/* After a call: nothing in all the memory is other than it was, but so many bytes from a place of the row on. */
+void hold_written_only(struct row row, size_t from, size_t length);
+void hold_unwritten(struct row row);
+
+/* ---- Messages, for the exports that take words (message.c) ---- */
+
+/* A text that mortisevane_text_cut took, with its words. */
+struct message {
+    uint32_t words[MORTISEVANE_CUT_WORDS];
+    uint8_t text[MORTISEVANE_TEXT_CHARACTERS];
+    size_t characters;
+    size_t largest;
+    size_t fragments;
+    size_t total;
+    uint32_t address;
+    size_t next;
+};
+
+/* One of the messages that were cut last. */
+struct message *some_message(void);
+
+/* The words of one of its fragments, lent for reading. */
+struct row lend_fragment(const struct message *message, size_t fragment);
+
+/* The words of a fragment as they may come: good, changed by a bit, changed and summed again, or any words. */
+struct row lend_some_fragment(const struct message *message, size_t fragment);
+
+/* Any words: of 32 bits, of 21, or of few; many of them or none. */
+struct row lend_some_words(size_t usual);
+
+#endif
