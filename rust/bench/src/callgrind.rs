@@ -11,11 +11,15 @@ const CALLER: &str = "measure::repeated";
 
 /// The instructions of one call, from its first instruction to its return.
 pub fn instructions(file: &Path) -> Result<u64, String> {
-    let text = fs::read_to_string(file).map_err(|error: io::Error| format!("{}: {error}", file.display()))?;
+    let text = fs::read_to_string(file)
+        .map_err(|error: io::Error| format!("{}: {error}", file.display()))?;
     let (calls, total) = calls_of(&text, CALLER)?;
     // One call each, and nothing else: no copying that the compiler put into the loop, no operation taken apart.
     if calls != CALLS as u64 {
-        return Err(format!("{}: {calls} calls are counted, not {CALLS}", file.display()));
+        return Err(format!(
+            "{}: {calls} calls are counted, not {CALLS}",
+            file.display()
+        ));
     }
     // The calls need not be alike to the instruction: the second program allocates, and a copy of bytes depends on
     // where they lie.

@@ -1,8 +1,10 @@
 //! Counts the instructions and the stack of the library's exports beside the second program's.
 //!
-//!     bench count [GROUP]             runs every row; to be run under callgrind (tools/bench)
-//!     bench write FOLDER [GROUP]      writes the tables from what callgrind wrote into the folder
+//!     bench count [GROUP]                     runs every row, or a group's; to be run under callgrind (tools/bench)
+//!     bench show FOLDER GROUP                 writes a group's table from what callgrind wrote into the folder
+//!     bench document FOLDER ARCHIVE WHY       writes docs/BENCHMARKS.md whole; WHY is the file with its last section
 
+mod bytes;
 mod callgrind;
 mod measure;
 mod messages;
@@ -29,9 +31,14 @@ fn main() -> ExitCode {
     let done = match arguments.as_slice() {
         ["count"] => count(""),
         ["count", group] => count(group),
-        ["write", folder] => table::write(Path::new(folder), ""),
-        ["write", folder, group] => table::write(Path::new(folder), group),
-        _ => Err("usage: bench count [GROUP] | bench write FOLDER [GROUP]".to_owned()),
+        ["show", folder, group] => table::show(Path::new(folder), group),
+        ["document", folder, archive, why] => {
+            table::document(Path::new(folder), Path::new(archive), Path::new(why))
+        }
+        _ => Err(
+            "usage: bench count [GROUP] | show FOLDER GROUP | document FOLDER ARCHIVE WHY"
+                .to_owned(),
+        ),
     };
     match done {
         Ok(()) => ExitCode::SUCCESS,

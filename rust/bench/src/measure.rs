@@ -19,7 +19,11 @@ pub struct Side<State, Call, Tell> {
     pub tell: Tell,
 }
 
-pub fn side<State, Answer, Call, Tell>(state: State, call: Call, tell: Tell) -> Side<State, Call, Tell>
+pub fn side<State, Answer, Call, Tell>(
+    state: State,
+    call: Call,
+    tell: Tell,
+) -> Side<State, Call, Tell>
 where
     Call: Fn(&mut State) -> Answer,
     Tell: Fn(&State, &Answer) -> Told,

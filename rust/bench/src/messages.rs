@@ -1,4 +1,4 @@
-//! Texts and their fragments, from the second program.
+//! Texts and their fragments, from the second program; and how rows are named.
 
 use second::fragment::{self, Marks, ETX, LONGEST_TEXT};
 
@@ -23,5 +23,16 @@ pub fn numbered_fragments_of(text: &[u8], largest: usize, message_number: u32) -
     };
     let mut words = vec![0; 2 * (LONGEST_TEXT / 3 + 1)];
     let cut = fragment::cut(text, marks, largest, &mut words).expect("the text can be cut");
-    words[..cut.words].chunks(largest).map(<[u32]>::to_vec).collect()
+    words[..cut.words]
+        .chunks(largest)
+        .map(<[u32]>::to_vec)
+        .collect()
+}
+
+/// So many of a thing.
+pub fn counted(number: u32, thing: &str) -> String {
+    match number {
+        1 => format!("1 {thing}"),
+        _ => format!("{number} {thing}s"),
+    }
 }

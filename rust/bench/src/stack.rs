@@ -16,10 +16,7 @@ const PAINTED: usize = 64 * 1024;
 const PAINT: u8 = 0xA5;
 
 #[inline(never)]
-pub fn depth<State: Clone, Answer>(
-    state: &State,
-    call: &impl Fn(&mut State) -> Answer,
-) -> Depth {
+pub fn depth<State: Clone, Answer>(state: &State, call: &impl Fn(&mut State) -> Answer) -> Depth {
     // What the loader and the allocator do once is not the operation's.
     called(&mut state.clone(), call);
     let mut state = state.clone();
@@ -27,9 +24,11 @@ pub fn depth<State: Clone, Answer>(
     let lowest = paint();
     let own_from = called(&mut state, call);
     let touched = lowest_touched(lowest);
+    // Registers are saved eight bytes at a time; the lowest of them may happen to be as painted.
+    let whole = |bytes: usize| bytes.next_multiple_of(8);
     Depth {
-        own: own_from - touched,
-        with_caller: with_caller_from - touched,
+        own: whole(own_from - touched),
+        with_caller: whole(with_caller_from - touched),
     }
 }
 

@@ -16,6 +16,8 @@ pub fn rows(measure: &mut Measure) {
     ];
     for (input, address) in addresses {
         class(measure, input, address);
+    }
+    for (input, address) in addresses {
         words(measure, input, address);
     }
     word(measure, "of a short address", 0x00_8001);

@@ -59,7 +59,8 @@ impl Frame {
     /// With so many calls that share the words from 10 to 87: a page for a group. Their vectors have come.
     pub fn of_group(calls: u32) -> Frame {
         let vectors = 2..2 + calls;
-        Frame::with_vectors_at(vectors.clone()).after(vectors.map(|vector| vector_packet(vector, 78, 10)))
+        Frame::with_vectors_at(vectors.clone())
+            .after(vectors.map(|vector| vector_packet(vector, 78, 10)))
     }
 
     /// With one call of all 85 words, and so many others that await their words 60 to 87.
@@ -103,59 +104,172 @@ fn fresh(measure: &mut Measure) {
 fn opens(measure: &mut Measure) {
     let packet = address_packet(40);
     open(measure, "0 open", &Frame::with_vectors_at([]), packet);
-    open(measure, "7 open, their vectors awaited", &Frame::with_vectors_at(2..9), packet);
-    open(measure, "7 open, their words awaited", &Frame::of_group(7), packet);
-    open(measure, "tone-only, 7 open", &Frame::of_group(7), packet | 0x80);
-    open(measure, "refused 7: another packet, 7 open", &Frame::of_group(7), 0x0200_0000);
-    open(measure, "refused 14: open already, 7 open", &Frame::of_group(7), address_packet(8));
+    open(
+        measure,
+        "7 open, their vectors awaited",
+        &Frame::with_vectors_at(2..9),
+        packet,
+    );
+    open(
+        measure,
+        "7 open, their words awaited",
+        &Frame::of_group(7),
+        packet,
+    );
+    open(
+        measure,
+        "tone-only, 7 open",
+        &Frame::of_group(7),
+        packet | 0x80,
+    );
+    open(
+        measure,
+        "refused 7: another packet, 7 open",
+        &Frame::of_group(7),
+        0x0200_0000,
+    );
+    open(
+        measure,
+        "refused 14: open already, 7 open",
+        &Frame::of_group(7),
+        address_packet(8),
+    );
     open(measure, "refused 12: 8 open", &Frame::of_group(8), packet);
 }
 
 fn vectors(measure: &mut Measure) {
     let one = Frame::with_vectors_at([2]);
-    hear(measure, "a vector of 1 word, its call alone", &one, vector_packet(2, 1, 3));
-    hear(measure, "a vector of 85 words, its call alone", &one, vector_packet(2, 85, 3));
+    hear(
+        measure,
+        "a vector of 1 word, its call alone",
+        &one,
+        vector_packet(2, 1, 3),
+    );
+    hear(
+        measure,
+        "a vector of 85 words, its call alone",
+        &one,
+        vector_packet(2, 85, 3),
+    );
     let short_message = 2 << 24 | VECTOR_SHORT << 16;
-    hear(measure, "a vector without words, its call alone", &one, short_message);
+    hear(
+        measure,
+        "a vector without words, its call alone",
+        &one,
+        short_message,
+    );
     let eight = Frame::with_vectors_at([3, 4, 5, 6, 7, 8, 9, 2]);
     let heard = (3..10).map(|vector| vector_packet(vector, 78, 10));
     let eight = eight.after(heard);
-    hear(measure, "a vector of 85 words, 7 others open", &eight, vector_packet(2, 85, 3));
-    hear(measure, "refused 9: a vector of 0 words, 7 others open", &eight, vector_packet(2, 0, 3));
-    hear(measure, "refused 14: a vector again, 8 open", &Frame::of_group(8), vector_packet(9, 78, 10));
+    hear(
+        measure,
+        "a vector of 85 words, 7 others open",
+        &eight,
+        vector_packet(2, 85, 3),
+    );
+    hear(
+        measure,
+        "refused 9: a vector of 0 words, 7 others open",
+        &eight,
+        vector_packet(2, 0, 3),
+    );
+    hear(
+        measure,
+        "refused 14: a vector again, 8 open",
+        &Frame::of_group(8),
+        vector_packet(9, 78, 10),
+    );
 }
 
 fn words(measure: &mut Measure) {
     let one = Frame::with_vectors_at([2]).after([vector_packet(2, 2, 3)]);
-    hear(measure, "a word, to the one call open, of 2 words", &one, message_packet(3));
+    hear(
+        measure,
+        "a word, to the one call open, of 2 words",
+        &one,
+        message_packet(3),
+    );
     let largest = Frame::of_largest(0);
-    hear(measure, "a word, to the one call open, of 85 words", &largest, message_packet(3));
+    hear(
+        measure,
+        "a word, to the one call open, of 85 words",
+        &largest,
+        message_packet(3),
+    );
     let nearly = largest.after((3..87).map(message_packet));
-    hear(measure, "the word that completes 85 words, its call alone", &nearly, message_packet(87));
+    hear(
+        measure,
+        "the word that completes 85 words, its call alone",
+        &nearly,
+        message_packet(87),
+    );
     let largest = Frame::of_largest(7);
-    hear(measure, "a word, to one of 8 calls", &largest, message_packet(20));
+    hear(
+        measure,
+        "a word, to one of 8 calls",
+        &largest,
+        message_packet(20),
+    );
     let group = Frame::of_group(8);
     hear(measure, "a word, to 8 calls", &group, message_packet(10));
     let nearly = group.after((10..87).map(message_packet));
-    hear(measure, "the word that completes 8 calls of 78 words", &nearly, message_packet(87));
+    hear(
+        measure,
+        "the word that completes 8 calls of 78 words",
+        &nearly,
+        message_packet(87),
+    );
 }
 
 fn refused_words(measure: &mut Measure) {
     let group = Frame::of_group(8);
     let none = Frame::with_vectors_at([]);
-    hear(measure, "refused 7: another packet, 8 open", &group, 0x5800_0000);
-    hear(measure, "refused 10: a word in error, 8 open", &group, message_packet(10) | 1 << 23);
-    hear(measure, "refused 17: a word of no call, 0 open", &none, message_packet(10));
-    hear(measure, "refused 17: a word of no call, 8 open", &group, message_packet(10) ^ 1 << 21);
+    hear(
+        measure,
+        "refused 7: another packet, 8 open",
+        &group,
+        0x5800_0000,
+    );
+    hear(
+        measure,
+        "refused 10: a word in error, 8 open",
+        &group,
+        message_packet(10) | 1 << 23,
+    );
+    hear(
+        measure,
+        "refused 17: a word of no call, 0 open",
+        &none,
+        message_packet(10),
+    );
+    hear(
+        measure,
+        "refused 17: a word of no call, 8 open",
+        &group,
+        message_packet(10) ^ 1 << 21,
+    );
     let again = group.after([message_packet(87)]);
-    hear(measure, "refused 14: a word again, 8 open", &again, message_packet(87));
+    hear(
+        measure,
+        "refused 14: a word again, 8 open",
+        &again,
+        message_packet(87),
+    );
 }
 
 fn ends(measure: &mut Measure) {
     end(measure, "0 open", &Frame::with_vectors_at([]));
-    end(measure, "8 open, their vectors awaited", &Frame::with_vectors_at(2..10));
+    end(
+        measure,
+        "8 open, their vectors awaited",
+        &Frame::with_vectors_at(2..10),
+    );
     let lacking_last = Frame::of_group(8).after((10..87).map(message_packet));
-    end(measure, "8 open, each without the last of 78 words", &lacking_last);
+    end(
+        measure,
+        "8 open, each without the last of 78 words",
+        &lacking_last,
+    );
     let complete = lacking_last.after([message_packet(87)]);
     end(measure, "8 open, all complete, of 78 words", &complete);
     let mut unsound = Frame::of_group(8);
@@ -212,7 +326,12 @@ pub fn open(measure: &mut Measure, input: &str, frame: &Frame, packet: u32) {
                 opening.answer
             },
             |calls, opened| {
-                let CallOpened { number, opened, call, fields } = *opened;
+                let CallOpened {
+                    number,
+                    opened,
+                    call,
+                    fields,
+                } = *opened;
                 let answer = vec![number.into(), opened.into(), call as u64];
                 [answer, told(&words_of(&fields)), told_calls(calls)].concat()
             },
@@ -251,7 +370,14 @@ pub fn hear(measure: &mut Measure, input: &str, frame: &Frame, packet: u32) {
                 hearing.answer
             },
             |(calls, memory), heard| {
-                let CallHeard { number, is_vector, call, kind, check, completed } = *heard;
+                let CallHeard {
+                    number,
+                    is_vector,
+                    call,
+                    kind,
+                    check,
+                    completed,
+                } = *heard;
                 let answer = vec![number.into(), is_vector.into(), call as u64];
                 let rest = told(&[kind, check, completed]);
                 [answer, rest, told_calls(calls), told(memory)].concat()
@@ -271,7 +397,12 @@ fn told_heard(heard: &Result<Heard, Refusal>) -> Told {
     match *heard {
         Err(refusal) => [told(&[refusal.number()]), vec![0; 5]].concat(),
         Ok(Heard::Word { completed }) => vec![0, 0, 0, 0, 0, completed.into()],
-        Ok(Heard::Vector { call, kind, check, is_complete }) => {
+        Ok(Heard::Vector {
+            call,
+            kind,
+            check,
+            is_complete,
+        }) => {
             let completed = u64::from(is_complete) << call;
             vec![0, 1, call as u64, kind.into(), check.into(), completed]
         }

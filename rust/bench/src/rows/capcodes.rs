@@ -48,7 +48,12 @@ pub fn rows(measure: &mut Measure) {
     for (input, capcode) in [SHORT, LONG, REFUSED] {
         print(measure, input, capcode, CAPCODE_BYTES);
     }
-    print(measure, "refused 1: 14 bytes lent", LONG.1, CAPCODE_BYTES - 1);
+    print(
+        measure,
+        "refused 1: 14 bytes lent",
+        LONG.1,
+        CAPCODE_BYTES - 1,
+    );
 }
 
 fn read(measure: &mut Measure, input: &str, text: &[u8]) {
@@ -61,7 +66,13 @@ fn read(measure: &mut Measure, input: &str, text: &[u8]) {
             text,
             |text| unsafe { mortisevane_capcode_read(text.as_ptr(), text.len()) },
             |_, read| {
-                let small = [read.letter, read.frame, read.collapse, read.phase, read.base];
+                let small = [
+                    read.letter,
+                    read.frame,
+                    read.collapse,
+                    read.phase,
+                    read.base,
+                ];
                 let small = bytes(&small);
                 [vec![read.number.into()], small, vec![read.address]].concat()
             },
@@ -131,7 +142,11 @@ fn print(measure: &mut Measure, input: &str, capcode: SecondCapcode, room: usize
                 mortisevane_capcode_print(letter, frame, collapse, address, out, room)
             },
             |(_, lent), printed| {
-                [vec![printed.number.into(), printed.length as u64], bytes(lent)].concat()
+                [
+                    vec![printed.number.into(), printed.length as u64],
+                    bytes(lent),
+                ]
+                .concat()
             },
         ),
         side(

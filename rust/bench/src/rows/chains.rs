@@ -50,7 +50,10 @@ fn steps(measure: &mut Measure, words: usize, others: u32) {
     let fragments = fragments_of(&text(characters), words);
     let page = fragments_of(&text(3 * (words - 1) - 1), words);
     assert_eq!((fragments.len(), page.len()), (3, 1));
-    assert!(fragments.iter().chain(&page).all(|fragment| fragment.len() == words));
+    assert!(fragments
+        .iter()
+        .chain(&page)
+        .all(|fragment| fragment.len() == words));
     let open = others_open(others);
     let begun = after(&open, &fragments[..1]);
     let nearly_done = after(&open, &fragments[..2]);
@@ -63,7 +66,11 @@ fn steps(measure: &mut Measure, words: usize, others: u32) {
 
 fn refused(measure: &mut Measure) {
     for words in [2, FRAGMENT_WORDS] {
-        let characters = if words == 2 { 8 } else { 3 * FRAGMENT_CHARACTERS - 1 };
+        let characters = if words == 2 {
+            8
+        } else {
+            3 * FRAGMENT_CHARACTERS - 1
+        };
         let fragments = fragments_of(&text(characters), words);
         for others in [0, 7] {
             let begun = after(&others_open(others), &fragments[..1]);
@@ -79,12 +86,37 @@ fn refused(measure: &mut Measure) {
     }
     let first = &fragments_of(&text(8), 2)[0];
     let later = &fragments_of(&text(8), 2)[1];
-    step(measure, "refused 13: no chain is open, 2 words", &others_open(0), later);
-    step(measure, "refused 13: 8 others open, 2 words", &others_open(8), later);
-    step(measure, "refused 12: 8 others open, 2 words", &others_open(8), first);
+    step(
+        measure,
+        "refused 13: no chain is open, 2 words",
+        &others_open(0),
+        later,
+    );
+    step(
+        measure,
+        "refused 13: 8 others open, 2 words",
+        &others_open(8),
+        later,
+    );
+    step(
+        measure,
+        "refused 12: 8 others open, 2 words",
+        &others_open(8),
+        first,
+    );
     let large = &fragments_of(&text(TEXT_CHARACTERS), FRAGMENT_WORDS)[0];
-    step(measure, "refused 12: 8 others open, 85 words", &others_open(8), large);
-    step(measure, "refused 2: of 8 open two have one key", &unsound(), first);
+    step(
+        measure,
+        "refused 12: 8 others open, 85 words",
+        &others_open(8),
+        large,
+    );
+    step(
+        measure,
+        "refused 2: of 8 open two have one key",
+        &unsound(),
+        first,
+    );
 }
 
 /// Told by the last two of the records.
@@ -144,7 +176,14 @@ pub fn as_lent(chains: &SecondChains) -> Chains {
 
 pub fn told_chains(chains: &Chains) -> Told {
     let record = |chain: &Chain| {
-        let Chain { is_open, address, message_number, next_fragment, sum, characters } = *chain;
+        let Chain {
+            is_open,
+            address,
+            message_number,
+            next_fragment,
+            sum,
+            characters,
+        } = *chain;
         let small = told(&[is_open, address, message_number, next_fragment, sum]);
         [small, vec![characters as u64]].concat()
     };
@@ -156,7 +195,9 @@ pub fn told_chains(chains: &Chains) -> Told {
 pub fn stepped(chains: &mut Chains, buffer: &mut [u8], words: &[u32]) -> ChainAnswer {
     let (place, size) = (buffer.as_mut_ptr(), buffer.len());
     // SAFETY: both rows are lent as long as they are, and share no byte.
-    let step = unsafe { mortisevane_chain_step(*chains, place, size, ADDRESS, words.as_ptr(), words.len()) };
+    let step = unsafe {
+        mortisevane_chain_step(*chains, place, size, ADDRESS, words.as_ptr(), words.len())
+    };
     *chains = step.chains;
     step.answer
 }
@@ -187,7 +228,17 @@ pub fn step(measure: &mut Measure, input: &str, before: &SecondChains, words: &[
 }
 
 pub fn told_answer(answer: &ChainAnswer) -> Told {
-    let ChainAnswer { number, lost, begun, retrieval, mail_drop, complete, slot, place, characters } = *answer;
+    let ChainAnswer {
+        number,
+        lost,
+        begun,
+        retrieval,
+        mail_drop,
+        complete,
+        slot,
+        place,
+        characters,
+    } = *answer;
     let small = told(&[number, lost, begun, retrieval, mail_drop, complete]);
     [small, vec![slot as u64, place as u64, characters as u64]].concat()
 }
@@ -226,7 +277,10 @@ fn drop_chain(measure: &mut Measure, input: &str, before: &SecondChains) {
         side(
             as_lent(before),
             |chains| {
-                let Key { address, message_number } = key;
+                let Key {
+                    address,
+                    message_number,
+                } = key;
                 let drop = unsafe { mortisevane_chain_drop(*chains, address, message_number) };
                 *chains = drop.chains;
                 drop.number
@@ -237,7 +291,11 @@ fn drop_chain(measure: &mut Measure, input: &str, before: &SecondChains) {
             (*before, second),
             |(chains, second)| second(chains, key),
             |(chains, _), dropped| {
-                [answer(dropped, |_| Told::new(), 0), told_chains(&as_lent(chains))].concat()
+                [
+                    answer(dropped, |_| Told::new(), 0),
+                    told_chains(&as_lent(chains)),
+                ]
+                .concat()
             },
         ),
     );

@@ -1,7 +1,9 @@
 //! Fragments of 2 and of 85 words, and texts cut into them.
 
 use mortisevane::exports::*;
-use second::fragment::{self, FragmentRead as SecondRead, Marks as SecondMarks, TextCut as SecondCut};
+use second::fragment::{
+    self, FragmentRead as SecondRead, Marks as SecondMarks, TextCut as SecondCut,
+};
 use second::numbers::Numbers;
 use second::refusal::Refusal;
 
@@ -20,8 +22,14 @@ pub fn rows(measure: &mut Measure) {
         ("85 words, a first one", large[0].clone()),
         ("85 words, a later one", large[1].clone()),
         ("refused 9: 1 word", small[0][..1].to_vec()),
-        ("refused 10: the last of 2 words", changed(&small[1], small_last, 1 << 21)),
-        ("refused 10: the last of 85 words", changed(&large[1], large_last, 1 << 21)),
+        (
+            "refused 10: the last of 2 words",
+            changed(&small[1], small_last, 1 << 21),
+        ),
+        (
+            "refused 10: the last of 85 words",
+            changed(&large[1], large_last, 1 << 21),
+        ),
         ("refused 11: K of 2 words", changed(&small[1], 0, 1)),
         ("refused 11: K of 85 words", changed(&large[1], 0, 1)),
     ];
@@ -55,7 +63,8 @@ fn told_read(read: &FragmentRead) -> Told {
 }
 
 fn told_second_read(read: &Result<SecondRead, Refusal>) -> Told {
-    let tell = |read: &SecondRead| [told(&read.heading.numbers()), vec![read.characters as u64]].concat();
+    let tell =
+        |read: &SecondRead| [told(&read.heading.numbers()), vec![read.characters as u64]].concat();
     answer(read, tell, 8)
 }
 
@@ -107,12 +116,30 @@ fn cuts(measure: &mut Measure) {
         }
     }
     let long = text(TEXT_CHARACTERS + 1);
-    cut(measure, "refused 15: 1009 characters", &long, FRAGMENT_WORDS, CUT_WORDS);
+    cut(
+        measure,
+        "refused 15: 1009 characters",
+        &long,
+        FRAGMENT_WORDS,
+        CUT_WORDS,
+    );
     let mut wrong = text(TEXT_CHARACTERS);
     wrong[TEXT_CHARACTERS - 1] = fragment::ETX;
-    cut(measure, "refused 18: the last of 1008 characters", &wrong, FRAGMENT_WORDS, CUT_WORDS);
+    cut(
+        measure,
+        "refused 18: the last of 1008 characters",
+        &wrong,
+        FRAGMENT_WORDS,
+        CUT_WORDS,
+    );
     let long = text(TEXT_CHARACTERS);
-    cut(measure, "refused 1: 1008 characters, no word lent", &long, FRAGMENT_WORDS, 0);
+    cut(
+        measure,
+        "refused 1: 1008 characters, no word lent",
+        &long,
+        FRAGMENT_WORDS,
+        0,
+    );
 }
 
 fn cut(measure: &mut Measure, input: &str, text: &[u8], largest: usize, room: usize) {
@@ -120,8 +147,16 @@ fn cut(measure: &mut Measure, input: &str, text: &[u8], largest: usize, room: us
     let second = fragment::cut as Cut;
     let lent = vec![0xDEAD_BEEF; room];
     let (message_number, retrieval, mail_drop) = (63, 1, 1);
-    let own_marks = Marks { message_number, retrieval, mail_drop };
-    let marks = SecondMarks { message_number, retrieval, mail_drop };
+    let own_marks = Marks {
+        message_number,
+        retrieval,
+        mail_drop,
+    };
+    let marks = SecondMarks {
+        message_number,
+        retrieval,
+        mail_drop,
+    };
     measure.row(
         "text_cut",
         input,
@@ -132,8 +167,16 @@ fn cut(measure: &mut Measure, input: &str, text: &[u8], largest: usize, room: us
                 mortisevane_text_cut(text.as_ptr(), text.len(), own_marks, largest, words, room)
             },
             |(_, lent), cut| {
-                let TextCut { number, fragments, words } = *cut;
-                [vec![number.into(), fragments as u64, words as u64], told(lent)].concat()
+                let TextCut {
+                    number,
+                    fragments,
+                    words,
+                } = *cut;
+                [
+                    vec![number.into(), fragments as u64, words as u64],
+                    told(lent),
+                ]
+                .concat()
             },
         ),
         side(

@@ -16,7 +16,13 @@ pub fn rows(measure: &mut Measure) {
     let text = text(TEXT_CHARACTERS);
     let fragments = fragments_of(&text, FRAGMENT_WORDS);
     against_second(measure, &fragments);
-    against_copy(measure, "against a plain copy plus sums", &text, &fragments, plain_copy);
+    against_copy(
+        measure,
+        "against a plain copy plus sums",
+        &text,
+        &fragments,
+        plain_copy,
+    );
     let input = "against memcpy plus the second program's sums";
     against_copy(measure, input, &text, &fragments, memcpy_and_sums);
 }
@@ -31,7 +37,9 @@ fn against_second(measure: &mut Measure, fragments: &[Vec<u32>]) {
         side(
             (Chains::default(), buffer.clone()),
             |(chains, buffer)| join(chains, buffer, fragments),
-            |(chains, buffer), last| [told_answer(last), told_chains(chains), bytes(buffer)].concat(),
+            |(chains, buffer), last| {
+                [told_answer(last), told_chains(chains), bytes(buffer)].concat()
+            },
         ),
         side(
             (SecondChains::default(), buffer, second),
@@ -77,7 +85,13 @@ struct Copied {
 
 type CopyText = fn(&[Vec<u32>], &[u8], &mut [u8]) -> Copied;
 
-fn against_copy(measure: &mut Measure, input: &str, text: &[u8], fragments: &[Vec<u32>], copy: CopyText) {
+fn against_copy(
+    measure: &mut Measure,
+    input: &str,
+    text: &[u8],
+    fragments: &[Vec<u32>],
+    copy: CopyText,
+) {
     let buffer = vec![0xA5; CHAIN_BYTES];
     let joined = |buffer: &[u8]| -> Told { bytes(&buffer[..text.len()]) };
     measure.row_of_state(
@@ -125,7 +139,10 @@ fn plain_copy(fragments: &[Vec<u32>], _: &[u8], copy: &mut [u8]) -> Copied {
         }
     }
     let is_whole = wrong_checks == 0 && sum & 0x7F == WHOLE_SUM;
-    Copied { characters, is_whole }
+    Copied {
+        characters,
+        is_whole,
+    }
 }
 
 /// K of a fragment (S8.8.6).
@@ -145,5 +162,8 @@ fn memcpy_and_sums(fragments: &[Vec<u32>], text: &[u8], copy: &mut [u8]) -> Copi
     let checks = fragments.iter().all(is_right);
     let characters = !sums::signature(text) + !sums::signature(&fill);
     let is_whole = checks && (signature + characters) & 0x7F == WHOLE_SUM;
-    Copied { characters: text.len(), is_whole }
+    Copied {
+        characters: text.len(),
+        is_whole,
+    }
 }

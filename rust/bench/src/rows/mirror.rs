@@ -13,12 +13,27 @@ pub fn rows(measure: &mut Measure) {
     reset(measure, "refused 7: another packet", 0x7F00_0106);
     let silent = (0x40_0116, 0);
     step(measure, "a packet that is summed", silent, 0x0100_0010);
-    step(measure, "the checksum that makes it talk", silent, 0x0040_0116);
+    step(
+        measure,
+        "the checksum that makes it talk",
+        silent,
+        0x0040_0116,
+    );
     step(measure, "a special packet", silent, 0x1C00_0000);
-    step(measure, "refused 2: a register over 24 bits", (1 << 24, 0), 0x0100_0010);
+    step(
+        measure,
+        "refused 2: a register over 24 bits",
+        (1 << 24, 0),
+        0x0100_0010,
+    );
     run(measure, "1 packet", silent, 1);
     run(measure, "1000 packets", silent, 1000);
-    run(measure, "refused 2: a register over 24 bits, 1000 packets", (1 << 24, 0), 1000);
+    run(
+        measure,
+        "refused 2: a register over 24 bits, 1000 packets",
+        (1 << 24, 0),
+        1000,
+    );
     closing(measure, "accepted", silent);
     closing(measure, "refused 2: a register over 24 bits", (1 << 24, 0));
 }
@@ -44,7 +59,10 @@ fn reset(measure: &mut Measure, input: &str, packet: u32) {
 /// The library's mirror and the second program's, of register and whether it is talking. The library answers a refusal
 /// with the mirror as it was, the second program with the refusal alone.
 fn mirrors((register, talking): (u32, u32)) -> (Mirror, SecondMirror) {
-    (Mirror { register, talking }, SecondMirror { register, talking })
+    (
+        Mirror { register, talking },
+        SecondMirror { register, talking },
+    )
 }
 
 fn mirrored(before: SecondMirror, after: &Result<SecondMirror, Refusal>) -> Vec<u64> {
@@ -75,7 +93,9 @@ fn step(measure: &mut Measure, input: &str, before: (u32, u32), packet: u32) {
 /// Packets of every ID, one after the other.
 fn run(measure: &mut Measure, input: &str, before: (u32, u32), packets: u32) {
     let (own, other) = mirrors(before);
-    let packets: Vec<u32> = (0..packets).map(|place| (place % 256) << 24 | place * 4_099).collect();
+    let packets: Vec<u32> = (0..packets)
+        .map(|place| (place % 256) << 24 | place * 4_099)
+        .collect();
     let packets = packets.as_slice();
     type Run = fn(SecondMirror, &[u32]) -> Result<SecondMirror, Refusal>;
     let second = mirror::run as Run;
@@ -84,7 +104,9 @@ fn run(measure: &mut Measure, input: &str, before: (u32, u32), packets: u32) {
         input,
         side(
             (own, packets),
-            |(mirror, packets)| unsafe { mortisevane_mirror_run(*mirror, packets.as_ptr(), packets.len()) },
+            |(mirror, packets)| unsafe {
+                mortisevane_mirror_run(*mirror, packets.as_ptr(), packets.len())
+            },
             |_, mirrored| told(&words_of(mirrored)),
         ),
         side(

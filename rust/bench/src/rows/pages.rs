@@ -1,8 +1,10 @@
 //! Numeric pages of 1 and of 8 words.
 
 use mortisevane::exports::*;
-use second::numeric::{self, Numbering as SecondNumbering, PageRead as SecondPageRead, Written as SecondWritten};
 use second::numbers::Numbers;
+use second::numeric::{
+    self, Numbering as SecondNumbering, PageRead as SecondPageRead, Written as SecondWritten,
+};
 use second::refusal::Refusal;
 
 use crate::measure::{side, Measure, Told};
@@ -24,21 +26,98 @@ const LONGEST: &[u8] = b"01234567890123456789012345678901234567-][";
 
 pub fn rows(measure: &mut Measure) {
     measure.group("pages");
-    write(measure, "4 characters, 1 word", b"0417", VECTOR_STANDARD, NOT_NUMBERED);
-    write(measure, "41 characters, 8 words", LONGEST, VECTOR_STANDARD, NOT_NUMBERED);
-    write(measure, "2 characters, 1 word, numbered", b"04", VECTOR_NUMBERED, NUMBERED);
-    write(measure, "39 characters, 8 words, numbered", &LONGEST[..39], VECTOR_NUMBERED, NUMBERED);
-    write(measure, "refused 7: of no kind", b"0417", VECTOR_HEX, NOT_NUMBERED);
-    write(measure, "refused 15: 42 characters", &[b'0'; 42], VECTOR_STANDARD, NOT_NUMBERED);
+    write(
+        measure,
+        "4 characters, 1 word",
+        b"0417",
+        VECTOR_STANDARD,
+        NOT_NUMBERED,
+    );
+    write(
+        measure,
+        "41 characters, 8 words",
+        LONGEST,
+        VECTOR_STANDARD,
+        NOT_NUMBERED,
+    );
+    write(
+        measure,
+        "2 characters, 1 word, numbered",
+        b"04",
+        VECTOR_NUMBERED,
+        NUMBERED,
+    );
+    write(
+        measure,
+        "39 characters, 8 words, numbered",
+        &LONGEST[..39],
+        VECTOR_NUMBERED,
+        NUMBERED,
+    );
+    write(
+        measure,
+        "refused 7: of no kind",
+        b"0417",
+        VECTOR_HEX,
+        NOT_NUMBERED,
+    );
+    write(
+        measure,
+        "refused 15: 42 characters",
+        &[b'0'; 42],
+        VECTOR_STANDARD,
+        NOT_NUMBERED,
+    );
     let mut wrong = LONGEST.to_vec();
     wrong[40] = b'x';
-    write(measure, "refused 18: the last of 41 characters", &wrong, VECTOR_STANDARD, NOT_NUMBERED);
+    write(
+        measure,
+        "refused 18: the last of 41 characters",
+        &wrong,
+        VECTOR_STANDARD,
+        NOT_NUMBERED,
+    );
     read(measure, "1 word", b"0417", VECTOR_STANDARD, NOT_NUMBERED, 0);
-    read(measure, "8 words", LONGEST, VECTOR_STANDARD, NOT_NUMBERED, 0);
-    read(measure, "1 word, numbered", b"04", VECTOR_NUMBERED, NUMBERED, 0);
-    read(measure, "8 words, numbered", &LONGEST[..39], VECTOR_NUMBERED, NUMBERED, 0);
-    read(measure, "refused 10: the last of 8 words", LONGEST, VECTOR_STANDARD, NOT_NUMBERED, 1 << 21);
-    read(measure, "refused 11: K of 8 words", LONGEST, VECTOR_STANDARD, NOT_NUMBERED, 1);
+    read(
+        measure,
+        "8 words",
+        LONGEST,
+        VECTOR_STANDARD,
+        NOT_NUMBERED,
+        0,
+    );
+    read(
+        measure,
+        "1 word, numbered",
+        b"04",
+        VECTOR_NUMBERED,
+        NUMBERED,
+        0,
+    );
+    read(
+        measure,
+        "8 words, numbered",
+        &LONGEST[..39],
+        VECTOR_NUMBERED,
+        NUMBERED,
+        0,
+    );
+    read(
+        measure,
+        "refused 10: the last of 8 words",
+        LONGEST,
+        VECTOR_STANDARD,
+        NOT_NUMBERED,
+        1 << 21,
+    );
+    read(
+        measure,
+        "refused 11: K of 8 words",
+        LONGEST,
+        VECTOR_STANDARD,
+        NOT_NUMBERED,
+        1,
+    );
 }
 
 fn write(measure: &mut Measure, input: &str, text: &[u8], kind: u32, numbering: SecondNumbering) {
@@ -60,7 +139,11 @@ fn write(measure: &mut Measure, input: &str, text: &[u8], kind: u32, numbering: 
                 mortisevane_numeric_write(text.as_ptr(), text.len(), kind, *numbering, words, room)
             },
             |(_, _, lent), written| {
-                let Written { number, check, words } = *written;
+                let Written {
+                    number,
+                    check,
+                    words,
+                } = *written;
                 [vec![number.into(), check.into(), words as u64], told(lent)].concat()
             },
         ),
@@ -68,7 +151,8 @@ fn write(measure: &mut Measure, input: &str, text: &[u8], kind: u32, numbering: 
             (text, lent, second),
             |(text, lent, second)| second(text, kind, numbering, lent),
             |(_, lent, _), written| {
-                let tell = |written: &SecondWritten| vec![written.check.into(), written.words as u64];
+                let tell =
+                    |written: &SecondWritten| vec![written.check.into(), written.words as u64];
                 [answer(written, tell, 2), told(lent)].concat()
             },
         ),
@@ -115,5 +199,9 @@ fn read(
 }
 
 fn told_read(read: &SecondPageRead) -> Told {
-    [told(&read.numbering.numbers()), vec![read.characters as u64]].concat()
+    [
+        told(&read.numbering.numbers()),
+        vec![read.characters as u64],
+    ]
+    .concat()
 }
