@@ -1,0 +1,161 @@
+//! CAPCODEs.
+
+use mortisevane::exports::*;
+use second::capcode::{self, Capcode as SecondCapcode, Place};
+use second::refusal::Refusal;
+
+use crate::measure::{side, Measure, Told};
+use crate::told::{answer, bytes};
+
+/// 8 bytes, and 15, the longest.
+const SHORT: (&str, SecondCapcode) = (
+    "8 bytes, E0001234",
+    SecondCapcode {
+        letter: b'E',
+        frame: 0,
+        collapse: 4,
+        address: 1_234,
+    },
+);
+const LONG: (&str, SecondCapcode) = (
+    "15 bytes, 1275Y4291000000",
+    SecondCapcode {
+        letter: b'Y',
+        frame: 127,
+        collapse: 5,
+        address: 4_291_000_000,
+    },
+);
+const REFUSED: (&str, SecondCapcode) = (
+    "refused 5: of no range",
+    SecondCapcode {
+        letter: b'Y',
+        frame: 127,
+        collapse: 5,
+        address: 4_291_000_001,
+    },
+);
+
+pub fn rows(measure: &mut Measure) {
+    measure.group("capcodes");
+    read(measure, SHORT.0, b"E0001234");
+    read(measure, LONG.0, b"1275Y4291000000");
+    read(measure, "refused 3: 5 bytes, E1234", b"E1234");
+    read(measure, REFUSED.0, b"1275Y4291000001");
+    for (input, capcode) in [SHORT, LONG, REFUSED] {
+        assign(measure, input, capcode);
+    }
+    for (input, capcode) in [SHORT, LONG, REFUSED] {
+        print(measure, input, capcode, CAPCODE_BYTES);
+    }
+    print(
+        measure,
+        "refused 1: 14 bytes lent",
+        LONG.1,
+        CAPCODE_BYTES - 1,
+    );
+}
+
+fn read(measure: &mut Measure, input: &str, text: &[u8]) {
+    type Read = fn(&[u8]) -> Result<(SecondCapcode, Place), Refusal>;
+    let second = capcode::read_with_place as Read;
+    measure.row(
+        "capcode_read",
+        input,
+        side(
+            text,
+            |text| unsafe { mortisevane_capcode_read(text.as_ptr(), text.len()) },
+            |_, read| {
+                let small = [
+                    read.letter,
+                    read.frame,
+                    read.collapse,
+                    read.phase,
+                    read.base,
+                ];
+                let small = bytes(&small);
+                [vec![read.number.into()], small, vec![read.address]].concat()
+            },
+        ),
+        side(
+            (text, second),
+            |(text, second)| second(text),
+            |_, read| answer(read, |(capcode, place)| told_read(capcode, place), 6),
+        ),
+    );
+}
+
+fn told_read(capcode: &SecondCapcode, place: &Place) -> Told {
+    let small = [
+        capcode.letter,
+        capcode.frame,
+        capcode.collapse,
+        place.phase.number(),
+        place.base_frame,
+    ];
+    [bytes(&small), vec![capcode.address]].concat()
+}
+
+fn assign(measure: &mut Measure, input: &str, capcode: SecondCapcode) {
+    let second = capcode::place as fn(&SecondCapcode) -> Result<Place, Refusal>;
+    let tell = |place: &Place| bytes(&[place.phase.number(), place.base_frame]);
+    measure.row(
+        "capcode_assign",
+        input,
+        side(
+            capcode,
+            |capcode| unsafe {
+                let SecondCapcode {
+                    letter,
+                    frame,
+                    collapse,
+                    address,
+                } = *capcode;
+                mortisevane_capcode_assign(letter, frame, collapse, address)
+            },
+            |_, place| vec![place.number.into(), place.phase.into(), place.base.into()],
+        ),
+        side(
+            (capcode, second),
+            |(capcode, second)| second(capcode),
+            |_, place| answer(place, tell, 2),
+        ),
+    );
+}
+
+fn print(measure: &mut Measure, input: &str, capcode: SecondCapcode, room: usize) {
+    let second = capcode::print as fn(&SecondCapcode, &mut [u8]) -> Result<usize, Refusal>;
+    let lent = vec![0xA5; room];
+    measure.row(
+        "capcode_print",
+        input,
+        side(
+            (capcode, lent.clone()),
+            |(capcode, lent)| unsafe {
+                let SecondCapcode {
+                    letter,
+                    frame,
+                    collapse,
+                    address,
+                } = *capcode;
+                let (out, room) = (lent.as_mut_ptr(), lent.len());
+                mortisevane_capcode_print(letter, frame, collapse, address, out, room)
+            },
+            |(_, lent), printed| {
+                [
+                    vec![printed.number.into(), printed.length as u64],
+                    bytes(lent),
+                ]
+                .concat()
+            },
+        ),
+        side(
+            (capcode, lent, second),
+            |(capcode, lent, second)| second(capcode, lent),
+            |(_, lent, _), printed| {
+                let length = answer(printed, |length| vec![*length as u64], 1);
+                [length, bytes(lent)].concat()
+            },
+        ),
+    );
+}

@@ -1,0 +1,191 @@
+//! The tables of docs/BENCHMARKS.md.
+
+use std::fmt::Write;
+use std::path::Path;
+
+use crate::bytes;
+use crate::callgrind::instructions;
+use crate::measure::{Purpose, Row};
+
+/// No operation over so many times the second program's instructions.
+const AIM: f64 = 1.2;
+/// Joining a text, against a plain copy of its bytes plus its sums.
+const AIM_OF_JOINING: f64 = 1.5;
+
+/// A row with its instructions.
+pub struct Counted {
+    pub row: Row,
+    pub library: u64,
+    pub other: u64,
+}
+
+impl Counted {
+    fn ratio(&self) -> f64 {
+        self.library as f64 / self.other as f64
+    }
+
+    fn aim(&self) -> f64 {
+        match self.row.group {
+            "joining" if !self.row.input.contains("second program") => AIM_OF_JOINING,
+            _ => AIM,
+        }
+    }
+
+    /// As it is told, so that no row is over the aim that reads as the aim.
+    fn is_over(&self) -> bool {
+        (100.0 * self.ratio()).round() > 100.0 * self.aim()
+    }
+}
+
+/// A section of the document: the group of its rows, its title and what is to be known of it.
+struct Section {
+    group: &'static str,
+    title: &'static str,
+    about: &'static str,
+}
+
+const fn section(group: &'static str, title: &'static str, about: &'static str) -> Section {
+    Section {
+        group,
+        title,
+        about,
+    }
+}
+
+const OPERATIONS: [Section; 10] = [
+    section("addresses", "Addresses", ""),
+    section("capcodes", "CAPCODEs", ""),
+    section("frames", "Frames", ""),
+    section("packets", "Packets", ""),
+    section("mirror", "The mirror", ""),
+    section("sums", "Sums", ""),
+    section("pages", "Numeric pages", ""),
+    section("fragments", "Fragments", ""),
+    section("chains", "Chains", ""),
+    section("calls", "Calls", ""),
+];
+
+const FURTHER: [Section; 5] = [
+    section(
+        "worst packet",
+        "The worst packet",
+        "The dearest states for each kind of packet that the decoder sends: what the host calls for it. A word of a group's \
+         page can complete eight calls, and then up to eight fragments are joined; the rows of `chain_step` tell one.",
+    ),
+    section("growth by words", "Growth with the words of a fragment", ""),
+    section("growth by open chains", "Growth with the open chains", ""),
+    section("growth by open calls", "Growth with the open calls", ""),
+    section(
+        "joining",
+        "Joining a text",
+        "1,008 characters in fragments of 85 words (the last has 2): all five steps. The plain copy unpacks the cells of each \
+         fragment, copies them but for fill, and makes both sums, K of the words and the sum of the cells, in plain loops. The \
+         stricter yardstick has the text lying ready: one memcpy of it, K of each fragment and the signature by the second \
+         program. The aim is 1.5 against the plain copy.",
+    ),
+];
+
+/// The rows of the groups that are wanted, with what callgrind counted in the folder.
+fn counted(folder: &Path, wanted: &str) -> Result<Vec<Counted>, String> {
+    let rows = crate::measured(Purpose::Stack, wanted).rows;
+    let count = |(place, row): (usize, Row)| {
+        let side = |side: usize| instructions(&folder.join(format!("part.{}", 2 * place + side)));
+        let (library, other) = (side(1)?, side(2)?);
+        Ok(Counted {
+            row,
+            library,
+            other,
+        })
+    };
+    rows.into_iter().enumerate().map(count).collect()
+}
+
+/// One group alone, for whoever mends it.
+pub fn show(folder: &Path, wanted: &str) -> Result<(), String> {
+    let rows = counted(folder, wanted)?;
+    print!("{}", table(rows.iter()));
+    Ok(())
+}
+
+/// The whole document. The folder of the archive and the file that says why are given beside callgrind's.
+pub fn document(folder: &Path, archive: &Path, why: &Path) -> Result<(), String> {
+    let rows = counted(folder, "")?;
+    bytes::assert_all_exports(archive, &rows)?;
+    let mut text = opening(&rows)?;
+    text += "\n## Instructions of each operation\n";
+    for section in &OPERATIONS {
+        text += &in_section(section, "###", &rows);
+    }
+    for section in &FURTHER {
+        text += &in_section(section, "##", &rows);
+    }
+    text += &bytes::sections(archive, &rows)?;
+    text += "\n## Why rows are over the aim\n\n";
+    text += &std::fs::read_to_string(why).map_err(|error| format!("{}: {error}", why.display()))?;
+    print!("{text}");
+    Ok(())
+}
+
+fn opening(rows: &[Counted]) -> Result<String, String> {
+    let over = rows.iter().filter(|row| row.is_over()).count();
+    let machine = bytes::said_by("uname", &["-m"])?;
+    let valgrind = bytes::said_by("valgrind", &["--version"])?;
+    let rustc = bytes::said_by("rustc", &["--version"])?;
+    let mut text = OPENING.to_owned();
+    let _ = write!(
+        text,
+        "\nMeasured on {}, with {} and {}. {over} of {} rows are over the aim; they are marked, and why stands at the end.\n",
+        machine.trim(),
+        valgrind.trim(),
+        rustc.trim(),
+        rows.len()
+    );
+    Ok(text)
+}
+
+const OPENING: &str = "# Benchmarks
+
+Written by one command, which is also how to make it again:
+
+    tools/bench
+
+It builds `rust/bench` with the library and the second program (`rust/second`), both for release, and runs it once under
+callgrind. Before an operation is counted both programs answer the same input and must agree, in what they tell and in the
+memory that they were lent. Instructions are those of one call, from the operation's first to its return, with all that it
+calls. Each is called through its own symbol, so that neither is taken apart into its caller.
+
+The second program changes state in place. The library takes it by value and gives it back by value, so for `chain_step`,
+`chain_drop`, `call_open`, `call_hear` and `call_end` what its caller does is counted too: the records copied in, and those
+of the answer copied back. The second program allocates where the library works in lent memory; that is its cost.
+
+The aim: no operation over 1.2 times the second program's instructions; joining a text within 1.5 times a plain copy of its
+bytes plus its sums; at most 2 KiB of stack. `tools/bench chains` shows the rows of one group alone.
+";
+
+fn in_section(section: &Section, level: &str, rows: &[Counted]) -> String {
+    let rows = rows
+        .iter()
+        .filter(|counted| counted.row.group == section.group);
+    let about = match section.about {
+        "" => String::new(),
+        about => format!("{about}\n\n"),
+    };
+    format!("\n{level} {}\n\n{about}{}", section.title, table(rows))
+}
+
+fn table<'a>(rows: impl Iterator<Item = &'a Counted>) -> String {
+    let head =
+        "| operation | input | library | second program | ratio | |\n|---|---|--:|--:|--:|---|\n";
+    let line = |counted: &Counted| {
+        let Counted {
+            row,
+            library,
+            other,
+        } = counted;
+        let mark = if counted.is_over() { "over" } else { "" };
+        let (operation, input, ratio) = (&row.operation, &row.input, counted.ratio());
+        format!("| `{operation}` | {input} | {library} | {other} | {ratio:.2} | {mark} |\n")
+    };
+    rows.map(line)
+        .fold(head.to_owned(), |text, line| text + &line)
+}
