@@ -1,6 +1,6 @@
 -- The loops of the crate, turn by turn: what is done so far, with what is still to come, is the whole.
 use Prim.Native.Nat.{ℕ, suc, _+_, _-_, _≤_, _<_}
-use mathlib.Core.List.{List, [], _∷_, _++_}
+use mathlib.Core.List.{List, _∷_}
 use mathlib.Core.Path.{_≡_, sym, ap, _∙_}
 use native.Mathlib.Numerals.{add-one}
 use native.Mathlib.Omega.{arith}
@@ -9,7 +9,7 @@ use lib.Seq.{drop-cons}
 use Rattle.laws.specs.Choice.{bitOf}
 use Rattle.laws.specs.Lists.{put, those}
 use Rattle.laws.proofs.Lists.{those-length-cons, those-most}
-use Rattle.laws.proofs.Writing.{put-nothing, put-one, put-next}
+use Rattle.laws.proofs.Writing.{put-nothing, put-next}
 use Rattle.calls.specs.declared.Call.{Call}
 use Rattle.calls.specs.Calls.{blank, hasVector}
 use Rattle.calls.specs.Steps.{nextArea}
@@ -27,19 +27,6 @@ pub clear-done : (memory : List ℕ) (place words i a : ℕ) → words ≤ i →
 clear-done memory place words i a done =
     let left : words - i ≡ 0 = omega arith in
     rw left (sym (put-nothing memory (place + i)))
-
-module _ (row after : List Call) (i : ℕ) where
-  -- a record moved one place down,
-  pub moved-turn : i + 1 < length row → i < length after → put (set after i (getD row (i + 1) blank)) (i + 1) (drop (i + 1 + 1) row ++ blank ∷ []) ≡ put after i (drop (i + 1) row ++ blank ∷ [])
-  moved-turn some within =
-      let those-behind : drop (i + 1) row ≡ getD row (i + 1) blank ∷ drop (i + 1 + 1) row = rw (add-one (i + 1)) (drop-cons row (i + 1) blank some) in
-      ap (λ (k : ℕ). put (set after i (getD row (i + 1) blank)) k (drop (i + 1 + 1) row ++ blank ∷ [])) (add-one i)
-      ∙ put-next after (drop (i + 1 + 1) row ++ blank ∷ []) i (getD row (i + 1) blank) within
-      ∙ ap (λ (rest : List Call). put after i (rest ++ blank ∷ [])) (sym those-behind)
-
-  -- .. and the last place freed
-  pub moved-done : length row ≤ i + 1 → i < length after → set after i blank ≡ put after i (drop (i + 1) row ++ blank ∷ [])
-  moved-done done within = rw (drop-of-length-le row done) (put-one after i blank within)
 
 module _ (row : List Call) (i : ℕ) where
   -- one call more counted

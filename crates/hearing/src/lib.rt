@@ -12,10 +12,9 @@ ghost use Rattle.refusal.specs.Told.{told};
 ghost use Rattle.vector.specs.Reads.{isVector, vectorOf};
 ghost use Rattle.calls.specs.Calls.{mostCalls, blank, opens, holds};
 ghost use Rattle.calls.specs.Words.{lacking, isHeld, isLacked};
-ghost use Rattle.calls.specs.Steps.{bringsWords, vectorFits, withVector, nextArea, changed, without, removed};
+ghost use Rattle.calls.specs.Steps.{bringsWords, vectorFits, withVector, nextArea, changed, removed};
 ghost use Rattle.calls.specs.Answers.{messageIn, vectorTold, wordTold, hearOf, heardIn, memoryAfter, asHearing};
 ghost use Rattle.hearing.specs.Pieces.{vectorCalls, vectorMemory, wordMemory};
-use calls::BLANK;
 use calls::Call;
 use calls::CallHeard;
 use calls::CallHearing;
@@ -43,23 +42,6 @@ fn unheard(calls: Calls, number: u32) -> CallHearing
         },
         calls: calls,
     }
-}
-
-// The row without the record at a place: those behind it move one place down.
-fn without(row: [Call; MOST_CALLS], place: usize) -> [Call; MOST_CALLS]
-    requires { ⌜ place < mostCalls ⌝ }
-    ensures { λ r. ⌜ r ≡ without place row ⌝ }
-{
-    let mut after = row;
-    let mut i = place;
-    while i < MOST_CALLS - 1 {
-        let from = i + 1;
-        let call = row[from];
-        after[i] = call;
-        i += 1;
-    }
-    after[MOST_CALLS - 1] = BLANK;
-    after
 }
 
 // The area for the words of a call that gets its vector: how many calls have theirs.
@@ -141,7 +123,7 @@ fn removed(calls: Calls, place: usize) -> Calls
     let count = opened::count(calls);
     Calls {
         size: count - 1,
-        calls: without(row, place),
+        calls: removing::without(row, place),
     }
 }
 

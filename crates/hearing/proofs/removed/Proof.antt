@@ -1,4 +1,6 @@
--- `removed` meets its contract.
+-- `removed` meets its contract: an open call's place is one of the eight.
+use native.Mathlib.Omega.{arith}
+use borrow.Author.Tests.{lt-ltb}
 use borrow.Author.Needs.{needs}
 use Rattle.hearing.proofs.removed.Statement.{statement}
 use Rattle.hearing.proofs.removed.Tie as tie
@@ -13,7 +15,10 @@ without-requires : tie.Need-without-requires
 without-requires c κs = search needs
 
 returns : tie.Need-returns
-returns c = rw (c .before .count .ensures .0, c .without .ensures)
+returns c =
+    let counted = c .before in
+    let start = counted .before .before in
+    rw (counted .count .ensures .0, c .without .ensures, lt-ltb (start .args .place) 8 (omega (arith, start .pre, counted .count .ensures)))
 
 pub removed-spec : {M : Type 1} → statement M
 removed-spec = tie.close (tie.spec count-requires sub-t5 without-requires returns)

@@ -7,7 +7,7 @@ fresh-requires : tie.Need-fresh-requires
 fresh-requires c κs = search needs
 
 returns : tie.Need-returns
-returns c = c .fresh .ensures
+returns c = search needs
 
 pub mortisevane-calls-fresh-spec : {M : Type 1} → statement M
 mortisevane-calls-fresh-spec = tie.close (tie.spec fresh-requires returns)

@@ -1,16 +1,17 @@
--- `without` meets its contract.
+-- `without` meets its contract: the records moved so far, and those still to move.
 use Prim.Native.Nat.{ℕ, _+_, _-_, _≤_}
 use mathlib.Core.List.{[], _∷_, _++_}
 use mathlib.Core.Path.{_≡_, refl, sym, ap, _∙_}
 use native.Mathlib.Omega.{arith}
+use borrow.Author.Tests.{lt-ltb, le-ltb}
 use lib.ListN.{length, drop, set, length-set}
 use Rattle.laws.specs.Lists.{put}
 use Rattle.calls.specs.Calls.{blank}
 use Rattle.calls.specs.Steps.{without}
-use Rattle.hearing.proofs.Turns.{moved-turn, moved-done}
+use Rattle.removing.proofs.Turns.{moved-turn, moved-done}
 use borrow.Author.Needs.{needs}
-use Rattle.hearing.proofs.without.Statement.{statement}
-use Rattle.hearing.proofs.without.Tie as tie
+use Rattle.removing.proofs.without.Statement.{statement}
+use Rattle.removing.proofs.without.Tie as tie
 
 abbrev Inv-loop : tie.InvT-loop
 Inv-loop place row after₀ i₀ after i =
@@ -23,8 +24,11 @@ abbrev μ-loop : tie.MeasureT-loop
 long : (c : tie.Start Inv-loop μ-loop) → length (c .args .t1) ≡ 8
 long c = search needs
 
+returns : tie.Need-returns Inv-loop μ-loop
+returns c = rw (le-ltb (c .before .args .place) 8 (omega (arith, c .if1 .taken)))
+
 loop-holds : tie.Need-loop-holds Inv-loop μ-loop
-loop-holds c = (omega (arith, c .pre), long c, refl)
+loop-holds c = (omega (arith, c .if1 .left), long (c .before), refl)
 
 sub-loop : tie.Need-sub-loop Inv-loop μ-loop
 sub-loop c = search needs
@@ -53,7 +57,7 @@ loop-less c = search needs
 loop-again : tie.Need-loop-again Inv-loop μ-loop
 loop-again c =
     let turn = c .before .before .loop in
-    let start = c .before .before .before in (
+    let start = c .before .before .before .before in (
       omega arith,
       length-set (turn .after) (turn .i) _ ∙ turn .inv .1,
       moved-turn (start .args .t1) (turn .after) (turn .i) (omega (arith, long start, c .before .loop-test .taken)) (omega (arith, turn .inv .0, turn .inv .1)) ∙ turn .inv .2,
@@ -68,12 +72,14 @@ mul-after-2 c = search needs
 array-set-from-after-2 : tie.Need-array-set-from-after-2 Inv-loop μ-loop
 array-set-from-after-2 c = search needs
 
-returns : tie.Need-returns Inv-loop μ-loop
-returns c =
+returns-2 : tie.Need-returns-2 Inv-loop μ-loop
+returns-2 c =
     let turn = c .before .loop in
-    let start = c .before .before in
+    let past = c .before .before in
+    let start = past .before in
     let last : turn .i ≡ 7 = omega (arith, turn .inv .0, c .loop-test .left) in
-    ap (λ (k : ℕ). set (turn .after) k blank) (sym last) ∙ moved-done (start .args .t1) (turn .after) (turn .i) (omega (arith, long start, last)) (omega (arith, last, turn .inv .1)) ∙ turn .inv .2
+    rw (lt-ltb (start .args .place) 8 (omega (arith, past .if1 .left)))
+    (ap (λ (k : ℕ). set (turn .after) k blank) (sym last) ∙ moved-done (start .args .t1) (turn .after) (turn .i) (omega (arith, long start, last)) (omega (arith, last, turn .inv .1)) ∙ turn .inv .2)
 
 pub without-spec : {M : Type 1} → statement M
 without-spec =
@@ -81,6 +87,7 @@ without-spec =
     (tie.spec
     Inv-loop
     μ-loop
+    returns
     loop-holds
     sub-loop
     add-from
@@ -94,4 +101,4 @@ without-spec =
     sub-after
     mul-after-2
     array-set-from-after-2
-    returns)
+    returns-2)
