@@ -14,8 +14,8 @@ use slots::SLOTS;
 pub fn drop_chain(chains: Chains, address: u32, message_number: u32) -> ChainDrop
     ensures { λ r. ⌜ r ≡ asDrop (dropOf (chains .slots) address «message_number») (droppedFrom (chains .slots) address «message_number») ⌝ }
 {
-    let slots = chains.slots;
-    if !finding::sound(slots) {
+    let mut after = chains.slots;
+    if !finding::sound(after) {
         return ChainDrop {
             number: Refusal::State.number(),
             chains: chains,
@@ -33,14 +33,13 @@ pub fn drop_chain(chains: Chains, address: u32, message_number: u32) -> ChainDro
             chains: chains,
         };
     }
-    let slot = finding::find(slots, address, message_number);
+    let slot = finding::find(after, address, message_number);
     if slot == SLOTS {
         return ChainDrop {
             number: Refusal::NoChain.number(),
             chains: chains,
         };
     }
-    let mut after = slots;
     after[slot] = BLANK;
     ChainDrop {
         number: 0,

@@ -1,51 +1,56 @@
 -- 01's table, 2, slot by slot as the code asks it.
-use Prim.Native.Nat.{ℕ, _+_, _<_}
-use mathlib.Core.Bool.{Bool, true, false, not, _&&_, and-true}
+use Prim.Native.Nat.{ℕ, _+_, _-_, _<_}
+use mathlib.Core.Bool.{Bool, true, false, not, _&&_}
 use mathlib.Core.List.{List}
-use mathlib.Core.Path.{_≡_, ap}
+use mathlib.Core.Path.{_≡_, refl, ap}
 use native.Mathlib.Omega.{arith}
-use borrow.Author.Tests.{eq-eqb, ne-eqb}
-use lib.Dec.{eqb}
-use lib.ListN.{length, getD, drop}
-use Rattle.laws.proofs.Searches.{none-behind}
+use borrow.Author.Tests.{eq-eqb, ne-eqb, lt-ltb, le-ltb}
+use lib.ListN.{length, getD, drop, length-drop}
 use Rattle.slots.specs.declared.Chain.{Chain}
-use Rattle.slots.specs.Chains.{blank, isOpen, isOf, isSound, find, holds, sound}
+use Rattle.slots.specs.Chains.{blank, isOpen, isSound, find, holds, sound}
 use Rattle.slots.proofs.Records.{sound-from}
-use Rattle.finding.specs.Pieces.{stands}
 
--- of a closed slot its key is not asked after
-key-unasked : (good opened held : Bool) → opened ≡ false → (good && not (opened && held)) ≡ good
-key-unasked good opened held closed = rw closed (and-true good)
+-- an open slot whose key is met again spoils the row,
+spoils : (good opened met rest : Bool) → opened ≡ true → met ≡ true → (good && not (opened && met) && rest) ≡ false
+spoils true opened met rest is again = rw (is, again)
+spoils false opened met rest is again = refl
 
--- of an open one it is
-key-asked : (good opened held none : Bool) → opened ≡ true → none ≡ not held → (good && none) ≡ (good && not (opened && held))
-key-asked good opened held none is same = rw (is, same)
-
-module _ (row : List Chain) (slot : ℕ) where
-  -- a closed slot has no key
-  pub stands-closed : getD row slot blank .«is_open» ≡ 0 → stands row slot ≡ isSound (getD row slot blank)
-  stands-closed closed =
-      let c = getD row slot blank in
-      key-unasked (isSound c) (isOpen c) (holds (c .address) (c .«message_number») (drop (slot + 1) row)) (ap not (eq-eqb (c .«is_open») 0 closed))
-
--- an open slot is asked for its key behind it
-pub stands-open : (row : List Chain) (slot : ℕ) → let c = getD row slot blank in
-    (c .«is_open» ≡ 0 → ⊥) → slot < length row → (isSound c && eqb (slot + 1 + find (c .address) (c .«message_number») (drop (slot + 1) row)) (length row)) ≡ stands row slot
-stands-open row slot opened within =
-    let c = getD row slot blank in
-    key-asked (isSound c) (isOpen c) (holds (c .address) (c .«message_number») (drop (slot + 1) row)) (eqb (slot + 1 + find (c .address) (c .«message_number») (drop (slot + 1) row)) (length row))
-    (ap not (ne-eqb (c .«is_open») 0 opened))
-    (none-behind (isOf (c .address) (c .«message_number»)) row (slot + 1) (omega arith))
+-- .. and a sound one whose key is not leaves the answer to the rest
+leaves : (good opened met rest : Bool) → good ≡ true → (opened && met) ≡ false → (good && not (opened && met) && rest) ≡ rest
+leaves good opened met rest sane alone = rw (sane, alone)
 
 module _ (row : List Chain) (slot : ℕ) (within : slot < length row) where
-  -- the slot, and those behind it
-  slot-first : sound (drop slot row) ≡ (stands row slot && sound (drop (slot + 1) row))
-  slot-first = sound-from row slot within
+  -- the slot, and its key behind it
+  abbrev here : Chain
+  here = getD row slot blank
 
-  -- a slot that does not stand: the row is not sound
-  pub falls : stands row slot ≡ false → sound (drop slot row) ≡ false
-  falls bad = rw (slot-first, bad)
+  abbrev pub Again : ℕ
+  Again = slot + 1 + find (here .address) (here .«message_number») (drop (slot + 1) row)
 
-  -- a slot that does: those behind it are still to be asked
-  pub others : stands row slot ≡ true → sound (drop slot row) ≡ sound (drop (slot + 1) row)
-  others good = rw (slot-first, good)
+  abbrev met : Bool
+  met = holds (here .address) (here .«message_number») (drop (slot + 1) row)
+
+  -- a slot that is not sound: the row is not
+  pub unsound : isSound here ≡ false → sound (drop slot row) ≡ false
+  unsound bad = rw (sound-from row slot within, bad)
+
+  -- a closed one has no key
+  pub closed : isSound here ≡ true → here .«is_open» ≡ 0 → sound (drop slot row) ≡ sound (drop (slot + 1) row)
+  closed good shut =
+      rw (sound-from row slot within) (leaves (isSound here) (isOpen here) met (sound (drop (slot + 1) row)) good (rw (eq-eqb (here .«is_open») 0 shut)))
+
+  -- an open one whose key is found behind it: the row is not sound
+  pub twice : (here .«is_open» ≡ 0 → ⊥) → Again < length row → sound (drop slot row) ≡ false
+  twice opened found =
+      let left : length (drop (slot + 1) row) ≡ length row - (slot + 1) = length-drop (slot + 1) row in
+      rw (sound-from row slot within)
+      (spoils (isSound here) (isOpen here) met (sound (drop (slot + 1) row)) (ap not (ne-eqb (here .«is_open») 0 opened))
+      (lt-ltb (find (here .address) (here .«message_number») (drop (slot + 1) row)) (length (drop (slot + 1) row)) (omega arith)))
+
+  -- .. and one whose key is not: those behind it are still to be asked
+  pub alone : isSound here ≡ true → (here .«is_open» ≡ 0 → ⊥) → Again ≡ length row → sound (drop slot row) ≡ sound (drop (slot + 1) row)
+  alone good opened none =
+      let left : length (drop (slot + 1) row) ≡ length row - (slot + 1) = length-drop (slot + 1) row in
+      rw (sound-from row slot within)
+      (leaves (isSound here) (isOpen here) met (sound (drop (slot + 1) row)) good
+      (rw (ne-eqb (here .«is_open») 0 opened, le-ltb (find (here .address) (here .«message_number») (drop (slot + 1) row)) (length (drop (slot + 1) row)) (omega arith))))
