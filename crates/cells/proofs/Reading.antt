@@ -1,5 +1,5 @@
 -- The cells of words: the text in them, how much it is, and their sum, word by word.
-use Prim.Native.Nat.{ℕ, _+_, _*_, _/_, _%_, _≤_, _<_}
+use Prim.Native.Nat.{ℕ, _+_, _-_, _*_, _/_, _%_, _≤_, _<_}
 use mathlib.Core.Bool.{Bool, true, false, not}
 use mathlib.Core.List.{List, [], _∷_, _++_}
 use mathlib.Core.Path.{_≡_, refl, ap, _∙_}
@@ -95,8 +95,8 @@ unfolding sumBy cellsOf
 sum-words [] = refl
 sum-words (word ∷ words) = sum-join whole (cellsIn word) (cellsOf words) ∙ rw (sum-words words)
 
--- three characters a word are never too few
-pub text-most : (second : ℕ) (words : List ℕ) → 2 ≤ length words → length (textFrom second words) ≤ 3 * length words
+-- three characters a word behind the first are never too few
+pub text-most : (second : ℕ) (words : List ℕ) → 2 ≤ length words → length (textFrom second words) ≤ 3 * (length words - 1)
 text-most second words two =
     let row = second ∷ drop 2 words in
     omega (arith, text-no-longer (cellsOf row), cells-length row, length-drop 2 words)

@@ -57,17 +57,18 @@ fn sum_in(word: u32) -> u32
     word % CELL_LIMIT + (word >> 7) % CELL_LIMIT + (word >> 14) % CELL_LIMIT
 }
 
-// The sum modulo 128 of all cells behind the first word.
+// The sum modulo 128 of all cells behind the first word. It is reduced behind the loop, since one that reduces at each
+// turn is not compiled to several words at a time; the loop's own sum wraps at a multiple of 128.
 fn sum(words: &[u32]) -> u32
     ensures { λ r. ⌜ r ≡ sumIn (now (words .entry)) ⌝ }
 {
     let mut sum: u32 = 0;
     let mut i: usize = 1;
     while i < words.len() {
-        sum = (sum + sum_in(words[i])) % CELL_LIMIT;
+        sum = std::num::wrapping_add_u32(sum, sum_in(words[i]));
         i += 1;
     }
-    sum
+    sum % CELL_LIMIT
 }
 
 // 01's table, 9: whether a fragment has so many words.

@@ -1,3 +1,4 @@
+pub mod Asking
 pub mod Examples
 pub mod Laws
 pub mod Summing

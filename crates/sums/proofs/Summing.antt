@@ -1,26 +1,31 @@
--- A row summed from the front, reduced at each turn; K as 0; how many bits of a sum are asked for.
+-- A row summed from the front, with more bits than are asked for; K as 0; how many bits of a sum are asked for.
 use Prim.Native.Nat.{ℕ, _+_, _*_, _/_, _%_, _^_, _≤_, _<_}
-use mathlib.Core.Path.{_≡_, refl, ap₂, _∙_}
+use mathlib.Core.Path.{_≡_, refl, sym, ap, ap₂, _∙_}
 use mathlib.Core.List.{List, [], _∷_}
 use native.Mathlib.Nat.{add-assoc, add-zero, mod-add-mod, mod-eq-of-lt, lt-of-le-of-lt, div-mul-le-self}
 use native.Mathlib.Numerals.{add-one}
 use native.Mathlib.Omega.{arith}
 use lib.ListN.{length, getD, drop, drop-of-length-le}
+use lib.Pow.{mod-mod-pow}
 use Rattle.laws.specs.Lists.{sumBy}
 use Rattle.laws.proofs.Rows.{sum-from}
 use Rattle.sums.specs.Sums.{groupsOf, binarySum, unkeyed, folded}
 
-module _ (rule : ℕ → ℕ) (row : List ℕ) (m so i : ℕ) where
-  -- one turn: what is taken and what is still to come are what was still to come
-  pub one-more : i < length row → ((so + rule (getD row i 0)) % m + sumBy rule (drop (i + 1) row)) % m ≡ (so + sumBy rule (drop i row)) % m
+module _ (rule : ℕ → ℕ) (row : List ℕ) (spare wide so i : ℕ) where
+  -- one turn, of whose sum more bits are kept than are asked for: what is taken and what is still to come are what was still to come
+  pub one-more : i < length row → ((so + rule (getD row i 0)) % 2 ^ (spare + wide) + sumBy rule (drop (i + 1) row)) % 2 ^ wide ≡ (so + sumBy rule (drop i row)) % 2 ^ wide
   one-more within =
-      mod-add-mod (so + rule (getD row i 0)) m (sumBy rule (drop (i + 1) row))
+      let sum = so + rule (getD row i 0) in
+      let rest = sumBy rule (drop (i + 1) row) in
+      sym (mod-add-mod (sum % 2 ^ (spare + wide)) (2 ^ wide) rest)
+      ∙ ap (λ (n : ℕ). (n + rest) % 2 ^ wide) (mod-mod-pow sum spare wide)
+      ∙ mod-add-mod sum (2 ^ wide) rest
       ∙ rw (add-one, sum-from rule row i within, add-assoc)
 
   -- at the end nothing is still to come
-  pub none-left : length row ≤ i → so < m → (so + sumBy rule (drop i row)) % m ≡ so
+  pub none-left : length row ≤ i → (so + sumBy rule (drop i row)) % 2 ^ wide ≡ so % 2 ^ wide
   unfolding sumBy
-  none-left done small = rw (drop-of-length-le row done, add-zero) (mod-eq-of-lt small)
+  none-left done = rw (drop-of-length-le row done, add-zero)
 
 -- a word without its lowest bits is no larger
 cleared-fits : (held word : ℕ) → word < 2 ^ 32 → word / 2 ^ held * 2 ^ held % 2 ^ 32 ≡ word / 2 ^ held * 2 ^ held

@@ -10,18 +10,18 @@ ghost use Rattle.sums.specs.Words.{undamaged};
 // A word has 21 bits: it is below this.
 pub const WORD_LIMIT: u32 = 0x20_0000;
 
-// 01's table, 10: whether no word has more than 21 bits.
+// 01's table, 10: whether no word has more than 21 bits. The bits of all words are taken together and asked once, since
+// a loop that does not leave early is compiled to several words at a time.
 pub fn undamaged(words: &[u32]) -> bool
     ensures { λ r. ⌜ r ≡ undamaged (now (words .entry)) ⌝ }
 {
+    let mut bits: u32 = 0;
     let mut at: usize = 0;
     while at < words.len() {
-        if words[at] >= WORD_LIMIT {
-            return false;
-        }
+        bits = bits | words[at];
         at += 1;
     }
-    true
+    bits < WORD_LIMIT
 }
 
 // The three groups of a word, added: at most 541.
@@ -32,18 +32,19 @@ pub fn groups(word: u32) -> u32
     word % 256 + (word >> 8) % 256 + (word >> 16) % 32
 }
 
-// The low ten bits of the sum of a first word and of all words behind the first of a row. More bits than ten
-// are never asked for.
+// The low ten bits of the sum of a first word and of all words behind the first of a row. More bits than ten are never
+// asked for. They are taken behind the loop, since one that reduces at each turn is not compiled to several words at a
+// time; the loop's own sum wraps at a multiple of 1024.
 fn sum_behind(first: u32, words: &[u32]) -> u32
     ensures { λ r. ⌜ r ≡ (groupsOf first + binarySum (drop 1 (now (words .entry)))) % 1024 ⌝ }
 {
     let mut sum = groups(first);
     let mut i: usize = 1;
     while i < words.len() {
-        sum = (sum + groups(words[i])) % 1024;
+        sum = std::num::wrapping_add_u32(sum, groups(words[i]));
         i += 1;
     }
-    sum
+    sum % 1024
 }
 
 // The low ten bits of the sum of a row of words whose first holds so many bits of K, taken as 0.
@@ -73,15 +74,16 @@ pub fn ten_bit(words: &[u32]) -> u32
     1023 - sum_unkeyed(words, 10)
 }
 
-// The signature of a text with its fill. Of a byte that is no character the low seven bits count.
+// The signature of a text with its fill. Of a byte that is no character the low seven bits count. They are taken behind
+// the loop, as in `sum_behind`.
 pub fn signature(characters: &[u8]) -> u32
     ensures { λ r. ⌜ r ≡ signatureOf (now (characters .entry)) ⌝ }
 {
     let mut sum: u32 = 0;
     let mut i: usize = 0;
     while i < characters.len() {
-        sum = (sum + characters[i] as u32) % 128;
+        sum = std::num::wrapping_add_u32(sum, characters[i] as u32);
         i += 1;
     }
-    127 - sum
+    127 - sum % 128
 }

@@ -62,13 +62,13 @@ fn write_words(second: u32, words: &[u32], text: &mut [u8]) -> usize
     at
 }
 
-// Whether the text that a second word begins has room. Three characters a word are never too few, so that it is
-// counted only where the room is less than that.
+// Whether the text that a second word begins has room. Three characters a word behind the first, which holds none, are
+// never too few, so that it is counted only where the room is less than that.
 fn has_room(second: u32, words: &[u32], room: usize) -> bool
     requires { ⌜ 2 ≤ length (now words) ⌝ }
     ensures { λ r. ⌜ r ≡ leb (length (textFrom second (now (words .entry)))) room ⌝ }
 {
-    if words.len() <= room / 3 {
+    if words.len() - 1 <= room / 3 {
         return true;
     }
     cells::count(second, words) <= room

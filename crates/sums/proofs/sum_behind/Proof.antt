@@ -1,5 +1,5 @@
 -- `sum_behind` meets its contract: the sum so far and what is still to come, modulo 1024.
-use Prim.Native.Nat.{ℕ, _+_, _-_, _%_, _<_}
+use Prim.Native.Nat.{ℕ, _+_, _-_, _%_, _^_}
 use mathlib.Core.Path.{_≡_, refl, sym, ap, _∙_}
 use native.Mathlib.Omega.{arith}
 use lib.ListN.{length, drop}
@@ -11,7 +11,7 @@ use Rattle.sums.proofs.sum_behind.Statement.{statement}
 use Rattle.sums.proofs.sum_behind.Tie as tie
 
 abbrev Inv-loop : tie.InvT-loop
-Inv-loop first words sum₀ i₀ sum i = (sum < 1024) × ((sum + sumBy groupsOf (drop i words)) % 1024 ≡ (sum₀ + sumBy groupsOf (drop 1 words)) % 1024)
+Inv-loop first words sum₀ i₀ sum i = (sum + sumBy groupsOf (drop i words)) % 1024 ≡ (sum₀ + sumBy groupsOf (drop 1 words)) % 1024
 
 abbrev μ-loop : tie.MeasureT-loop
 μ-loop first words sum₀ i₀ sum i = length words - i
@@ -20,7 +20,7 @@ groups-requires : tie.Need-groups-requires Inv-loop μ-loop
 groups-requires c κs = search needs
 
 loop-holds : tie.Need-loop-holds Inv-loop μ-loop
-loop-holds c = (omega (arith, c .groups .ensures .1), refl)
+loop-holds c = refl
 
 mul-groups : tie.Need-mul-groups Inv-loop μ-loop
 mul-groups c = search needs
@@ -31,8 +31,8 @@ shared-slice-read-groups c = search needs
 groups-requires-2 : tie.Need-groups-requires-2 Inv-loop μ-loop
 groups-requires-2 c κs = search needs
 
-add-sum : tie.Need-add-sum Inv-loop μ-loop
-add-sum c = search needs
+wrapping-add-u32-requires : tie.Need-wrapping-add-u32-requires Inv-loop μ-loop
+wrapping-add-u32-requires c κs = search needs
 
 add-i : tie.Need-add-i Inv-loop μ-loop
 add-i c = search needs
@@ -42,16 +42,18 @@ loop-less c = search needs
 
 loop-again : tie.Need-loop-again Inv-loop μ-loop
 loop-again c =
-    let turn = c .before .before .before in
+    let turn = c .before .before .before .before in
     let row = turn .before .before .before .args .words .now in
-    (omega arith, ap (λ (n : ℕ). ((turn .loop .sum + n) % 1024 + sumBy groupsOf (drop (turn .loop .i + 1) row)) % 1024) (c .groups2 .ensures .0) ∙ one-more groupsOf row 1024 (turn .loop .sum) (turn .loop .i) (omega arith) ∙ turn .loop .inv .1)
+    ap (λ (n : ℕ). (n + sumBy groupsOf (drop (turn .loop .i + 1) row)) % 1024) (c .wrapping-add-u32 .ensures ∙ ap (λ (n : ℕ). (turn .loop .sum + n) % 2 ^ 32) (c .before .groups2 .ensures .0))
+    ∙ one-more groupsOf row 22 10 (turn .loop .sum) (turn .loop .i) (omega arith)
+    ∙ turn .loop .inv
 
 returns : tie.Need-returns Inv-loop μ-loop
 returns c =
     let turn = c .before in
     let args = turn .before .before .before .args in
-    sym (none-left groupsOf (args .words .now) 1024 (turn .loop .sum) (turn .loop .i) (omega arith) (turn .loop .inv .0))
-    ∙ turn .loop .inv .1
+    sym (none-left groupsOf (args .words .now) 22 10 (turn .loop .sum) (turn .loop .i) (omega arith))
+    ∙ turn .loop .inv
     ∙ ap (λ (n : ℕ). (n + sumBy groupsOf (drop 1 (args .words .now))) % 1024) (turn .before .groups .ensures .0)
 
 pub sum-behind-spec : {M : Type 1} → statement M
@@ -65,7 +67,7 @@ sum-behind-spec =
     mul-groups
     shared-slice-read-groups
     groups-requires-2
-    add-sum
+    wrapping-add-u32-requires
     add-i
     loop-less
     loop-again

@@ -1,35 +1,30 @@
--- `undamaged` meets its contract: what is still to be asked decides.
+-- `undamaged` meets its contract: the bits so far, and what is still to be asked, decide.
 use Prim.Native.Nat.{_-_, _^_}
+use mathlib.Core.Bool.{_&&_}
 use mathlib.Core.Path.{_≡_, refl, _∙_}
 use native.Mathlib.Omega.{arith}
-use borrow.Author.Tests.{lt-ltb, le-ltb}
+use lib.Dec.{ltb}
 use lib.ListN.{length, drop}
 use Rattle.laws.specs.Numerals.{areDigits}
-use Rattle.laws.proofs.Rows.{passes, fails, all-asked}
+use Rattle.sums.proofs.Asking.{asked-more, all-asked}
 use borrow.Author.Needs.{needs}
 use Rattle.sums.proofs.undamaged.Statement.{statement}
 use Rattle.sums.proofs.undamaged.Tie as tie
 
 abbrev Inv-loop : tie.InvT-loop
-Inv-loop words at₀ at = areDigits (2 ^ 21) (drop at words) ≡ areDigits (2 ^ 21) words
+Inv-loop words bits₀ at₀ bits at = (ltb bits (2 ^ 21) && areDigits (2 ^ 21) (drop at words)) ≡ areDigits (2 ^ 21) words
 
 abbrev μ-loop : tie.MeasureT-loop
-μ-loop words at₀ at = length words - at
+μ-loop words bits₀ at₀ bits at = length words - at
 
 loop-holds : tie.Need-loop-holds Inv-loop μ-loop
 loop-holds c = refl
 
-mul-if1 : tie.Need-mul-if1 Inv-loop μ-loop
-mul-if1 c = search needs
+mul-bits : tie.Need-mul-bits Inv-loop μ-loop
+mul-bits c = search needs
 
-shared-slice-read-if1 : tie.Need-shared-slice-read-if1 Inv-loop μ-loop
-shared-slice-read-if1 c = search needs
-
-returns : tie.Need-returns Inv-loop μ-loop
-returns c =
-    let turn = c .before .before .before in
-    let words = turn .before .args .words .now in
-    fails _ words (turn .loop .at) (omega arith) (le-ltb _ _ (c .if1 .taken)) ∙ turn .loop .inv
+shared-slice-read-bits : tie.Need-shared-slice-read-bits Inv-loop μ-loop
+shared-slice-read-bits c = search needs
 
 add-at : tie.Need-add-at Inv-loop μ-loop
 add-at c = search needs
@@ -39,14 +34,13 @@ loop-less c = search needs
 
 loop-again : tie.Need-loop-again Inv-loop μ-loop
 loop-again c =
-    let turn = c .before .before .before in
-    let words = turn .before .args .words .now in
-    passes _ words (turn .loop .at) (omega arith) (lt-ltb _ _ (c .if1 .left)) ∙ turn .loop .inv
+    let turn = c .before .before in
+    asked-more 21 (turn .before .args .words .now) (turn .loop .bits) (turn .loop .at) (omega arith) ∙ turn .loop .inv
 
-returns-2 : tie.Need-returns-2 Inv-loop μ-loop
-returns-2 c =
+returns : tie.Need-returns Inv-loop μ-loop
+returns c =
     let turn = c .before in
-    all-asked _ (turn .before .args .words .now) (turn .loop .at) (omega arith) ∙ turn .loop .inv
+    all-asked 21 (turn .before .args .words .now) (turn .loop .bits) (turn .loop .at) (omega arith) ∙ turn .loop .inv
 
 pub undamaged-spec : {M : Type 1} → statement M
 undamaged-spec =
@@ -55,10 +49,9 @@ undamaged-spec =
     Inv-loop
     μ-loop
     loop-holds
-    mul-if1
-    shared-slice-read-if1
-    returns
+    mul-bits
+    shared-slice-read-bits
     add-at
     loop-less
     loop-again
-    returns-2)
+    returns)

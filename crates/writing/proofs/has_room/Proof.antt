@@ -1,4 +1,4 @@
--- `has_room` meets its contract: three characters a word are never too few, and where there is less room they are counted.
+-- `has_room` meets its contract: three characters a word behind the first are never too few, and where there is less room they are counted.
 use Prim.Native.Nat.{ℕ}
 use mathlib.Core.Path.{sym, ap}
 use native.Mathlib.Omega.{arith}
@@ -10,6 +10,9 @@ use Rattle.cells.proofs.Reading.{text-most}
 use borrow.Author.Needs.{needs}
 use Rattle.writing.proofs.has_room.Statement.{statement}
 use Rattle.writing.proofs.has_room.Tie as tie
+
+sub-if1 : tie.Need-sub-if1
+sub-if1 c = search needs
 
 returns : tie.Need-returns
 returns c =
@@ -24,4 +27,4 @@ returns-2 : tie.Need-returns-2
 returns-2 c = ap (λ (n : ℕ). leb n (c .before .before .before .args .room)) (c .count .ensures)
 
 pub has-room-spec : {M : Type 1} → statement M
-has-room-spec = tie.close (tie.spec returns count-requires returns-2)
+has-room-spec = tie.close (tie.spec sub-if1 returns count-requires returns-2)

@@ -1,4 +1,4 @@
--- `count` meets its contract: the characters so far and those still to come are all.
+-- `count_few` meets its contract: the characters so far and those still to come are all.
 use Prim.Native.Nat.{_+_, _-_, _*_, _≤_}
 use mathlib.Core.Path.{_≡_, ap}
 use native.Mathlib.Omega.{arith}
@@ -7,8 +7,8 @@ use Rattle.message.specs.Fragments.{cellsOf, withoutFill}
 use Rattle.cells.specs.Pieces.{textFrom}
 use Rattle.cells.proofs.Reading.{few, length-next, text-end, length-from}
 use borrow.Author.Needs.{needs}
-use Rattle.cells.proofs.count.Statement.{statement}
-use Rattle.cells.proofs.count.Tie as tie
+use Rattle.cells.proofs.count_few.Statement.{statement}
+use Rattle.cells.proofs.count_few.Tie as tie
 
 abbrev Inv-loop : tie.InvT-loop
 Inv-loop second words count₀ i₀ count i = (count ≤ 3 * i) × (count + length (withoutFill (cellsOf (drop i words))) ≡ length (textFrom second words))
@@ -36,7 +36,7 @@ count-in-requires-2 c κs = search needs
 add-count : tie.Need-add-count Inv-loop μ-loop
 add-count c =
     let turn = c .before .before .before in
-    omega (arith, c .count-in2 .ensures, few (getD (turn .before .before .before .args .words .now) (turn .loop .i) 0))
+    omega (arith, turn .before .before .before .pre, c .count-in2 .ensures, few (getD (turn .before .before .before .args .words .now) (turn .loop .i) 0))
 
 add-i : tie.Need-add-i Inv-loop μ-loop
 add-i c = search needs
@@ -55,8 +55,8 @@ returns c =
     let turn = c .before in
     omega (arith, ap length (text-end (turn .before .before .before .args .words .now) (turn .loop .i) (omega arith)))
 
-pub count-spec : {M : Type 1} → statement M
-count-spec =
+pub count-few-spec : {M : Type 1} → statement M
+count-few-spec =
     tie.close
     (tie.spec
     Inv-loop
