@@ -6,6 +6,7 @@ use std::path::Path;
 use crate::bytes;
 use crate::callgrind::instructions;
 use crate::measure::{Purpose, Row};
+use crate::rows::AGAINST_SECOND;
 
 /// No operation over so many times the second program's instructions.
 const AIM: f64 = 1.2;
@@ -26,7 +27,7 @@ impl Counted {
 
     fn aim(&self) -> f64 {
         match self.row.group {
-            "joining" if !self.row.input.contains("second program") => AIM_OF_JOINING,
+            "joining" if self.row.input != AGAINST_SECOND => AIM_OF_JOINING,
             _ => AIM,
         }
     }
@@ -65,11 +66,13 @@ const OPERATIONS: [Section; 10] = [
     section("calls", "Calls", ""),
 ];
 
+const WORST: &str = "worst packet";
+
 const FURTHER: [Section; 5] = [
     section(
-        "worst packet",
+        WORST,
         "The worst packet",
-        "The dearest states for each kind of packet that the decoder sends: what the host calls for it. A word of a group's \
+        "The dearest states for each kind of packet that the decoder sends, and what the host calls for it. A word of a group's\n\
          page can complete eight calls, and then up to eight fragments are joined; the rows of `chain_step` tell one.",
     ),
     section("growth by words", "Growth with the words of a fragment", ""),
@@ -78,9 +81,9 @@ const FURTHER: [Section; 5] = [
     section(
         "joining",
         "Joining a text",
-        "1,008 characters in fragments of 85 words (the last has 2): all five steps. The plain copy unpacks the cells of each \
-         fragment, copies them but for fill, and makes both sums, K of the words and the sum of the cells, in plain loops. The \
-         stricter yardstick has the text lying ready: one memcpy of it, K of each fragment and the signature by the second \
+        "1,008 characters in fragments of 85 words (the last has 2): all five steps. The plain copy unpacks the cells of each\n\
+         fragment, copies them but for fill, and makes both sums, K of the words and the sum of the cells, in plain loops. The\n\
+         stricter yardstick has the text lying ready: one memcpy of it, and K of each fragment and the signature by the second\n\
          program. The aim is 1.5 against the plain copy.",
     ),
 ];
@@ -103,7 +106,7 @@ fn counted(folder: &Path, wanted: &str) -> Result<Vec<Counted>, String> {
 /// One group alone, for whoever mends it.
 pub fn show(folder: &Path, wanted: &str) -> Result<(), String> {
     let rows = counted(folder, wanted)?;
-    print!("{}", table(rows.iter()));
+    print!("{}", table(rows.iter(), "second program"));
     Ok(())
 }
 
@@ -118,6 +121,9 @@ pub fn document(folder: &Path, archive: &Path, why: &Path) -> Result<(), String>
     }
     for section in &FURTHER {
         text += &in_section(section, "##", &rows);
+        if section.group == WORST {
+            text += &dearest(&rows);
+        }
     }
     text += &bytes::sections(archive, &rows)?;
     text += "\n## Why rows are over the aim\n\n";
@@ -134,7 +140,7 @@ fn opening(rows: &[Counted]) -> Result<String, String> {
     let mut text = OPENING.to_owned();
     let _ = write!(
         text,
-        "\nMeasured on {}, with {} and {}. {over} of {} rows are over the aim; they are marked, and why stands at the end.\n",
+        "\nMeasured on {}, with {} and {}.\n{over} of {} rows are over the aim; they are marked, and why stands at the end.\n",
         machine.trim(),
         valgrind.trim(),
         rustc.trim(),
@@ -170,12 +176,35 @@ fn in_section(section: &Section, level: &str, rows: &[Counted]) -> String {
         "" => String::new(),
         about => format!("{about}\n\n"),
     };
-    format!("\n{level} {}\n\n{about}{}", section.title, table(rows))
+    let other = match section.group {
+        "joining" => "yardstick",
+        _ => "second program",
+    };
+    let table = table(rows, other);
+    format!("\n{level} {}\n\n{about}{table}", section.title)
 }
 
-fn table<'a>(rows: impl Iterator<Item = &'a Counted>) -> String {
-    let head =
-        "| operation | input | library | second program | ratio | |\n|---|---|--:|--:|--:|---|\n";
+/// Of the packets alone, without the joining behind them.
+fn dearest(rows: &[Counted]) -> String {
+    let packets = rows.iter().filter(|counted| counted.row.group == WORST);
+    let packets = packets.filter(|counted| counted.row.operation != "chain_step");
+    match packets.max_by_key(|counted| counted.library) {
+        None => String::new(),
+        Some(Counted {
+            row,
+            library,
+            other,
+        }) => format!(
+            "\nThe dearest: {} ({library} instructions, the second program's {other}).\n",
+            row.input
+        ),
+    }
+}
+
+/// What the library is held against is named, since it is not always the second program.
+fn table<'a>(rows: impl Iterator<Item = &'a Counted>, other: &str) -> String {
+    let names = format!("| operation | input | library | {other} | ratio | |");
+    let head = format!("{names}\n|---|---|--:|--:|--:|---|\n");
     let line = |counted: &Counted| {
         let Counted {
             row,
@@ -186,6 +215,5 @@ fn table<'a>(rows: impl Iterator<Item = &'a Counted>) -> String {
         let (operation, input, ratio) = (&row.operation, &row.input, counted.ratio());
         format!("| `{operation}` | {input} | {library} | {other} | {ratio:.2} | {mark} |\n")
     };
-    rows.map(line)
-        .fold(head.to_owned(), |text, line| text + &line)
+    rows.map(line).fold(head, |text, line| text + &line)
 }

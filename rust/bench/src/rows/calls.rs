@@ -8,22 +8,24 @@ use second::refusal::Refusal;
 use crate::measure::{side, Measure, Told};
 use crate::told::{from_words, told, words_of};
 
-/// Phase A, where every packet here belongs.
-const PHASE: u32 = 0;
-
-/// An address packet of user address 0 (Table 30).
+/// An address packet of user address 0 in phase A (Table 30).
 pub fn address_packet(vector: u32) -> u32 {
-    0x01 << 24 | PHASE << 21 | vector
+    0x01 << 24 | vector
 }
 
-/// An alphanumeric vector packet (Table 36).
+/// An alphanumeric vector packet in phase A (Table 36).
 pub fn vector_packet(vector: u32, words: u32, start: u32) -> u32 {
-    vector << 24 | PHASE << 21 | VECTOR_ALPHANUMERIC << 16 | words << 7 | start
+    vector << 24 | VECTOR_ALPHANUMERIC << 16 | words << 7 | start
 }
 
-/// A message packet (Table 40).
+/// A message packet in phase A (Table 40).
 pub fn message_packet(word: u32) -> u32 {
-    word << 24 | PHASE << 21 | 0x15_5555
+    word << 24 | 0x15_5555
+}
+
+/// The same packet in another phase, which is in the same place in all three.
+pub fn in_phase(phase: u32, packet: u32) -> u32 {
+    phase << 21 | packet
 }
 
 /// The calls of a frame and their memory.
@@ -36,12 +38,16 @@ pub struct Frame {
 impl Frame {
     /// With calls whose vectors are awaited at these words.
     pub fn with_vectors_at(vectors: impl IntoIterator<Item = u32>) -> Frame {
+        Frame::opened_by(vectors.into_iter().map(address_packet))
+    }
+
+    pub fn opened_by(packets: impl IntoIterator<Item = u32>) -> Frame {
         let mut frame = Frame {
             calls: SecondCalls::default(),
             memory: vec![0; CALL_WORDS],
         };
-        for vector in vectors {
-            let opened = frame.calls.open(address_packet(vector));
+        for packet in packets {
+            let opened = frame.calls.open(packet);
             opened.expect("a call is free");
         }
         frame
@@ -61,6 +67,22 @@ impl Frame {
         let vectors = 2..2 + calls;
         Frame::with_vectors_at(vectors.clone())
             .after(vectors.map(|vector| vector_packet(vector, 78, 10)))
+    }
+
+    /// With eight calls, of which the last awaits its vector at word 2, and the others words 10 to 87.
+    pub fn awaiting_last_vector() -> Frame {
+        let heard = (3..10).map(|vector| vector_packet(vector, 78, 10));
+        Frame::with_vectors_at([3, 4, 5, 6, 7, 8, 9, 2]).after(heard)
+    }
+
+    /// With two calls in each of the four phases, of words 4 to 87 all, of which only the last has not come.
+    pub fn of_all_phases() -> Frame {
+        let in_all = |packet: u32| (0..4).map(move |phase| in_phase(phase, packet));
+        let addresses = [2, 3].map(address_packet).into_iter().flat_map(in_all);
+        let vectors = [2, 3].map(|vector| vector_packet(vector, 84, 4));
+        let words = (4..87).map(message_packet);
+        let packets = vectors.into_iter().chain(words).flat_map(in_all);
+        Frame::opened_by(addresses).after(packets)
     }
 
     /// With one call of all 85 words, and so many others that await their words 60 to 87.
@@ -139,18 +161,9 @@ fn opens(measure: &mut Measure) {
 
 fn vectors(measure: &mut Measure) {
     let one = Frame::with_vectors_at([2]);
-    hear(
-        measure,
-        "a vector of 1 word, its call alone",
-        &one,
-        vector_packet(2, 1, 3),
-    );
-    hear(
-        measure,
-        "a vector of 85 words, its call alone",
-        &one,
-        vector_packet(2, 85, 3),
-    );
+    let (small, large) = (vector_packet(2, 1, 3), vector_packet(2, 85, 3));
+    hear(measure, "a vector of 1 word, its call alone", &one, small);
+    hear(measure, "a vector of 85 words, its call alone", &one, large);
     let short_message = 2 << 24 | VECTOR_SHORT << 16;
     hear(
         measure,
@@ -158,26 +171,26 @@ fn vectors(measure: &mut Measure) {
         &one,
         short_message,
     );
-    let eight = Frame::with_vectors_at([3, 4, 5, 6, 7, 8, 9, 2]);
-    let heard = (3..10).map(|vector| vector_packet(vector, 78, 10));
-    let eight = eight.after(heard);
+    let eight = Frame::awaiting_last_vector();
     hear(
         measure,
         "a vector of 85 words, 7 others open",
         &eight,
-        vector_packet(2, 85, 3),
+        large,
     );
+    let none = vector_packet(2, 0, 3);
     hear(
         measure,
         "refused 9: a vector of 0 words, 7 others open",
         &eight,
-        vector_packet(2, 0, 3),
+        none,
     );
+    let again = vector_packet(9, 78, 10);
     hear(
         measure,
         "refused 14: a vector again, 8 open",
         &Frame::of_group(8),
-        vector_packet(9, 78, 10),
+        again,
     );
 }
 
@@ -246,7 +259,7 @@ fn refused_words(measure: &mut Measure) {
         measure,
         "refused 17: a word of no call, 8 open",
         &group,
-        message_packet(10) ^ 1 << 21,
+        in_phase(1, message_packet(10)),
     );
     let again = group.after([message_packet(87)]);
     hear(

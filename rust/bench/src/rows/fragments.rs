@@ -166,26 +166,20 @@ fn cut(measure: &mut Measure, input: &str, text: &[u8], largest: usize, room: us
                 let (words, room) = (lent.as_mut_ptr(), lent.len());
                 mortisevane_text_cut(text.as_ptr(), text.len(), own_marks, largest, words, room)
             },
-            |(_, lent), cut| {
-                let TextCut {
-                    number,
-                    fragments,
-                    words,
-                } = *cut;
-                [
-                    vec![number.into(), fragments as u64, words as u64],
-                    told(lent),
-                ]
-                .concat()
-            },
+            |(_, lent), cut| [told_cut(cut), told(lent)].concat(),
         ),
         side(
             (text, lent, second),
             |(text, lent, second)| second(text, marks, largest, lent),
-            |(_, lent, _), cut| {
-                let tell = |cut: &SecondCut| vec![cut.fragments as u64, cut.words as u64];
-                [answer(cut, tell, 2), told(lent)].concat()
-            },
+            |(_, lent, _), cut| [answer(cut, told_second_cut, 2), told(lent)].concat(),
         ),
     );
+}
+
+fn told_cut(cut: &TextCut) -> Told {
+    vec![cut.number.into(), cut.fragments as u64, cut.words as u64]
+}
+
+fn told_second_cut(cut: &SecondCut) -> Told {
+    vec![cut.fragments as u64, cut.words as u64]
 }

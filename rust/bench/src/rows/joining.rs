@@ -11,6 +11,9 @@ use crate::measure::{side, Measure, Told};
 use crate::messages::{fragments_of, text};
 use crate::told::bytes;
 
+/// The row that has the aim of every operation; the others of this group have their own.
+pub const AGAINST_SECOND: &str = "against the second program";
+
 pub fn rows(measure: &mut Measure) {
     measure.group("joining");
     let text = text(TEXT_CHARACTERS);
@@ -27,13 +30,14 @@ pub fn rows(measure: &mut Measure) {
     against_copy(measure, input, &text, &fragments, memcpy_and_sums);
 }
 
+type Step = fn(&mut SecondChains, &mut [u8], u32, &[u32]) -> Result<Joined, NotJoined>;
+
 fn against_second(measure: &mut Measure, fragments: &[Vec<u32>]) {
-    type Step = fn(&mut SecondChains, &mut [u8], u32, &[u32]) -> Result<Joined, NotJoined>;
     let second = SecondChains::step as Step;
     let buffer = vec![0xA5; CHAIN_BYTES];
     measure.row_of_state(
         "chain_step",
-        "against the second program",
+        AGAINST_SECOND,
         side(
             (Chains::default(), buffer.clone()),
             |(chains, buffer)| join(chains, buffer, fragments),
@@ -67,7 +71,7 @@ fn second_join(
     chains: &mut SecondChains,
     buffer: &mut [u8],
     fragments: &[Vec<u32>],
-    step: fn(&mut SecondChains, &mut [u8], u32, &[u32]) -> Result<Joined, NotJoined>,
+    step: Step,
 ) -> Result<Joined, NotJoined> {
     let mut last = Ok(Joined::default());
     for fragment in fragments {

@@ -94,7 +94,7 @@ fn step(measure: &mut Measure, input: &str, before: (u32, u32), packet: u32) {
 fn run(measure: &mut Measure, input: &str, before: (u32, u32), packets: u32) {
     let (own, other) = mirrors(before);
     let packets: Vec<u32> = (0..packets)
-        .map(|place| (place % 256) << 24 | place * 4_099)
+        .map(|place| ((place % 256) << 24) | (place * 4_099))
         .collect();
     let packets = packets.as_slice();
     type Run = fn(SecondMirror, &[u32]) -> Result<SecondMirror, Refusal>;

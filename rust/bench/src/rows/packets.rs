@@ -24,112 +24,52 @@ pub fn rows(measure: &mut Measure) {
         ("refused 7: a reserved ID", 0x0400_0000),
     ];
     for (input, bits) in sent {
-        let second = packet::may_send as fn(u32) -> Result<(), Refusal>;
-        reader(
-            measure,
-            "may_send",
-            input,
-            bits,
-            mortisevane_may_send,
-            second,
-        );
+        let (export, second) = (mortisevane_may_send, packet::may_send);
+        packet_row(measure, "may_send", input, bits, export, second);
     }
+}
+
+/// Rows of builders: the export, the second program's kind of packet, and fields that are accepted.
+macro_rules! builders {
+    ($measure:ident: $($export:ident $kind:ident $numbers:expr;)*) => {
+        $(building::<_, $kind>($measure, stringify!($export), $export, &$numbers);)*
+    };
 }
 
 fn builders(measure: &mut Measure) {
     use second::packet::*;
-    type M<'a> = &'a mut Measure;
-    let m: M = measure;
-    builder::<_, Checksum>(
-        m,
-        "build_checksum",
-        mortisevane_build_checksum,
-        &[0xFF_FFFF],
-        0,
-    );
-    let numbers = [3, 2, 1, 1, 1, 1, 1];
-    builder::<_, Configuration>(
-        m,
-        "build_configuration",
-        mortisevane_build_configuration,
-        &numbers,
-        6,
-    );
-    builder::<_, Control>(
-        m,
-        "build_control",
-        mortisevane_build_control,
-        &[255, 1, 3, 1, 1, 1],
-        5,
-    );
-    builder::<_, AllFrameMode>(
-        m,
-        "build_all_frame_mode",
-        mortisevane_build_all_frame_mode,
-        &[1, 1, 0xFFFF],
-        2,
-    );
-    builder::<_, ReceiverLines>(
-        m,
-        "build_receiver_lines",
-        mortisevane_build_receiver_lines,
-        &[255, 255],
-        1,
-    );
-    builder::<_, ShutDown>(
-        m,
-        "build_shut_down",
-        mortisevane_build_shut_down,
-        &[1, 1, 1, 255, 63],
-        4,
-    );
-    builder::<_, FrameAssignment>(
-        m,
-        "build_frame_assignment",
-        mortisevane_build_frame_assignment,
-        &[7, 0xFFFF],
-        1,
-    );
-    builder::<_, UserAddress>(
-        m,
-        "build_user_address",
-        mortisevane_build_user_address,
-        &[15, 1, 1, 0x1F_FFFF],
-        3,
-    );
-    builder::<_, AddressEnable>(
-        m,
-        "build_address_enable",
-        mortisevane_build_address_enable,
-        &[0xFFFF],
-        0,
-    );
-    builder::<_, PartId>(
-        m,
-        "build_part_id",
-        mortisevane_build_part_id,
-        &[3, 0x3FFF, 255],
-        2,
-    );
+    builders! {
+        measure:
+        mortisevane_build_checksum Checksum [0xFF_FFFF];
+        mortisevane_build_configuration Configuration [3, 2, 1, 1, 1, 1, 1];
+        mortisevane_build_control Control [255, 1, 3, 1, 1, 1];
+        mortisevane_build_all_frame_mode AllFrameMode [1, 1, 0xFFFF];
+        mortisevane_build_receiver_lines ReceiverLines [255, 255];
+        mortisevane_build_shut_down ShutDown [1, 1, 1, 255, 63];
+        mortisevane_build_frame_assignment FrameAssignment [7, 0xFFFF];
+        mortisevane_build_user_address UserAddress [15, 1, 1, 0x1F_FFFF];
+        mortisevane_build_address_enable AddressEnable [0xFFFF];
+        mortisevane_build_part_id PartId [3, 0x3FFF, 255];
+    }
 }
 
-/// The fields as given, and with one that is too large.
-fn builder<L: Copy, K: Kind + Clone>(
+/// The fields as given, and with the last too large.
+fn building<L: Copy, K: Kind + Clone>(
     measure: &mut Measure,
-    operation: &str,
+    export_name: &str,
     export: unsafe extern "C" fn(L) -> Built,
     numbers: &[u32],
-    too_large: usize,
 ) {
     let mut refused = numbers.to_vec();
-    refused[too_large] = u32::MAX;
-    for (input, numbers) in [
+    refused[numbers.len() - 1] = u32::MAX;
+    let inputs = [
         ("accepted", numbers),
         ("refused 7: its last field too large", &refused),
-    ] {
+    ];
+    for (input, numbers) in inputs {
         let fields = K::from_numbers(&mut numbers.iter().copied());
         measure.row(
-            operation,
+            operation(export_name),
             input,
             side(
                 from_words::<L>(numbers),
@@ -145,126 +85,51 @@ fn builder<L: Copy, K: Kind + Clone>(
     }
 }
 
+/// An export's name as the tables have it.
+fn operation(export_name: &str) -> &str {
+    export_name.trim_start_matches("mortisevane_")
+}
+
+/// Rows of readers: the export, the second program's function, a packet that is accepted, and the bits that make it
+/// refused.
+macro_rules! readers {
+    ($measure:ident: $($export:ident $second:expr, $accepted:literal ^ $wrong:expr;)*) => {
+        $(reading($measure, stringify!($export), $export, $second, $accepted, $wrong);)*
+    };
+}
+
 fn readers_of_sent(measure: &mut Measure) {
     use second::packet::*;
-    // Behind each packet that is accepted the bit that makes it refused.
-    both::<_, Checksum>(
-        measure,
-        "read_checksum",
-        mortisevane_read_checksum,
-        read,
-        0x0012_3456,
-        1 << 24,
-    );
-    both::<_, Configuration>(
-        measure,
-        "read_configuration",
-        mortisevane_read_configuration,
-        read,
-        0x0103_03F8,
-        1,
-    );
-    both::<_, Control>(
-        measure,
-        "read_control",
-        mortisevane_read_control,
-        read,
-        0x02FF_7051,
-        2,
-    );
-    both::<_, AllFrameMode>(
-        measure,
-        "read_all_frame_mode",
-        mortisevane_read_all_frame_mode,
-        read,
-        0x0340_FFFF,
-        1 << 16,
-    );
-    both::<_, ReceiverLines>(
-        measure,
-        "read_receiver_lines",
-        mortisevane_read_receiver_lines,
-        read,
-        0x0F00_A53C,
-        1 << 16,
-    );
-    both::<_, ShutDown>(
-        measure,
-        "read_shut_down",
-        mortisevane_read_shut_down,
-        read,
-        0x1B88_5A3F,
-        1 << 6,
-    );
-    both::<_, FrameAssignment>(
-        measure,
-        "read_frame_assignment",
-        mortisevane_read_frame_assignment,
-        read,
-        0x2500_2000,
-        1 << 16,
-    );
-    both::<_, UserAddress>(
-        measure,
-        "read_user_address",
-        mortisevane_read_user_address,
-        read,
-        0x8F5F_FFFE,
-        1 << 23,
-    );
-    both::<_, AddressEnable>(
-        measure,
-        "read_address_enable",
-        mortisevane_read_address_enable,
-        read,
-        0x7800_8001,
-        1 << 16,
-    );
-    both::<_, PartId>(
-        measure,
-        "read_part_id",
-        mortisevane_read_part_id,
-        read,
-        0xFF00_0106,
-        1 << 24,
-    );
+    readers! {
+        measure:
+        mortisevane_read_checksum read::<Checksum>, 0x0012_3456 ^ 1 << 24;
+        mortisevane_read_configuration read::<Configuration>, 0x0103_03F8 ^ 1;
+        mortisevane_read_control read::<Control>, 0x02FF_7051 ^ 2;
+        mortisevane_read_all_frame_mode read::<AllFrameMode>, 0x0340_FFFF ^ 1 << 16;
+        mortisevane_read_receiver_lines read::<ReceiverLines>, 0x0F00_A53C ^ 1 << 16;
+        mortisevane_read_shut_down read::<ShutDown>, 0x1B88_5A3F ^ 1 << 6;
+        mortisevane_read_frame_assignment read::<FrameAssignment>, 0x2500_2000 ^ 1 << 16;
+        mortisevane_read_user_address read::<UserAddress>, 0x8F5F_FFFE ^ 1 << 23;
+        mortisevane_read_address_enable read::<AddressEnable>, 0x7800_8001 ^ 1 << 16;
+        mortisevane_read_part_id read::<PartId>, 0xFF00_0106 ^ 1 << 24;
+    }
 }
 
 fn readers_of_heard(measure: &mut Measure) {
-    both(
-        measure,
-        "read_status",
-        mortisevane_read_status,
-        heard::read_status,
-        0x7FFF_CFD5,
-        1 << 31,
-    );
-    let second = heard::read_address as fn(u32) -> Result<heard::Address, Refusal>;
-    reader(
-        measure,
-        "read_address",
-        "accepted",
-        0x0170_8F03,
-        mortisevane_read_address,
-        second,
-    );
-    reader(
-        measure,
-        "read_address",
-        "refused 7: word 88",
-        0x0170_8F58,
-        mortisevane_read_address,
-        second,
-    );
-    reader(
-        measure,
-        "read_address",
-        "refused 8: an index of no address",
-        0x0170_7F03,
-        mortisevane_read_address,
-        second,
-    );
-    let second = vector::read_vector as fn(u32) -> Result<vector::Vector, Refusal>;
+    readers! {
+        measure:
+        mortisevane_read_status heard::read_status, 0x7FFF_CFD5 ^ 1 << 31;
+        mortisevane_read_message heard::read_message, 0x574A_AAAA ^ 1 << 31;
+    }
+    let addresses = [
+        ("accepted", 0x0170_8F03),
+        ("refused 7: word 88", 0x0170_8F58),
+        ("refused 8: an index of no address", 0x0170_7F03),
+    ];
+    for (input, bits) in addresses {
+        let (export, second) = (mortisevane_read_address, heard::read_address);
+        packet_row(measure, "read_address", input, bits, export, second);
+    }
     let vectors = [
         ("numeric", 0x0E3B_E994),
         ("alphanumeric", 0x57E5_2A83),
@@ -274,46 +139,26 @@ fn readers_of_heard(measure: &mut Measure) {
         ("refused 7: another packet", 0x5800_0000),
     ];
     for (input, bits) in vectors {
-        reader(
-            measure,
-            "read_vector",
-            input,
-            bits,
-            mortisevane_read_vector,
-            second,
-        );
+        let (export, second) = (mortisevane_read_vector, vector::read_vector);
+        packet_row(measure, "read_vector", input, bits, export, second);
     }
-    both(
-        measure,
-        "read_message",
-        mortisevane_read_message,
-        heard::read_message,
-        0x574A_AAAA,
-        1 << 31,
-    );
 }
 
-fn both<L: Copy, F: Numbers>(
+fn reading<L: Copy, F: Numbers>(
     measure: &mut Measure,
-    operation: &str,
+    export_name: &str,
     export: unsafe extern "C" fn(u32) -> L,
     second: fn(u32) -> Result<F, Refusal>,
     accepted: u32,
     wrong_bit: u32,
 ) {
-    reader(measure, operation, "accepted", accepted, export, second);
-    let input = "refused 7: another packet or a bit printed as 0";
-    reader(
-        measure,
-        operation,
-        input,
-        accepted ^ wrong_bit,
-        export,
-        second,
-    );
+    let name = operation(export_name);
+    packet_row(measure, name, "accepted", accepted, export, second);
+    let input = "refused 7: another packet, or a bit printed as 0";
+    packet_row(measure, name, input, accepted ^ wrong_bit, export, second);
 }
 
-fn reader<L: Copy, F: Numbers>(
+fn packet_row<L: Copy, F: Numbers>(
     measure: &mut Measure,
     operation: &str,
     input: &str,

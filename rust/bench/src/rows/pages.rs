@@ -24,103 +24,39 @@ const fn numbering(message_number: u32) -> SecondNumbering {
 /// As many as 8 words hold.
 const LONGEST: &[u8] = b"01234567890123456789012345678901234567-][";
 
+/// A text, its vector's type, and what the head of its page says.
+type Page<'a> = (&'a [u8], u32, SecondNumbering);
+
 pub fn rows(measure: &mut Measure) {
     measure.group("pages");
-    write(
-        measure,
-        "4 characters, 1 word",
-        b"0417",
-        VECTOR_STANDARD,
-        NOT_NUMBERED,
-    );
-    write(
-        measure,
-        "41 characters, 8 words",
-        LONGEST,
-        VECTOR_STANDARD,
-        NOT_NUMBERED,
-    );
-    write(
-        measure,
-        "2 characters, 1 word, numbered",
-        b"04",
-        VECTOR_NUMBERED,
-        NUMBERED,
-    );
-    write(
-        measure,
-        "39 characters, 8 words, numbered",
-        &LONGEST[..39],
-        VECTOR_NUMBERED,
-        NUMBERED,
-    );
+    let small: Page = (b"0417", VECTOR_STANDARD, NOT_NUMBERED);
+    let large: Page = (LONGEST, VECTOR_STANDARD, NOT_NUMBERED);
+    let small_numbered: Page = (b"04", VECTOR_NUMBERED, NUMBERED);
+    let large_numbered: Page = (&LONGEST[..39], VECTOR_NUMBERED, NUMBERED);
+    let mut wrong = LONGEST.to_vec();
+    wrong[40] = b'x';
+    write(measure, "4 characters, 1 word", small);
+    write(measure, "41 characters, 8 words", large);
+    write(measure, "2 characters, 1 word, numbered", small_numbered);
+    write(measure, "39 characters, 8 words, numbered", large_numbered);
     write(
         measure,
         "refused 7: of no kind",
-        b"0417",
-        VECTOR_HEX,
-        NOT_NUMBERED,
+        (b"0417", VECTOR_HEX, NOT_NUMBERED),
     );
-    write(
-        measure,
-        "refused 15: 42 characters",
-        &[b'0'; 42],
-        VECTOR_STANDARD,
-        NOT_NUMBERED,
-    );
-    let mut wrong = LONGEST.to_vec();
-    wrong[40] = b'x';
-    write(
-        measure,
-        "refused 18: the last of 41 characters",
-        &wrong,
-        VECTOR_STANDARD,
-        NOT_NUMBERED,
-    );
-    read(measure, "1 word", b"0417", VECTOR_STANDARD, NOT_NUMBERED, 0);
-    read(
-        measure,
-        "8 words",
-        LONGEST,
-        VECTOR_STANDARD,
-        NOT_NUMBERED,
-        0,
-    );
-    read(
-        measure,
-        "1 word, numbered",
-        b"04",
-        VECTOR_NUMBERED,
-        NUMBERED,
-        0,
-    );
-    read(
-        measure,
-        "8 words, numbered",
-        &LONGEST[..39],
-        VECTOR_NUMBERED,
-        NUMBERED,
-        0,
-    );
-    read(
-        measure,
-        "refused 10: the last of 8 words",
-        LONGEST,
-        VECTOR_STANDARD,
-        NOT_NUMBERED,
-        1 << 21,
-    );
-    read(
-        measure,
-        "refused 11: K of 8 words",
-        LONGEST,
-        VECTOR_STANDARD,
-        NOT_NUMBERED,
-        1,
-    );
+    let too_long: Page = (&[b'0'; 42], VECTOR_STANDARD, NOT_NUMBERED);
+    write(measure, "refused 15: 42 characters", too_long);
+    let last_wrong: Page = (&wrong, VECTOR_STANDARD, NOT_NUMBERED);
+    write(measure, "refused 18: the last of 41 characters", last_wrong);
+    read(measure, "1 word", small, 0);
+    read(measure, "8 words", large, 0);
+    read(measure, "1 word, numbered", small_numbered, 0);
+    read(measure, "8 words, numbered", large_numbered, 0);
+    read(measure, "refused 10: the last of 8 words", large, 1 << 21);
+    read(measure, "refused 11: K of 8 words", large, 1);
 }
 
-fn write(measure: &mut Measure, input: &str, text: &[u8], kind: u32, numbering: SecondNumbering) {
+fn write(measure: &mut Measure, input: &str, (text, kind, numbering): Page) {
     type Write = fn(&[u8], u32, SecondNumbering, &mut [u32]) -> Result<SecondWritten, Refusal>;
     let second = numeric::write as Write;
     let lent = [0xDEAD_BEEF; PAGE_WORDS];
@@ -160,14 +96,7 @@ fn write(measure: &mut Measure, input: &str, text: &[u8], kind: u32, numbering: 
 }
 
 /// The page of a text, with bits of its last word changed.
-fn read(
-    measure: &mut Measure,
-    input: &str,
-    text: &[u8],
-    kind: u32,
-    numbering: SecondNumbering,
-    changed: u32,
-) {
+fn read(measure: &mut Measure, input: &str, (text, kind, numbering): Page, changed: u32) {
     type Read = fn(u32, u32, &[u32], &mut [u8]) -> Result<SecondPageRead, Refusal>;
     let second = numeric::read as Read;
     let mut page = [0; PAGE_WORDS];

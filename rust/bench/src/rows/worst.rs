@@ -2,7 +2,9 @@
 
 use mortisevane::exports::*;
 
-use super::calls::{address_packet, end, hear, message_packet, open, vector_packet, Frame};
+use super::calls::{
+    address_packet, end, hear, in_phase, message_packet, open, vector_packet, Frame,
+};
 use super::chains::{after, others_open, step};
 use crate::measure::Measure;
 use crate::messages::{fragments_of, text};
@@ -23,24 +25,20 @@ pub fn rows(measure: &mut Measure) {
     );
     vectors(measure);
     messages(measure);
-    let lacking_last = Frame::of_group(8).after((10..87).map(message_packet));
+    let lacking_last = "status with EOF: 8 calls in four phases, each without the last of 84 words";
+    end(measure, lacking_last, &Frame::of_all_phases());
+    let last = (0..4).map(|phase| in_phase(phase, message_packet(87)));
+    let complete = Frame::of_all_phases().after(last);
     end(
         measure,
-        "status with EOF: 8 calls, each without the last of 78 words",
-        &lacking_last,
-    );
-    let complete = lacking_last.after([message_packet(87)]);
-    end(
-        measure,
-        "status with EOF: 8 calls, all complete, of 78 words",
+        "status with EOF: 8 calls in four phases, all complete, of 84 words",
         &complete,
     );
     joined(measure);
 }
 
 fn vectors(measure: &mut Measure) {
-    let eight = Frame::with_vectors_at([3, 4, 5, 6, 7, 8, 9, 2]);
-    let eight = eight.after((3..10).map(|vector| vector_packet(vector, 78, 10)));
+    let eight = Frame::awaiting_last_vector();
     hear(
         measure,
         "vector: of 85 words, the last of 8 calls",
@@ -76,7 +74,7 @@ fn messages(measure: &mut Measure) {
         measure,
         "message: of no call, 8 calls of 78 words, refused 17",
         &nearly,
-        message_packet(10) ^ 1 << 21,
+        in_phase(1, message_packet(10)),
     );
     let again = nearly.after([message_packet(87)]);
     hear(
