@@ -25,7 +25,7 @@ pub fn undamaged(words: &[u32]) -> bool
 }
 
 // The three groups of a word, added: at most 541.
-pub fn groups(word: u32) -> u32
+fn groups(word: u32) -> u32
     ensures sum { λ r. ⌜ r ≡ groupsOf word ⌝ }
     ensures small { λ r. ⌜ r ≤ 541 ⌝ }
 {
