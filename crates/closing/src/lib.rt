@@ -5,11 +5,13 @@ ghost use Prim.Native.Nat.{_+_, _≤_};
 ghost use lib.ListN.{length};
 ghost use Rattle.opening.specs.Stands.{keptOf, standOf};
 ghost use Rattle.opening.specs.Texts.{Answered, Wrote};
-ghost use Rattle.lister.specs.Lines.{verdictOf};
-ghost use Rattle.lister.specs.Portions.{kept, heldBytes, heldShown, closes, mostWritten};
+ghost use Rattle.capcode.specs.Reads.{readOf};
+ghost use Rattle.verdict.specs.Verdicts.{verdictOf, verdictAs};
+ghost use Rattle.lister.specs.Portions.{kept, heldBytes, heldShown, closes};
 use opening::Lister;
 use opening::Written;
 use refusal::Refusal;
+use verdict::Verdict;
 
 // Puts a text into a buffer at a place, and gives the place behind it.
 fn copy(text: &[u8], out: &mut [u8], place: usize) -> usize
@@ -45,13 +47,16 @@ fn with_return(lister: Lister) -> Lister
     }
 }
 
-// Writes the end of a line: what a line feed would write.
-fn write_end(ended: Lister, end: &mut [u8]) -> usize
-    requires { ⌜ mostWritten ≤ length (now end) ⌝ }
-    ensures { λ r. ⌜ Wrote (now (end .entry)) 0 (verdictOf (keptOf ended)) r (now (end .exit)) ⌝ }
+// What stands behind the text of a line; a count over sixteen stands for sixteen.
+fn verdict_on(ended: Lister) -> Verdict
+    ensures { λ r. ⌜ r ≡ verdictAs (readOf (keptOf ended)) ⌝ }
 {
-    let fed = lister::feed(ended, b"\n", end);
-    fed.written
+    let line = ended.line;
+    let count = ended.count;
+    if count < 16 {
+        return verdict::judge(&line[..count]);
+    }
+    verdict::judge(&line)
 }
 
 // How many bytes the carriage return that was held back takes.
@@ -73,12 +78,13 @@ fn show_held(held: bool, out: &mut [u8]) -> usize
 fn write_last(ended: Lister, held: bool, out: &mut [u8]) -> Written
     ensures { λ r. ⌜ Answered (now (out .entry)) (heldShown held ++ verdictOf (keptOf ended)) r (now (out .exit)) ⌝ }
 {
-    let mut end = [0; 32];
-    let length = write_end(ended, &mut end);
+    let verdict = verdict_on(ended);
+    let length = verdict.size;
     if out.len() < held_length(held) + length {
         return Written::Refused(Refusal::Room);
     }
     let place = show_held(held, out);
+    let end = verdict.end;
     Written::Length(copy(&end[..length], out, place))
 }
 

@@ -1,21 +1,19 @@
 -- What the definitions of frames promise: of any set of frames, any listeners, any answer.
-use Prim.Native.Nat.{ℕ, suc, _+_, _-_, _*_, _/_, _%_, _^_, _≤_, _<_}
+use Prim.Native.Nat.{ℕ, suc, _+_, _-_, _*_, _/_, _%_, _^_, _<_}
 use mathlib.Core.Bool.{true}
 use mathlib.Core.List.{List, [], _∷_, map}
 use mathlib.Core.Path.{_≡_, refl, sym, ap, ap₂, _∙_}
-use borrow.Author.Tests.{le-leb}
 use native.Mathlib.Omega.{arith}
 use lib.ListN.{length, getD}
 use Rattle.laws.specs.Choice.{bitOf}
 use Rattle.laws.proofs.Bits.{set-bit}
 use Rattle.refusal.specs.declared.Refusal.{Refusal}
 use Rattle.refusal.specs.Told.{Told, numberOf, given, numberTold}
-use Rattle.refusal.proofs.Laws.{number-tells, number-positive, given-not-refused, refused-tells}
+use Rattle.refusal.proofs.Laws.{number-tells, number-positive}
 use Rattle.frames.specs.declared.Listener.{Listener}
 use Rattle.frames.specs.declared.Listened.{Listened}
 use Rattle.frames.specs.declared.Listening.{Listening}
-use Rattle.frames.specs.declared.Awaited.{Awaited}
-use Rattle.frames.specs.Listening.{Frameset, listens, heard, framesFrom, maskFrom, masksOf, countFrom, countOf, allFit, onesOf, listened, tellListened, toldListening, waited, toldAwaited}
+use Rattle.frames.specs.Listening.{Frameset, listens, heard, framesFrom, maskFrom, masksOf, countFrom, countOf, allFit, onesOf, listened, tellListened, toldListening}
 use Rattle.frames.proofs.Masks.{mask-bit, range-at, range-ones}
 use Rattle.frames.proofs.Hearing.{heard-by, by-heard}
 
@@ -57,21 +55,6 @@ pub listening-tells : (a b : Listening) → toldListening a ≡ toldListening b 
 listening-tells a b e =
     let parts = told-parts (a .answer) (b .answer) (a .masks) (b .masks) e in
     ap₂ (λ (answer : Listened) (masks : List ℕ). record { answer = answer; masks = masks }) (parts .0) (parts .1)
-
--- two waits that are told alike are the same
-pub awaited-tells : (a b : Awaited) → toldAwaited a ≡ toldAwaited b → a ≡ b
-awaited-tells (Awaited.Frames x) (Awaited.Frames y) e = cc
-awaited-tells (Awaited.Frames x) (Awaited.Refused s) e = absurd (given-not-refused _ s e)
-awaited-tells (Awaited.Refused r) (Awaited.Frames y) e = absurd (given-not-refused _ r (sym e))
-awaited-tells (Awaited.Refused r) (Awaited.Refused s) e = ap Awaited.Refused (refused-tells r s e)
-
--- ---- the wait
-
--- within a cycle the wait is given; it is less than a cycle, and so many frames after the present one comes the designated one
-pub wait-reaches : (from to : ℕ) → from ≤ 127 → to ≤ 127
-    → (frames : ℕ) × (waited from to ≡ given (frames ∷ [])) × (frames < 128) × ((from + frames) % 128 ≡ to)
-unfolding waited
-wait-reaches from to f t = ((to + 128 - from) % 128, simp (le-leb _ _ f, le-leb _ _ t), omega arith, omega arith)
 
 -- ---- worked examples
 

@@ -1,4 +1,4 @@
--- Frames listened to, and the wait for a temporary address (document 01, S8.6.7).
+-- Frames listened to (document 01, S8.6.7).
 use Prim.Native.Nat.{ℕ, zero, suc, _+_, _-_, _*_, _%_, _^_}
 use mathlib.Core.Bool.{Bool, true, false, not, _&&_, _||_}
 use mathlib.Core.List.{List, [], _∷_}
@@ -8,11 +8,10 @@ use lib.ListN.{replicate}
 use Rattle.laws.specs.Choice.{pick, bitOf}
 use Rattle.refusal.specs.declared.Refusal.{Refusal}
 use Rattle.refusal.specs.declared.Refusal.the-variants.{Packet, Size}
-use Rattle.refusal.specs.Told.{Told, told, numberOf, refused, given, ask}
+use Rattle.refusal.specs.Told.{Told, told, numberOf, given}
 use Rattle.frames.specs.declared.Listener.{Listener}
 use Rattle.frames.specs.declared.Listened.{Listened}
 use Rattle.frames.specs.declared.Listening.{Listening}
-use Rattle.frames.specs.declared.Awaited.{Awaited}
 
 -- a set of frames: which frames are in it
 abbrev pub Frameset : Type 0
@@ -84,14 +83,3 @@ tellListened (Listened.Refused r) masks = told (numberOf r) (0 ∷ masks)
 -- .. and the whole answer, its masks with it
 abbrev pub toldListening : Listening → Told
 toldListening a = tellListened (a .answer) (a .masks)
-
--- 01, "Temporary address wait": "from frame c to designated frame d it is (d - c) mod 128 frames"; 7 for a frame over 127
-unfoldable pub waited : ℕ → ℕ → Told
-waited from to =
-    ask (not (leb from 127 && leb to 127)) Packet
-    (given ((to + 128 - from) % 128 ∷ []))
-
--- how a wait is told
-abbrev pub toldAwaited : Awaited → Told
-toldAwaited (Awaited.Frames n) = given (n ∷ [])
-toldAwaited (Awaited.Refused r) = refused r

@@ -1,10 +1,10 @@
-// Frames listened to, merged over up to sixteen addresses into the masks of packets 20H to 27H, and
-// the wait for a temporary address (document 01, "CAPCODE text" and "Fragments"; S8.6.7, S8.8.4).
+// Frames listened to, merged over up to sixteen addresses into the masks of packets 20H to 27H (document 01, "CAPCODE
+// text"; S8.6.7).
 ghost use mathlib.Core.Path.{_≡_};
 ghost use Prim.Native.Nat.{_≤_, _%_, _/_, min};
 ghost use mathlib.Core.Bool.{true};
 ghost use lib.ListN.{take, getD};
-ghost use Rattle.frames.specs.Listening.{listens, heard, maskFrom, onesOf, allFit, unmarked, listened, toldListening, waited, toldAwaited};
+ghost use Rattle.frames.specs.Listening.{listens, heard, maskFrom, onesOf, allFit, unmarked, listened, toldListening};
 ghost use Rattle.frames.specs.Repeating.{combs, alternating};
 use refusal::Refusal;
 
@@ -32,25 +32,6 @@ pub enum Listened {
 pub struct Listening {
     pub answer: Listened,
     pub masks: [u16; 8],
-}
-
-// The wait in frames, or the refusal.
-pub enum Awaited {
-    Frames(u32),
-    Refused(Refusal),
-}
-
-// How many frames it is from the present frame to a designated one.
-pub fn wait(from: u8, to: u8) -> Awaited
-    ensures { λ r. ⌜ toldAwaited r ≡ waited from to ⌝ }
-{
-    if from > 127 {
-        return Awaited::Refused(Refusal::Packet);
-    }
-    if to > 127 {
-        return Awaited::Refused(Refusal::Packet);
-    }
-    Awaited::Frames((to as u32 + 128 - from as u32) % 128)
 }
 
 // How many of the sixteen places are looked at.

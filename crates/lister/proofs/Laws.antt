@@ -21,7 +21,8 @@ use Rattle.capcode.specs.Reads.{stepOf, follow, formOf, readOf}
 use Rattle.opening.specs.Stands.{Stand, standOf, fresh}
 use Rattle.opening.specs.Texts.{header}
 use Rattle.lister.specs.declared.Fed.{Fed}
-use Rattle.lister.specs.Lines.{shown, verdictOf, withoutReturn, listedFrom, listing}
+use Rattle.verdict.specs.Verdicts.{verdictOf}
+use Rattle.lister.specs.Lines.{shown, withoutReturn, listedFrom, listing}
 use Rattle.lister.specs.Portions.{kept, writes, next, writesAll, nextAll, mostWritten, takenOf, closes, FedAll}
 use Rattle.lister.proofs.Lengths.{writes-short}
 use Rattle.lister.proofs.Progress.{next-joined, writes-joined}

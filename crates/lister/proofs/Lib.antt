@@ -1,6 +1,4 @@
 pub mod Keeping
-pub mod Phase
-pub mod LineEnds
 pub mod Writes
 pub mod AsItIs
 pub mod Lengths

@@ -14,11 +14,10 @@ use Rattle.capcode.specs.declared.Capcode.{Capcode}
 use Rattle.capcode.specs.declared.Form.{Form}
 use Rattle.capcode.specs.Assigned.{standard, framed}
 use Rattle.capcode.specs.Text.{digits, headWidth, widthOf, textOf, Sayable}
-use Rattle.capcode.specs.declared.Assignment.{Assignment}
-use Rattle.capcode.specs.declared.ReadAnswer.{ReadAnswer}
-use Rattle.capcode.specs.Reads.{formOf, readBy, readOf, toldRead}
+use Rattle.capcode.specs.Reads.{formOf, readBy, readOf}
 use Rattle.refusal.specs.declared.Refusal.the-variants.{Text}
-use Rattle.refusal.proofs.Laws.{given-not-refused}
+use Rattle.refusal.specs.Told.{numberTold}
+use Rattle.refusal.proofs.Laws.{number-positive}
 use Rattle.capcode.proofs.Heard.{printed-of-read}
 use Rattle.capcode.proofs.Writes.{text-numbers, length-text}
 use Rattle.lister.specs.Lines.{shownByte, shown}
@@ -89,9 +88,9 @@ said-shown text c e =
     rw (said .0) at (text-shown c (said .1))
 
 -- so is one that is read
-pub read-shown : (text : List ℕ) (c : Capcode) (a : Assignment) → toldRead (ReadAnswer.Whole c a) ≡ readOf text → shown text ≡ text
-read-shown text c a e = by-form (formOf text) refl e
+pub read-shown : (text : List ℕ) → numberTold (readOf text) ≡ 0 → shown text ≡ text
+read-shown text e = by-form (formOf text) refl e
   where
-    by-form : (form : Form) → formOf text ≡ form → toldRead (ReadAnswer.Whole c a) ≡ readBy form → shown text ≡ text
-    by-form (Form.Says d) same told = said-shown text d same
-    by-form (Form.Wrong place) same told = absurd (given-not-refused _ Text told)
+    by-form : (form : Form) → formOf text ≡ form → numberTold (readBy form) ≡ 0 → shown text ≡ text
+    by-form (Form.Says d) same none = said-shown text d same
+    by-form (Form.Wrong place) same none = absurd (omega (arith, none, number-positive Text))

@@ -5,13 +5,13 @@ use mathlib.Core.Path.{_≡_, refl, sym, _∙_}
 use mathlib.Core.List.{List, [], _∷_, _++_, append-nil}
 use native.Mathlib.Omega.{arith}
 use lib.Dec.{leb}
-use lib.ListN.{length, take, drop, length-append}
-use lib.Seq.{take-at}
+use lib.ListN.{length, length-append}
 use borrow.Author.Tests.{eq-eqb, ne-eqb}
 use Rattle.laws.proofs.Writing.{put-nothing, put-behind}
 use Rattle.opening.specs.Stands.{stand}
 use Rattle.opening.specs.Texts.{Answered, Wrote}
-use Rattle.lister.specs.Lines.{hexDigit, shownByte, verdictOf}
+use Rattle.verdict.specs.Verdicts.{hexDigit, verdictOf}
+use Rattle.lister.specs.Lines.{shownByte}
 use Rattle.opening.specs.declared.Written.{Written}
 use Rattle.lister.specs.Portions.{kept, heldBytes, heldShown, writes, closedText, closes}
 
@@ -31,12 +31,6 @@ wrote-then buffer place text more middle behind between after within first secon
       ends = omega (arith, first .ends, second .ends, length-append text more);
       holds = second .holds ∙ rw (first .holds, first .ends) (put-behind buffer text more place within);
     }
-
--- what was written at a buffer's start stands there
-pub wrote-start : (buffer text : List ℕ) (behind : ℕ) (after : List ℕ) → Wrote buffer 0 text behind after → take behind after ≡ text
-wrote-start buffer text behind after w =
-    let long : length text ≡ behind = omega (arith, w .ends) in
-    rw (w .holds) (take-at text (drop (0 + length text) buffer) behind long)
 
 module _ (byte : ℕ) where
   -- a backslash

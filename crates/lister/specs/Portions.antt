@@ -12,7 +12,8 @@ use Rattle.opening.specs.Texts.{Wrote}
 use Rattle.lister.specs.declared.Fed.{Fed}
 use Rattle.lister.specs.declared.Course.{Course}
 use Rattle.lister.specs.declared.Line.{Line}
-use Rattle.lister.specs.Lines.{lineFeed, carriageReturn, printable, shownByte, shown, verdictOf}
+use Rattle.verdict.specs.Verdicts.{lineFeed, verdictOf}
+use Rattle.lister.specs.Lines.{carriageReturn, printable, shownByte, shown}
 
 -- a byte that the listing shows as it is
 abbrev pub asItIs : ℕ → Bool

@@ -6,19 +6,12 @@ ghost use mathlib.Core.List.{[], _∷_, _++_};
 ghost use Prim.Native.Nat.{_+_, _^_, _≤_, _<_};
 ghost use lib.ListN.{length, take, getD};
 ghost use lib.Dec.{eqb};
-ghost use Rattle.refusal.specs.Told.{refused};
-ghost use Rattle.capcode.specs.Text.{digits};
-ghost use Rattle.capcode.specs.Reads.{toldRead};
 ghost use Rattle.opening.specs.Stands.{stand, standOf};
 ghost use Rattle.opening.specs.Texts.{Wrote};
-ghost use Rattle.lister.specs.Lines.{lineFeed, hexDigit, shownByte, sixDigits, phaseShown, verdictBy, verdictOf};
+ghost use Rattle.verdict.specs.Verdicts.{lineFeed, hexDigit, verdictOf};
+ghost use Rattle.lister.specs.Lines.{shownByte};
 ghost use Rattle.lister.specs.Portions.{standAt, kept, heldBytes, heldShown, writes, next, mostWritten, takenOf, asItIs, FedByte, Ahead, LineWritten, FedOn, FedAll};
-use address::Worded;
-use capcode::Assignment;
-use capcode::Capcode;
-use capcode::ReadAnswer;
 use opening::Lister;
-use refusal::Refusal;
 
 // What was done with a portion: where the listing stands, how many bytes were taken and how many written.
 pub struct Fed {
@@ -63,110 +56,14 @@ fn hex_digit(d: u32) -> u8
     if d < 10 { b'0' + d as u8 } else { 55 + d as u8 }
 }
 
-// A word as six hexadecimal digits.
-fn six_digits(word: u32) -> [u8; 6]
-    ensures { λ r. ⌜ r ≡ sixDigits word ⌝ }
-{
-    [
-        hex_digit(word / 0x100000 % 16),
-        hex_digit(word / 0x10000 % 16),
-        hex_digit(word / 0x1000 % 16),
-        hex_digit(word / 0x100 % 16),
-        hex_digit(word / 0x10 % 16),
-        hex_digit(word % 16),
-    ]
-}
-
-// The mark of a phase: its letter, or `*` for any-phase.
-fn phase_mark(phase: u8) -> u8
-    requires { ⌜ phase ≤ 4 ⌝ }
-    ensures { λ r. ⌜ r ≡ phaseShown phase ⌝ }
-{
-    if phase == 4 { b'*' } else { b'A' + phase }
-}
-
-// Writes what stands behind an accepted text, by its two words as they are shown.
-fn write_fields(
-    first: [u8; 6],
-    second: [u8; 6],
-    c: Capcode,
-    a: Assignment,
-    out: &mut [u8],
-    place: usize,
-) -> usize
-    requires { ⌜ (a .phase ≤ 4) × (place + 23 ≤ length (now out)) ⌝ }
-    ensures { λ r. ⌜ Wrote (now (out .entry)) place (32 ∷ first ++ 32 ∷ second ++ 32 ∷ phaseShown (a .phase) ∷ 32 ∷ digits 3 (a .frame) ++ 32 ∷ digits 1 (c .collapse) ++ lineFeed ∷ []) r (now (out .exit)) ⌝ }
-{
-    let text = [
-        b' ',
-        first[0],
-        first[1],
-        first[2],
-        first[3],
-        first[4],
-        first[5],
-        b' ',
-        second[0],
-        second[1],
-        second[2],
-        second[3],
-        second[4],
-        second[5],
-        b' ',
-        phase_mark(a.phase),
-        b' ',
-        b'0' + a.frame / 10 / 10 % 10,
-        b'0' + a.frame / 10 % 10,
-        b'0' + a.frame % 10,
-        b' ',
-        b'0' + c.collapse % 10,
-        b'\n',
-    ];
-    copy(&text, out, place)
-}
-
-// Writes what stands behind the text of an accepted CAPCODE.
-fn write_accepted(c: Capcode, a: Assignment, out: &mut [u8], place: usize) -> usize
-    requires { ⌜ (a .phase ≤ 4) × (place + 23 ≤ length (now out)) ⌝ }
-    ensures { λ r. ⌜ Wrote (now (out .entry)) place (verdictBy (toldRead (ReadAnswer.Whole c a)) ++ lineFeed ∷ []) r (now (out .exit)) ⌝ }
-{
-    match address::words_of(c.address) {
-        Worded::One(word) => write_fields(six_digits(word), [b'-'; 6], c, a, out, place),
-        Worded::Two(first, second) => write_fields(
-            six_digits(first),
-            six_digits(second),
-            c,
-            a,
-            out,
-            place,
-        ),
-        Worded::Refused(_) => write_fields([b'0'; 6], [b'-'; 6], c, a, out, place),
-    }
-}
-
-// Writes " REFUSED n".
-fn write_refused(refusal: Refusal, out: &mut [u8], place: usize) -> usize
-    requires { ⌜ place + 23 ≤ length (now out) ⌝ }
-    ensures { λ r. ⌜ Wrote (now (out .entry)) place (verdictBy (refused refusal) ++ lineFeed ∷ []) r (now (out .exit)) ⌝ }
-{
-    let n = refusal.number();
-    let low = b'0' + (n % 10) as u8;
-    let behind = copy(b" REFUSED ", out, place);
-    if n < 10 {
-        return copy(&[low, b'\n'], out, behind);
-    }
-    copy(&[b'0' + (n / 10 % 10) as u8, low, b'\n'], out, behind)
-}
-
 // Writes what stands behind a text.
 fn write_verdict(text: &[u8], out: &mut [u8], place: usize) -> usize
     requires { ⌜ place + 23 ≤ length (now out) ⌝ }
     ensures { λ r. ⌜ Wrote (now (out .entry)) place (verdictOf (now (text .entry))) r (now (out .exit)) ⌝ }
 {
-    match capcode_text::read(text) {
-        ReadAnswer::Whole(c, a) => write_accepted(c, a, out, place),
-        ReadAnswer::Refused(r) => write_refused(r, out, place),
-    }
+    let verdict = verdict::judge(text);
+    let end = verdict.end;
+    copy(&end[..verdict.size], out, place)
 }
 
 // Writes the end of a line of which so many bytes are kept; a larger count stands for all of them.
@@ -339,13 +236,13 @@ fn write_line(text: &[u8], out: &mut [u8], place: usize) -> Line
     requires { ⌜ place + length (now text) + 23 ≤ length (now out) ⌝ }
     ensures { λ r. ⌜ LineWritten (now (out .entry)) place (now (text .entry)) r (now (out .exit)) ⌝ }
 {
-    match capcode_text::read(text) {
-        ReadAnswer::Whole(c, a) => {
-            let behind = copy(text, out, place);
-            Line::Written(write_accepted(c, a, out, behind))
-        }
-        ReadAnswer::Refused(_) => Line::Other,
+    let verdict = verdict::judge(text);
+    if !verdict.is_accepted {
+        return Line::Other;
     }
+    let behind = copy(text, out, place);
+    let end = verdict.end;
+    Line::Written(copy(&end, out, behind))
 }
 
 // Takes a whole line, if that of an accepted text is ahead, and else one byte: most lines are such, and

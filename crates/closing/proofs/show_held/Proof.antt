@@ -1,5 +1,4 @@
 -- `show_held` meets its contract: the carriage return as its four bytes, or nothing.
-use native.Mathlib.Omega.{arith}
 use borrow.Author.Needs.{needs}
 use Rattle.lister.proofs.Writes.{wrote-none}
 use Rattle.closing.proofs.show_held.Statement.{statement}

@@ -3,7 +3,7 @@ use mathlib.Core.Path.{sym, ap}
 use native.Mathlib.Omega.{arith}
 use lib.Seq.{length-take-le, take-all}
 use borrow.Author.Needs.{needs}
-use Rattle.lister.specs.Lines.{verdictOf}
+use Rattle.verdict.specs.Verdicts.{verdictOf}
 use Rattle.lister.proofs.Writes.{wrote-same}
 use Rattle.lister.proofs.write_end.Statement.{statement}
 use Rattle.lister.proofs.write_end.Tie as tie

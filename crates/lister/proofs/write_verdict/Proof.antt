@@ -1,56 +1,58 @@
--- `write_verdict` meets its contract: what the text was read as decides its end.
-use mathlib.Core.Path.{sym, ap, _∙_}
+-- `write_verdict` meets its contract: of the end's places as many are copied as it has bytes.
+use Prim.Native.Nat.{_≤_}
+use mathlib.Core.Path.{sym}
+use native.Mathlib.Omega.{arith}
+use lib.ListN.{length}
+use lib.Seq.{length-take-le}
 use borrow.Author.Needs.{needs}
-use Rattle.capcode.specs.Reads.{toldRead}
-use Rattle.lister.proofs.LineEnds.{told-end}
-use Rattle.lister.proofs.Phase.{read-phase}
+use Rattle.verdict.proofs.Lengths.{verdict-short}
+use Rattle.verdict.proofs.Told.{size-of, end-of, places-of}
 use Rattle.lister.proofs.Writes.{wrote-same}
 use Rattle.lister.proofs.write_verdict.Statement.{statement}
 use Rattle.lister.proofs.write_verdict.Tie as tie
 
-read-requires : tie.Need-read-requires
-read-requires c κs = search needs
+judge-requires : tie.Need-judge-requires
+judge-requires c κs = search needs
 
-enum-known-c : tie.Need-enum-known-c
-enum-known-c c = search needs
+-- an end is no longer than its places
+within : (k : tie.After-judge) → k .judge .result .size ≤ 23
+within k =
+    let text = k .before .before .before .args .text .now in
+    omega (arith, size-of text (k .judge .result) (k .judge .ensures), verdict-short text)
 
-write-accepted-requires : tie.Need-write-accepted-requires
-write-accepted-requires c κs = (read-phase _ _ _ (sym (ap toldRead (c .before .before .c .given .1)) ∙ c .before .before .before .before .read .ensures), search needs)
+-- .. of which there are 23
+places : (k : tie.After-judge) → k .judge .result .size ≤ length (k .judge .result .end)
+places k =
+    let text = k .before .before .before .args .text .now in
+    omega (arith, within k, places-of text (k .judge .result) (k .judge .ensures))
 
-enum-known-r : tie.Need-enum-known-r
-enum-known-r c = search needs
+array-share-prefix-end : tie.Need-array-share-prefix-end
+array-share-prefix-end c = places (c .before)
 
-write-refused-requires : tie.Need-write-refused-requires
-write-refused-requires c κs = search needs
+slice-aggregate-copy : tie.Need-slice-aggregate-copy
+slice-aggregate-copy c = let k = c .before .before in sym (length-take-le (k .judge .result .size) (k .judge .result .end) (places k))
+
+copy-requires : tie.Need-copy-requires
+copy-requires c κs =
+    let k = c .before .before .before in
+    omega (arith, k .before .before .before .pre, within k, length-take-le (k .judge .result .size) (k .judge .result .end) (places k))
 
 same-length : tie.Need-same-length
 same-length c = search needs
 
 returns : tie.Need-returns
 returns c =
-    let k = c .before .before in
-    let d = k .before .before .before in
-    wrote-same _ _ _ _ _ _ (told-end _ _ (sym (ap toldRead (d .c .given .1)) ∙ d .before .before .read .ensures)) (k .write-accepted .ensures)
-
-same-length-2 : tie.Need-same-length-2
-same-length-2 c = search needs
-
-returns-2 : tie.Need-returns-2
-returns-2 c =
-    let k = c .before .before in
-    let d = k .before .before .before in
-    wrote-same _ _ _ _ _ _ (told-end _ _ (sym (ap toldRead (d .r .given .1)) ∙ d .before .before .read .ensures)) (k .write-refused .ensures)
+    let w = c .before .before in
+    let k = w .before .before .before .before in
+    wrote-same _ _ _ _ _ _ (end-of (k .before .before .before .args .text .now) (k .judge .result) (k .judge .ensures)) (w .copy .ensures)
 
 pub write-verdict-spec : {M : Type 1} → statement M
 write-verdict-spec =
     tie.close
     (tie.spec
-    read-requires
-    enum-known-c
-    write-accepted-requires
-    enum-known-r
-    write-refused-requires
+    judge-requires
+    array-share-prefix-end
+    slice-aggregate-copy
+    copy-requires
     same-length
-    returns
-    same-length-2
-    returns-2)
+    returns)

@@ -1,8 +1,8 @@
 -- `phase_mark` meets its contract: the test decides.
 use borrow.Author.Tests.{eq-eqb, ne-eqb}
 use borrow.Author.Needs.{needs}
-use Rattle.lister.proofs.phase_mark.Statement.{statement}
-use Rattle.lister.proofs.phase_mark.Tie as tie
+use Rattle.verdict.proofs.phase_mark.Statement.{statement}
+use Rattle.verdict.proofs.phase_mark.Tie as tie
 
 add-result : tie.Need-add-result
 add-result c = search needs

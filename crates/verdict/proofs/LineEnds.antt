@@ -16,7 +16,7 @@ use Rattle.capcode.specs.declared.Assignment.{Assignment}
 use Rattle.capcode.specs.declared.ReadAnswer.{ReadAnswer}
 use Rattle.capcode.specs.Text.{digits}
 use Rattle.capcode.specs.Reads.{readOf, toldRead}
-use Rattle.lister.specs.Lines.{lineFeed, wordsShown, phaseShown, verdictBy, verdictOf}
+use Rattle.verdict.specs.Verdicts.{lineFeed, wordsShown, phaseShown, verdictBy, verdictOf}
 
 -- the six elements of a list of six
 abbrev pub six : List ℕ → List ℕ
@@ -49,7 +49,7 @@ accepted-end words first second c a same shown = rw (← same, shown)
 
 module _ (r : Refusal) (n : ℕ) (number : n ≡ numberOf r) where
   -- no refusal has the number 0
-  not-none : eqb (numberOf r) 0 ≡ false
+  pub not-none : eqb (numberOf r) 0 ≡ false
   not-none = ne-eqb (numberOf r) 0 (λ none. omega (arith, number-positive r))
 
   -- the end of a refused text whose number has one digit

@@ -1,12 +1,14 @@
--- `write_fields` meets its contract: the bytes are the two lists of six with what stands round them.
+-- `fields` meets its contract: the bytes are the two lists of six with what stands round them.
 use mathlib.Core.List.{[], _∷_}
 use borrow.Author.Needs.{needs}
 use Rattle.capcode.specs.Text.{digits}
-use Rattle.lister.specs.Lines.{lineFeed, phaseShown}
-use Rattle.lister.proofs.LineEnds.{six-six}
-use Rattle.lister.proofs.Writes.{wrote-same}
-use Rattle.lister.proofs.write_fields.Statement.{statement}
-use Rattle.lister.proofs.write_fields.Tie as tie
+use Rattle.verdict.specs.Verdicts.{lineFeed, phaseShown}
+use Rattle.verdict.proofs.LineEnds.{six-six}
+use Rattle.verdict.proofs.fields.Statement.{statement}
+use Rattle.verdict.proofs.fields.Tie as tie
+
+array-read-t9 : tie.Need-array-read-t9
+array-read-t9 c = search needs
 
 array-read-t12 : tie.Need-array-read-t12
 array-read-t12 c = search needs
@@ -41,51 +43,37 @@ array-read-t39 c = search needs
 array-read-t42 : tie.Need-array-read-t42
 array-read-t42 c = search needs
 
-array-read-t45 : tie.Need-array-read-t45
-array-read-t45 c = search needs
-
 phase-mark-requires : tie.Need-phase-mark-requires
 phase-mark-requires c κs = search needs
+
+add-t47 : tie.Need-add-t47
+add-t47 c = search needs
 
 add-t50 : tie.Need-add-t50
 add-t50 c = search needs
 
-add-t53 : tie.Need-add-t53
-add-t53 c = search needs
+add-t52 : tie.Need-add-t52
+add-t52 c = search needs
 
-add-t55 : tie.Need-add-t55
-add-t55 c = search needs
-
-add-t57 : tie.Need-add-t57
-add-t57 c = search needs
-
-slice-aggregate-copy : tie.Need-slice-aggregate-copy
-slice-aggregate-copy c = search needs
-
-copy-requires : tie.Need-copy-requires
-copy-requires c κs = search needs
-
-same-length : tie.Need-same-length
-same-length c = search needs
+add-t54 : tie.Need-add-t54
+add-t54 c = search needs
 
 returns : tie.Need-returns
 unfolding digits
 returns c =
-    let k = c .before .before in
-    let p = k .before .before .before .before .before .before .before in
-    let s = p .before .before in
+    let p = c .before .before .before .before in
+    let s = p .before in
     let a = s .args .a in
-    wrote-same _ _ _ _ _ _
     (rw (p .phase-mark .ensures)
     (six-six (s .args .t1) (s .args .t2) (32 ∷ phaseShown (a .phase) ∷ 32 ∷ digits 3 (a .frame)) (32 ∷ digits 1 (s .args .c .collapse)) (lineFeed ∷ [])
     (s .good .0 .1 .0 .1)
     (s .good .1 .0 .1 .0 .1)))
-    (k .copy .ensures)
 
-pub write-fields-spec : {M : Type 1} → statement M
-write-fields-spec =
+pub fields-spec : {M : Type 1} → statement M
+fields-spec =
     tie.close
     (tie.spec
+    array-read-t9
     array-read-t12
     array-read-t15
     array-read-t18
@@ -97,13 +85,9 @@ write-fields-spec =
     array-read-t36
     array-read-t39
     array-read-t42
-    array-read-t45
     phase-mark-requires
+    add-t47
     add-t50
-    add-t53
-    add-t55
-    add-t57
-    slice-aggregate-copy
-    copy-requires
-    same-length
+    add-t52
+    add-t54
     returns)

@@ -1,8 +1,8 @@
 -- `six_digits` meets its contract: each digit is one of the six.
 use mathlib.Core.Path.{refl}
 use borrow.Author.Needs.{needs}
-use Rattle.lister.proofs.six_digits.Statement.{statement}
-use Rattle.lister.proofs.six_digits.Tie as tie
+use Rattle.verdict.proofs.six_digits.Statement.{statement}
+use Rattle.verdict.proofs.six_digits.Tie as tie
 
 hex-digit-requires : tie.Need-hex-digit-requires
 hex-digit-requires c κs = search needs

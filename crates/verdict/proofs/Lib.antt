@@ -1,0 +1,4 @@
+pub mod Lengths
+pub mod LineEnds
+pub mod Phase
+pub mod Told

@@ -1,0 +1,23 @@
+// The wait for a temporary address (document 01, "Fragments"; S8.8.4).
+ghost use mathlib.Core.Path.{_≡_};
+ghost use Rattle.waiting.specs.Waiting.{waited, toldAwaited};
+use refusal::Refusal;
+
+// The wait in frames, or the refusal.
+pub enum Awaited {
+    Frames(u32),
+    Refused(Refusal),
+}
+
+// How many frames it is from the present frame to a designated one.
+pub fn wait(from: u8, to: u8) -> Awaited
+    ensures { λ r. ⌜ toldAwaited r ≡ waited from to ⌝ }
+{
+    if from > 127 {
+        return Awaited::Refused(Refusal::Packet);
+    }
+    if to > 127 {
+        return Awaited::Refused(Refusal::Packet);
+    }
+    Awaited::Frames((to as u32 + 128 - from as u32) % 128)
+}
