@@ -1,38 +1,81 @@
 -- Where a fragment goes, what is told of it there, and what records and buffer are then.
-use Prim.Native.Nat.{ℕ, _≤_}
-use mathlib.Core.Bool.{true, false}
+use Prim.Native.Nat.{ℕ, zero, suc, _≤_}
+use mathlib.Core.Bool.{Bool, true, false, not}
 use mathlib.Core.List.{List, [], _∷_}
+use mathlib.Core.Logic.{⊎-elim}
 use mathlib.Core.Path.{_≡_, refl, sym, ap, _∙_}
 use native.Mathlib.Omega.{arith}
-use borrow.Author.Tests.{eq-eqb, ne-eqb}
+use borrow.Author.Tests.{eq-eqb, ne-eqb, lt-ltb, le-ltb, ltb-true, ltb-false}
 use lib.Dec.{ltb}
 use lib.ListN.{length, getD, set}
-use Rattle.laws.specs.Choice.{bitOf}
-use Rattle.laws.specs.Lists.{put}
+use lib.Seq.{set-set}
+use Rattle.laws.specs.Choice.{pick, bitOf}
+use Rattle.laws.specs.Lists.{put, firstThat}
+use Rattle.laws.proofs.Searches.{first-most}
+use Rattle.laws.proofs.Tests.{decided}
 use Rattle.refusal.specs.declared.Refusal.the-variants.{Full}
 use Rattle.refusal.specs.Told.{Told, told, ask, numberTold}
 use Rattle.message.specs.Fragments.{textIn}
 use Rattle.fragment.specs.declared.FragmentRead.{FragmentRead}
 use Rattle.slots.specs.declared.Chain.{Chain}
 use Rattle.slots.specs.declared.ChainStep.{ChainStep}
-use Rattle.slots.specs.Chains.{blank, find, firstFree}
-use Rattle.slots.specs.Steps.{headingIn, Fate, lost, grows, whole, fate, charactersAfter, unbegun, cleared, slotFor, chainBefore, fateOf, rowAfter, endPlace}
+use Rattle.slots.specs.Chains.{blank, isOpen, isOf, find, firstFree}
+use Rattle.slots.specs.Steps.{headingIn, Fate, lost, grows, whole, fate, charactersAfter, unbegun, isFirst, olderSlot, cleared, slotFor, chainBefore, fateOf, rowAfter, endPlace}
 use Rattle.slots.specs.Answers.{known, full, toldOf, asStep}
 use Rattle.slots.proofs.Fates.{fate-by}
 use Rattle.fate.specs.Answers.{fateNumber}
 use Rattle.chain.specs.declared.Turn.{Turn}
 use Rattle.chain.specs.Pieces.{turnOf, takenOf, orphan, joinOf, joinedRow, joinedBytes}
 
-module _ (row : List Chain) (address : ℕ) (h : FragmentRead) (eight : length row ≡ 8) (older : ℕ) (found : older ≡ find address (h .«message_number») row) where
-  -- a first fragment goes to the lowest-numbered free slot, without the older chain
-  pub turn-first : (cleared : List Chain) (slot : ℕ) → h .«fragment_number» ≡ 3 → cleared ≡ set row older blank → slot ≡ firstFree cleared
-      → _≡_ {A = Turn} (record { slots = cleared; slot = slot; chain = unbegun address (h .«message_number»); known = ltb older 8 }) (turnOf row address h)
-  turn-first cleared slot first is there = rw (eq-eqb (h .«fragment_number») 3 first, eight, there, is, found)
+-- ---- where a fragment goes
 
-  -- a later one goes to its chain's slot
-  pub turn-later : (before : Chain) → (h .«fragment_number» ≡ 3 → ⊥) → before ≡ getD row older blank
-      → _≡_ {A = Turn} (record { slots = row; slot = older; chain = before; known = ltb older 8 }) (turnOf row address h)
-  turn-later before later is = rw (ne-eqb (h .«fragment_number») 3 later, eight, is, found)
+-- the first free slot where one slot has been cleared: that one, or the first that was free already, whichever is lower
+pub free-cleared : (row : List Chain) (k : ℕ) → k ≤ length row → pick (ltb k (firstFree row)) k (firstFree row) ≡ firstFree (set row k blank)
+unfolding firstThat
+free-cleared [] k within = rw (le-ltb k 0 (omega arith))
+free-cleared (c ∷ row) zero within = at-front (firstFree (c ∷ row))
+  where
+    at-front : (free : ℕ) → pick (ltb 0 free) 0 free ≡ 0
+    at-front zero = refl
+    at-front (suc free) = rw (lt-ltb 0 (suc free) (omega arith))
+free-cleared (c ∷ row) (suc k) within = rw (← free-cleared row k (omega arith)) (by-slot (not (isOpen c)) (firstFree row))
+  where
+    by-slot : (free : Bool) (later : ℕ) → pick (ltb (suc k) (pick free 0 (suc later))) (suc k) (pick free 0 (suc later)) ≡ pick free 0 (suc (pick (ltb k later) k later))
+    by-slot true later = rw (le-ltb (suc k) 0 (omega arith))
+    by-slot false later =
+        ⊎-elim
+        (λ less. rw (less, lt-ltb (suc k) (suc later) (omega (arith, ltb-true k later less))))
+        (λ more. rw (more, le-ltb (suc k) (suc later) (omega (arith, ltb-false k later more))))
+        (decided (ltb k later))
+
+module _ (row : List Chain) (address : ℕ) (h : FragmentRead) (eight : length row ≡ 8) (older : ℕ) (found : older ≡ find address (h .«message_number») row) where
+  -- a key's chain is found in one of the slots, or behind them
+  older-most : older ≤ length row
+  older-most = omega (arith, found, first-most (isOf address (h .«message_number»)) row)
+
+  -- a first fragment goes to the lowest-numbered free slot, without the older chain
+  pub turn-first : (free slot : ℕ) → h .«fragment_number» ≡ 3 → free ≡ firstFree row → slot ≡ pick (ltb older free) older free
+      → _≡_ {A = Turn} (record { older = older; slot = slot; chain = unbegun address (h .«message_number»); known = ltb older 8 }) (turnOf row address h)
+  turn-first free slot first is there =
+      let lowest : slot ≡ firstFree (set row older blank) = there ∙ ap (λ (n : ℕ). pick (ltb older n) older n) is ∙ free-cleared row older older-most in
+      rw (eq-eqb (h .«fragment_number») 3 first, eight, lowest, found)
+
+  -- a later one goes to its chain's slot,
+  pub turn-later : (before : Chain) (some : Bool) → (h .«fragment_number» ≡ 3 → ⊥) → before ≡ getD row older blank → some ≡ ltb older 8
+      → _≡_ {A = Turn} (record { older = older; slot = older; chain = before; known = some }) (turnOf row address h)
+  turn-later before some later is whether = rw (ne-eqb (h .«fragment_number») 3 later, eight, whether, is, found)
+
+-- the records then: in a chain's own slot it does not matter that the older record was cleared
+pub settled : (row : List Chain) (address : ℕ) (h : FragmentRead) (x : Chain) → set (set row (olderSlot row address h) blank) (slotFor row address h) x ≡ set (cleared row address h) (slotFor row address h) x
+settled row address h x = by-kind (isFirst h)
+  where
+    by-kind : (first : Bool) → let older = olderSlot row address h in
+        let free = firstFree (pick first (set row older blank) row) in
+        set (set row older blank) (pick first free older) x ≡ set (pick first (set row older blank) row) (pick first free older) x
+    by-kind true = refl
+    by-kind false = set-set row (olderSlot row address h) blank x
+
+-- ---- what becomes of its chain
 
 -- a chain that is not lost has room for the text
 pub has-room : (c : Chain) (h : FragmentRead) → fateNumber (fate c h) ≡ 0 → charactersAfter c h ≤ 1008

@@ -10,14 +10,14 @@ use Rattle.refusal.specs.Told.{Told, given, ask, numberTold}
 use Rattle.message.specs.Fragments.{mostCharacters, textIn}
 use Rattle.fragment.specs.declared.FragmentRead.{FragmentRead}
 use Rattle.slots.specs.declared.Chain.{Chain}
-use Rattle.slots.specs.Steps.{headingIn, isFirst, goesOn, charactersAfter, cleared, slotFor, chainBefore, fateOf, rowAfter, endPlace}
+use Rattle.slots.specs.Steps.{headingIn, isFirst, goesOn, charactersAfter, olderSlot, slotFor, chainBefore, fateOf, rowAfter, endPlace}
 use Rattle.slots.specs.Answers.{known, toldOf}
 use Rattle.chain.specs.declared.Turn.{Turn}
 
 -- where a fragment goes
 abbrev pub turnOf : List Chain → ℕ → FragmentRead → Turn
 turnOf row address h =
-    record { slots = cleared row address h; slot = slotFor row address h; chain = chainBefore row address h; known = known row address h }
+    record { older = olderSlot row address h; slot = slotFor row address h; chain = chainBefore row address h; known = known row address h }
 
 -- what a fragment tells that was taken there
 abbrev pub takenOf : Turn → FragmentRead → Told

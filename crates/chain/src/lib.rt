@@ -5,12 +5,13 @@ ghost use mathlib.Core.Path.{_≡_};
 ghost use Prim.Native.Nat.{_+_, _*_, _≤_, _<_};
 ghost use mathlib.Core.Bool.{true};
 ghost use mathlib.Core.List.{[], _∷_};
-ghost use lib.ListN.{length, getD, set};
-ghost use Rattle.laws.specs.Choice.{bitOf};
+ghost use lib.Dec.{ltb};
+ghost use lib.ListN.{length, set};
+ghost use Rattle.laws.specs.Choice.{pick, bitOf};
 ghost use Rattle.laws.specs.Lists.{put};
 ghost use Rattle.refusal.specs.Told.{told};
 ghost use Rattle.message.specs.Fragments.{mostCharacters, textIn};
-ghost use Rattle.slots.specs.Chains.{blank, sound, slotCount};
+ghost use Rattle.slots.specs.Chains.{sound, slotCount};
 ghost use Rattle.slots.specs.Steps.{headingIn};
 ghost use Rattle.slots.specs.Answers.{asAnswer, asStep, stepOf, chainsAfter, bufferAfter};
 ghost use Rattle.chain.specs.Pieces.{turnOf, takenOf, joinOf, joinedRow, joinedBytes};
@@ -26,10 +27,10 @@ use slots::FIRST_FRAGMENT;
 use slots::LAST_ADDRESS;
 use slots::SLOTS;
 
-// Where a fragment goes: the records without the older chain of a first one, the slot, the chain before it, and whether
-// an open chain of its key was found.
+// Where a fragment goes: the slot of its key's open chain, its own, the chain before it, and whether an open chain of its
+// key was found. The records are not in it: each function that hands them on copies them.
 struct Turn {
-    slots: [Chain; SLOTS],
+    older: usize,
     slot: usize,
     chain: Chain,
     known: bool,
@@ -46,27 +47,28 @@ fn stored(slots: [Chain; SLOTS], slot: usize, chain: Chain) -> [Chain; SLOTS]
     after
 }
 
-// The record of a slot; that of a closed one where there is no such slot.
-fn record_of(slots: [Chain; SLOTS], slot: usize) -> Chain
-    ensures { λ r. ⌜ r ≡ getD slots slot blank ⌝ }
+// The lower of two slots.
+fn lower(one: usize, other: usize) -> usize
+    ensures { λ r. ⌜ r ≡ pick (ltb one other) one other ⌝ }
 {
-    if slot < SLOTS {
-        return slots[slot];
+    if one < other {
+        return one;
     }
-    BLANK
+    other
 }
 
-// Where a fragment goes. A first one closes an open chain of its key and takes the lowest-numbered free slot, and its
-// chain awaits it; a later one stays in its chain's slot.
+// Where a fragment goes. A first one closes an open chain of its key and takes the lowest-numbered free slot, which is
+// the lower of that chain's and of the first that is free already, and its chain awaits it; a later one stays in its
+// chain's slot.
 fn turn_of(slots: [Chain; SLOTS], address: u32, heading: FragmentRead) -> Turn
     ensures { λ r. ⌜ r ≡ turnOf slots address heading ⌝ }
 {
     let older = finding::find(slots, address, heading.message_number);
     if heading.fragment_number == FIRST_FRAGMENT {
-        let cleared = stored(slots, older, BLANK);
+        let free = finding::first_free(slots);
         return Turn {
-            slots: cleared,
-            slot: finding::first_free(cleared),
+            older: older,
+            slot: lower(older, free),
             chain: Chain {
                 is_open: 1,
                 address: address,
@@ -78,11 +80,20 @@ fn turn_of(slots: [Chain; SLOTS], address: u32, heading: FragmentRead) -> Turn
             known: older < SLOTS,
         };
     }
+    if SLOTS <= older {
+        return Turn {
+            older: older,
+            slot: older,
+            chain: BLANK,
+            known: false,
+        };
+    }
+    let chain = slots[older];
     Turn {
-        slots: slots,
+        older: older,
         slot: older,
-        chain: record_of(slots, older),
-        known: older < SLOTS,
+        chain: chain,
+        known: true,
     }
 }
 
@@ -172,8 +183,8 @@ fn join(
     if (heading.fragment_number != FIRST_FRAGMENT) & !turn.known {
         return unchanged(slots, Refusal::NoChain.number());
     }
-    let cleared = turn.slots;
     let fate = fate::fate(turn.chain, heading);
+    let cleared = stored(slots, turn.older, BLANK);
     let after = stored(cleared, turn.slot, fate.chain);
     if fate.number != 0 {
         return ChainStep {

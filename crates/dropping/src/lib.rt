@@ -18,26 +18,26 @@ pub fn drop_chain(chains: Chains, address: u32, message_number: u32) -> ChainDro
     if !finding::sound(after) {
         return ChainDrop {
             number: Refusal::State.number(),
-            chains: chains,
+            chains: Chains { slots: after },
         };
     }
     if message_number > LAST_MESSAGE {
         return ChainDrop {
             number: Refusal::Packet.number(),
-            chains: chains,
+            chains: Chains { slots: after },
         };
     }
     if address > LAST_ADDRESS {
         return ChainDrop {
             number: Refusal::Address.number(),
-            chains: chains,
+            chains: Chains { slots: after },
         };
     }
     let slot = finding::find(after, address, message_number);
     if slot == SLOTS {
         return ChainDrop {
             number: Refusal::NoChain.number(),
-            chains: chains,
+            chains: Chains { slots: after },
         };
     }
     after[slot] = BLANK;

@@ -2,7 +2,7 @@
 use Prim.Native.Nat.{_+_, _*_, _<_, ℕ, _≤_}
 use mathlib.Core.Logic.{⊎-elim}
 use mathlib.Core.Path.{refl, ap₂, _≡_, sym, ap, _∙_}
-use mathlib.Core.List.{[], _∷_}
+use mathlib.Core.List.{List, [], _∷_}
 use mathlib.Core.Bool.{true, false, not, _&&_}
 use native.Mathlib.Nat.{eq-or-lt-of-le}
 use native.Mathlib.Omega.{arith}
@@ -13,13 +13,15 @@ use Rattle.refusal.specs.declared.Refusal.the-variants.{NoChain, Full}
 use Rattle.refusal.specs.Told.{told, refused}
 use Rattle.message.specs.Fragments.{textIn}
 use Rattle.fragment.specs.declared.FragmentRead.{FragmentRead}
-use Rattle.slots.specs.Steps.{chainBefore, isFirst, fate, fateOf, rowAfter}
+use Rattle.slots.specs.declared.Chain.{Chain}
+use Rattle.slots.specs.Chains.{blank}
+use Rattle.slots.specs.Steps.{chainBefore, isFirst, fate, fateOf, recordAfter, rowAfter}
 use Rattle.slots.proofs.Steps.{slot-most}
 use Rattle.slots.specs.Answers.{known, asStep}
 use Rattle.fate.specs.declared.ChainFate.{ChainFate}
 use Rattle.fate.specs.Answers.{fateNumber, asFate}
 use Rattle.chain.specs.Pieces.{takenOf, turnOf, orphan}
-use Rattle.chain.proofs.Joining.{has-room, joins-none, joins-lost, joins-full, joins-taken, refused-joins, taken-joins}
+use Rattle.chain.proofs.Joining.{settled, has-room, joins-none, joins-lost, joins-full, joins-taken, refused-joins, taken-joins}
 use Rattle.chain.specs.declared.Turn.{Turn}
 use borrow.Author.Needs.{needs}
 use Rattle.chain.proofs.join.Statement.{statement}
@@ -40,21 +42,27 @@ no-orphan c =
     ap (λ (t : Turn). not (isFirst h) && not (t .known)) (sym (there found)) ∙ c .if1 .left
 
 -- what becomes of the chain
-fate-is : (c : tie.After-fate) → let start = c .before .before .before .before .before .before .before .before in c .fate .result ≡ asFate (fateOf (start .args .slots) (start .args .address) (start .args .heading))
+fate-is : (c : tie.After-fate) → let start = c .before .before .before .before .before .before .before in c .fate .result ≡ asFate (fateOf (start .args .slots) (start .args .address) (start .args .heading))
 fate-is c =
-    let found = c .before .before .before .before .before in
+    let found = c .before .before .before .before in
     let h = found .before .before .before .args .heading in
     c .fate .ensures ∙ ap (λ (t : Turn). asFate (fate (t .chain) h)) (there found)
 
 -- the records then
-row-is : (c : tie.After-stored) → let start = c .before .before .before .before .before .before .before .before .before in c .stored .result ≡ rowAfter (start .args .slots) (start .args .address) (start .args .heading)
+row-is : (c : tie.After-stored2) → let start = c .before .before .before .before .before .before .before .before .before in c .stored2 .result ≡ rowAfter (start .args .slots) (start .args .address) (start .args .heading)
 row-is c =
     let found = c .before .before .before .before .before .before in
-    c .stored .ensures ∙ ap₂ (λ (t : Turn) (f : ChainFate). set (t .slots) (t .slot) (f .chain)) (there found) (fate-is (c .before))
+    let start = found .before .before .before in
+    let row = start .args .slots in
+    let fated = c .before .before in
+    c .stored2 .ensures
+    ∙ ap (λ (after : List Chain). set after (found .turn-of .result .slot) (fated .fate .result .chain)) (c .before .stored .ensures)
+    ∙ ap₂ (λ (t : Turn) (f : ChainFate). set (set row (t .older) blank) (t .slot) (f .chain)) (there found) (fate-is fated)
+    ∙ settled row (start .args .address) (start .args .heading) (recordAfter (fateOf row (start .args .address) (start .args .heading)))
 
 -- the chain is not lost
 not-lost : (c : tie.Else2) → let start = c .before .before .before .before .before .before .before .before .before .before .before in fateNumber (fateOf (start .args .slots) (start .args .address) (start .args .heading)) ≡ 0
-not-lost c = sym (ap (λ (g : ChainFate). g .number) (fate-is (c .before .before .before))) ∙ c .if2 .left
+not-lost c = sym (ap (λ (g : ChainFate). g .number) (fate-is (c .before .before .before .before))) ∙ c .if2 .left
 
 -- the slot is one of eight, and has room for the text
 bounds : (c : tie.Else3) → let found = c .before .before .before .before .before .before .before .before .before .before in
@@ -92,6 +100,9 @@ fate-requires c κs = search needs
 stored-requires : tie.Need-stored-requires
 stored-requires c κs = search needs
 
+stored-requires-2 : tie.Need-stored-requires-2
+stored-requires-2 c κs = search needs
+
 refused-requires : tie.Need-refused-requires
 refused-requires c κs = search needs
 
@@ -102,10 +113,10 @@ returns-2 c =
     let row = start .args .slots in
     let h = start .args .heading in
     let step = c .before .before .before in
-    let fated = step .before in
+    let fated = step .before .before in
     let f = fateOf row (start .args .address) h in
     refused-joins row (start .args .address) (start .args .words .now) (start .args .buffer .now) h (start .pre .1 .1) _ (told (fateNumber f) (bitOf (known row (start .args .address) h) ∷ [])) (rowAfter row (start .args .address) h)
-    (joins-lost row (start .args .address) h (no-orphan (fated .before .before)) (λ none. c .before .if2 .taken (ap (λ (g : ChainFate). g .number) (fate-is fated) ∙ none)))
+    (joins-lost row (start .args .address) h (no-orphan (fated .before)) (λ none. c .before .if2 .taken (ap (λ (g : ChainFate). g .number) (fate-is fated) ∙ none)))
     (rw (c .refused .ensures, row-is step, fate-is fated, there found))
     (λ none. c .before .if2 .taken (ap (λ (g : ChainFate). g .number) (fate-is fated) ∙ none))
 
@@ -122,9 +133,9 @@ returns-3 c =
     let row = start .args .slots in
     let h = start .args .heading in
     let step = c .before .before .before .before .before .before in
-    let fated = step .before in
+    let fated = step .before .before in
     refused-joins row (start .args .address) (start .args .words .now) (start .args .buffer .now) h (start .pre .1 .1) (c .unchanged2 .result) (refused Full) (rowAfter row (start .args .address) h)
-    (joins-full row (start .args .address) h (no-orphan (fated .before .before)) (not-lost (c .before .before .before .before)) (sym (ap (λ (t : Turn). t .slot) (there found)) ∙ c .before .before .if3 .taken ∙ sym (long start)))
+    (joins-full row (start .args .address) h (no-orphan (fated .before)) (not-lost (c .before .before .before .before)) (sym (ap (λ (t : Turn). t .slot) (there found)) ∙ c .before .before .if3 .taken ∙ sym (long start)))
     (c .unchanged2 .ensures ∙ rw (c .before .number2 .ensures, row-is step))
     (λ none. omega arith)
 
@@ -172,9 +183,9 @@ returns-4 c =
     let h = start .args .heading in
     let slot = c .before .before .before .before .before .before .before in
     let step = slot .before .before .before .before in
-    let fated = step .before in
+    let fated = step .before .before in
     taken-joins row (start .args .address) (start .args .words .now) (start .args .buffer .now) h (start .pre .1 .1) _ (takenOf (turnOf row (start .args .address) h) h) (rowAfter row (start .args .address) h)
-    (joins-taken row (start .args .address) h (no-orphan (fated .before .before)) (not-lost (slot .before .before)) (λ same. slot .if3 .left (ap (λ (t : Turn). t .slot) (there found) ∙ same ∙ long start)))
+    (joins-taken row (start .args .address) h (no-orphan (fated .before)) (not-lost (slot .before .before)) (λ same. slot .if3 .left (ap (λ (t : Turn). t .slot) (there found) ∙ same ∙ long start)))
     (rw (c .taken .ensures, row-is step, there found))
     _
     refl
@@ -190,6 +201,7 @@ join-spec =
     returns
     fate-requires
     stored-requires
+    stored-requires-2
     refused-requires
     returns-2
     number-requires-2
