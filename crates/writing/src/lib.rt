@@ -4,12 +4,14 @@ ghost use mathlib.Core.Path.{_≡_};
 ghost use Prim.Native.Nat.{_+_, _≤_, _<_};
 ghost use mathlib.Core.List.{[], _∷_};
 ghost use lib.Dec.{leb};
-ghost use lib.ListN.{length};
-ghost use Rattle.laws.specs.Lists.{put};
-ghost use Rattle.message.specs.Fragments.{cellsIn, withoutFill};
+ghost use mathlib.Core.Bool.{true};
+ghost use lib.ListN.{length, drop};
+ghost use Rattle.laws.specs.Lists.{put, all};
+ghost use Rattle.message.specs.Fragments.{cellsIn, cellsOf, withoutFill};
 ghost use Rattle.message.specs.Answers.{textOf, textAfter};
 ghost use Rattle.cells.specs.Pieces.{textFrom};
 ghost use Rattle.writing.specs.Answers.{asText};
+ghost use Rattle.writing.specs.Full.{isFull};
 use message::CELL_LIMIT;
 use message::ETX;
 use message::FEWEST_WORDS;
@@ -47,19 +49,84 @@ fn write_word(word: u32, text: &mut [u8], at: usize) -> usize
     write_cell((word >> 14) % CELL_LIMIT, text, third)
 }
 
-// The text that a second word begins, where there is room for it; how many characters.
-fn write_words(second: u32, words: &[u32], text: &mut [u8]) -> usize
-    requires { ⌜ length (textFrom second (now words)) ≤ length (now text) ⌝ }
-    ensures count { λ r. ⌜ r ≡ length (textFrom second (now (words .entry))) ⌝ }
-    ensures buffer { λ r. ⌜ now (text .exit) ≡ put (now (text .entry)) 0 (textFrom second (now (words .entry))) ⌝ }
+// Whether no cell of a word is fill.
+fn is_full(word: u32) -> bool
+    ensures { λ r. ⌜ r ≡ isFull word ⌝ }
 {
-    let mut at = write_word(second, text, 0);
+    (word % CELL_LIMIT != ETX)
+        & ((word >> 7) % CELL_LIMIT != ETX)
+        & ((word >> 14) % CELL_LIMIT != ETX)
+}
+
+// Whether no word behind the second has fill, which only the last fragment of a text needs. Asked of all words at once,
+// and not before each is written, since this loop is compiled to several words at a time and that which writes is not.
+fn are_full(words: &[u32]) -> bool
+    ensures { λ r. ⌜ r ≡ all isFull (drop 2 (now (words .entry))) ⌝ }
+{
+    let mut full = true;
+    let mut at: usize = 2;
+    while at < words.len() {
+        full = full & is_full(words[at]);
+        at += 1;
+    }
+    full
+}
+
+// The text of a word without fill written behind what was written before; the place behind it.
+fn write_three(word: u32, text: &mut [u8], at: usize) -> usize
+    requires { ⌜ isFull word ≡ true ⌝ }
+    requires { ⌜ at + length (withoutFill (cellsIn word)) ≤ length (now text) ⌝ }
+    ensures next { λ r. ⌜ r ≡ at + length (withoutFill (cellsIn word)) ⌝ }
+    ensures buffer { λ r. ⌜ now (text .exit) ≡ put (now (text .entry)) at (withoutFill (cellsIn word)) ⌝ }
+{
+    text[at] = (word % CELL_LIMIT) as u8;
+    text[at + 1] = ((word >> 7) % CELL_LIMIT) as u8;
+    text[at + 2] = ((word >> 14) % CELL_LIMIT) as u8;
+    at + 3
+}
+
+// The text behind the second word written behind what was written before, where no word has fill; the place behind it.
+fn write_full(words: &[u32], text: &mut [u8], from: usize) -> usize
+    requires { ⌜ all isFull (drop 2 (now words)) ≡ true ⌝ }
+    requires { ⌜ from + length (withoutFill (cellsOf (drop 2 (now words)))) ≤ length (now text) ⌝ }
+    ensures next { λ r. ⌜ r ≡ from + length (withoutFill (cellsOf (drop 2 (now (words .entry))))) ⌝ }
+    ensures buffer { λ r. ⌜ now (text .exit) ≡ put (now (text .entry)) from (withoutFill (cellsOf (drop 2 (now (words .entry))))) ⌝ }
+{
+    let mut at = from;
+    let mut i: usize = 2;
+    while i < words.len() {
+        at = write_three(words[i], text, at);
+        i += 1;
+    }
+    at
+}
+
+// The same whether or not a word has fill.
+fn write_rest(words: &[u32], text: &mut [u8], from: usize) -> usize
+    requires { ⌜ from + length (withoutFill (cellsOf (drop 2 (now words)))) ≤ length (now text) ⌝ }
+    ensures next { λ r. ⌜ r ≡ from + length (withoutFill (cellsOf (drop 2 (now (words .entry))))) ⌝ }
+    ensures buffer { λ r. ⌜ now (text .exit) ≡ put (now (text .entry)) from (withoutFill (cellsOf (drop 2 (now (words .entry))))) ⌝ }
+{
+    let mut at = from;
     let mut i: usize = 2;
     while i < words.len() {
         at = write_word(words[i], text, at);
         i += 1;
     }
     at
+}
+
+// The text that a second word begins, where there is room for it; how many characters.
+fn write_words(second: u32, words: &[u32], text: &mut [u8]) -> usize
+    requires { ⌜ length (textFrom second (now words)) ≤ length (now text) ⌝ }
+    ensures count { λ r. ⌜ r ≡ length (textFrom second (now (words .entry))) ⌝ }
+    ensures buffer { λ r. ⌜ now (text .exit) ≡ put (now (text .entry)) 0 (textFrom second (now (words .entry))) ⌝ }
+{
+    let begun = write_word(second, text, 0);
+    if are_full(words) {
+        return write_full(words, text, begun);
+    }
+    write_rest(words, text, begun)
 }
 
 // Whether the text that a second word begins has room. Three characters a word behind the first, which holds none, are
