@@ -304,7 +304,7 @@ extern "C" {
 }
 
 // Frames listened to and the wait for a temporary address, as C and Rust link them: numbers and structs
-// by value over `frames`, and nothing but it behind them. Every function takes any input. `number` is 0,
+// by value over `frames` and `waiting`, and nothing but these behind them. Every function takes any input. `number` is 0,
 // or 01's number of the refusal; every other field is then 0.
 
 /// A wait in frames.
