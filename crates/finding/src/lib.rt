@@ -11,7 +11,7 @@ use slots::SLOTS;
 use slots::WHOLE_SUM;
 
 // Whether a slot has the open chain of a key.
-fn is_of(chain: Chain, address: u32, message_number: u32) -> bool
+pub fn is_of(chain: Chain, address: u32, message_number: u32) -> bool
     ensures { λ r. ⌜ r ≡ isOf address «message_number» chain ⌝ }
 {
     (chain.is_open != 0) & (chain.address == address) & (chain.message_number == message_number)

@@ -32,11 +32,12 @@ fn is_of(call: Call, phase: u32, vector: u32) -> bool
 fn in_limits(call: Call) -> bool
     ensures { λ r. ⌜ r ≡ inLimits call ⌝ }
 {
-    let heard = call.has_vector != 0;
+    if call.has_vector == 0 {
+        return (call.phase <= LAST_PHASE) & (call.vector <= Packet::LAST_WORD);
+    }
     (call.phase <= LAST_PHASE)
         & (call.vector <= Packet::LAST_WORD)
-        & (!heard
-            | (call.words == 0)
+        & ((call.words == 0)
             | span::fits(call.long_address != 0, call.vector, call.start, call.words))
 }
 
