@@ -2,9 +2,9 @@
 // signature and fill. What its first word says is told by `fragment`.
 ghost use mathlib.Core.Path.{_≡_};
 ghost use Prim.Native.Nat.{_+_, _≤_, _<_};
+ghost use mathlib.Core.Bool.{true};
 ghost use mathlib.Core.List.{[], _∷_};
 ghost use lib.Dec.{leb};
-ghost use mathlib.Core.Bool.{true};
 ghost use lib.ListN.{length, drop};
 ghost use Rattle.laws.specs.Lists.{put, all};
 ghost use Rattle.message.specs.Fragments.{cellsIn, cellsOf, withoutFill};
@@ -58,8 +58,8 @@ fn is_full(word: u32) -> bool
         & ((word >> 14) % CELL_LIMIT != ETX)
 }
 
-// Whether no word behind the second has fill, which only the last fragment of a text needs. Asked of all words at once,
-// and not before each is written, since this loop is compiled to several words at a time and that which writes is not.
+// Whether no word behind the second has fill, which a text needs only at its end. Asked of all words at once, and not of
+// each before it is written, since this loop is compiled to several words at a time and the one that writes is not.
 fn are_full(words: &[u32]) -> bool
     ensures { λ r. ⌜ r ≡ all isFull (drop 2 (now (words .entry))) ⌝ }
 {
