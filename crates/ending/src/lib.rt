@@ -1,13 +1,10 @@
 // The end of a frame (document 01, "Calls in a frame"; S8.8.2): the calls that were incomplete, and the records with no
 // call open, as they also are at first.
 ghost use mathlib.Core.Path.{_≡_};
-ghost use Prim.Native.Nat.{_<_};
-ghost use Rattle.laws.specs.Choice.{pick};
 ghost use Rattle.calls.specs.Calls.{mostCalls, fresh, opens};
-ghost use Rattle.calls.specs.Steps.{added, listed, incompleteIn};
+ghost use Rattle.calls.specs.Steps.{listed, incompleteIn};
 ghost use Rattle.calls.specs.Answers.{endOf, endedWith, endedIn, asEnd};
 use calls::BLANK;
-use calls::Call;
 use calls::Calls;
 use calls::FrameEnd;
 use calls::MEMORY;
@@ -25,24 +22,8 @@ pub fn fresh() -> Calls
     }
 }
 
-// The records with one call more, unless it is complete.
-fn added_unless(calls: Calls, call: Call, complete: bool) -> Calls
-    requires { ⌜ calls .size < mostCalls ⌝ }
-    ensures { λ r. ⌜ r ≡ pick complete calls (added calls call) ⌝ }
-{
-    if complete {
-        return calls;
-    }
-    let mut row = calls.calls;
-    let size = calls.size;
-    row[size] = call;
-    Calls {
-        size: size + 1,
-        calls: row,
-    }
-}
-
-// The open calls that are incomplete, in the order opened.
+// The open calls that are incomplete, in the order opened. They are stored where they are found: a function that was handed
+// the list for each call would copy it each time.
 fn incomplete(calls: Calls, memory: &[u32]) -> Calls
     ensures { λ r. ⌜ r ≡ listed mostCalls (incompleteIn (opens calls) (now (memory .entry))) ⌝ }
 {
@@ -52,7 +33,11 @@ fn incomplete(calls: Calls, memory: &[u32]) -> Calls
     let mut i: usize = 0;
     while i < count {
         let call = row[i];
-        found = added_unless(found, call, area::is_complete(call, memory));
+        if !area::is_complete(call, memory) {
+            let size = found.size;
+            found.calls[size] = call;
+            found.size = size + 1;
+        }
         i += 1;
     }
     found

@@ -10,7 +10,7 @@ ghost use Rattle.laws.specs.Choice.{pick};
 ghost use Rattle.laws.specs.Lists.{put};
 ghost use Rattle.refusal.specs.Told.{told};
 ghost use Rattle.vector.specs.Reads.{isVector, vectorOf};
-ghost use Rattle.calls.specs.Calls.{mostCalls, blank, opens};
+ghost use Rattle.calls.specs.Calls.{mostCalls, blank, opens, holds};
 ghost use Rattle.calls.specs.Words.{lacking, isHeld, isLacked};
 ghost use Rattle.calls.specs.Steps.{bringsWords, vectorFits, withVector, nextArea, changed, removed};
 ghost use Rattle.calls.specs.Answers.{messageIn, vectorTold, wordTold, hearOf, heardIn, memoryAfter, asHearing};
@@ -234,6 +234,13 @@ fn message_in(bits: u32) -> Message
     }
 }
 
+// Whether a packet is the vector of an open call.
+fn is_for_vector(calls: Calls, message: Message) -> bool
+    ensures { λ r. ⌜ r ≡ holds (message .phase) (message .word) (opens calls) ⌝ }
+{
+    opened::find(calls, message.phase, message.word) < opened::count(calls)
+}
+
 // A vector or message packet: the answer, the records then, and the words in the lent memory. Vector places are looked
 // at before spans.
 pub fn hear(calls: Calls, memory: &mut [u32], packet: Packet) -> CallHearing
@@ -254,8 +261,8 @@ pub fn hear(calls: Calls, memory: &mut [u32], packet: Packet) -> CallHearing
     let asked = awaited::ask(calls, message, memory);
     let held = asked.held;
     let lacked = asked.lacked;
-    let place = opened::find(calls, message.phase, message.word);
-    if place < opened::count(calls) {
+    if is_for_vector(calls, message) {
+        let place = opened::find(calls, message.phase, message.word);
         return take_vector(calls, memory, packet, place);
     }
     take_word(calls, memory, message, held, lacked)

@@ -1,14 +1,18 @@
 -- `incomplete` meets its contract.
-use Prim.Native.Nat.{_-_, _≤_}
+use Prim.Native.Nat.{_+_, _-_, _≤_, _<_}
+use mathlib.Core.Bool.{Bool, true, false}
 use mathlib.Core.List.{List}
+use mathlib.Core.Logic.{⊎-elim}
 use mathlib.Core.Path.{_≡_, sym, ap, _∙_}
 use native.Mathlib.Omega.{arith}
+use borrow.Author.Tests.{not-true, not-false}
 use lib.ListN.{length, getD, take}
 use lib.Seq.{getD-take}
+use Rattle.laws.specs.Choice.{pick}
 use Rattle.calls.specs.declared.Call.{Call}
 use Rattle.calls.specs.declared.Calls.{Calls}
 use Rattle.calls.specs.Calls.{blank}
-use Rattle.calls.specs.Steps.{listed, incompleteIn}
+use Rattle.calls.specs.Steps.{added, listed, incompleteIn}
 use Rattle.opened.proofs.Asking.{open-again}
 use Rattle.ending.proofs.Ending.{incomplete-none, incomplete-few, incomplete-turn, incomplete-done}
 use borrow.Author.Needs.{needs}
@@ -50,15 +54,25 @@ array-copy-out-call c = search needs
 is-complete-requires : tie.Need-is-complete-requires Inv-loop μ-loop
 is-complete-requires c κs = search needs
 
-added-unless-requires : tie.Need-added-unless-requires Inv-loop μ-loop
-added-unless-requires c κs =
-    let turn = c .before .before in
+-- the list has a place for one call more
+free : (c : tie.Then1 Inv-loop μ-loop) → c .before .before .before .before .loop .found .size < 8
+free c =
+    let turn = c .before .before .before in
     let count = turn .before .before .before in
     let start = count .before .before .before in
     let row = take (count .count .result) (start .args .calls .calls) in
     let found = turn .before .loop .inv in
     let few = incomplete-few row (start .args .memory .now) (turn .before .loop .i) (omega (arith, long count, found .0)) in
     omega (arith, few, ap (λ (s : Calls). s .size) (found .2), found .1, turn .loop-test .taken)
+
+mul-call-2 : tie.Need-mul-call-2 Inv-loop μ-loop
+mul-call-2 c = omega (arith, free c)
+
+element-set-from-call : tie.Need-element-set-from-call Inv-loop μ-loop
+element-set-from-call c = free c
+
+add-found : tie.Need-add-found Inv-loop μ-loop
+add-found c = omega (arith, free c)
 
 add-i : tie.Need-add-i Inv-loop μ-loop
 add-i c = search needs
@@ -78,7 +92,16 @@ loop-again c =
     let so-far = turn .before .loop .inv in
     let there : getD row i blank ≡ getD all i blank = getD-take (count .count .result) all i blank (turn .loop-test .taken) in
     let turned = incomplete-turn row memory i 8 (omega (arith, long count, so-far .1)) (omega (arith, long count, turn .loop-test .taken)) in
-    (omega arith, so-far .1, c .added-unless .ensures ∙ rw (c .before .is-complete .ensures, so-far .2, ← there) turned)
+    let judged : (b : Bool) → c .before .is-complete .result ≡ b → pick b (turn .before .loop .found) (added (turn .before .loop .found) (getD all i blank)) ≡ listed 8 (incompleteIn (take (i + 1) row) memory) =
+    λ b is. rw (← is, c .before .is-complete .ensures, so-far .2, ← there) turned
+    in
+    let now : c .if1 .found ≡ listed 8 (incompleteIn (take (i + 1) row) memory) =
+    ⊎-elim
+    (λ w. w .1 ∙ judged false (not-true (c .before .is-complete .result) (w .0 .taken)))
+    (λ w. w .1 ∙ judged true (not-false (c .before .is-complete .result) (w .0 .left)))
+    (c .if1 .came)
+    in
+    (omega arith, so-far .1, now)
 
 returns : tie.Need-returns Inv-loop μ-loop
 returns c =
@@ -100,7 +123,9 @@ incomplete-spec =
     mul-call
     array-copy-out-call
     is-complete-requires
-    added-unless-requires
+    mul-call-2
+    element-set-from-call
+    add-found
     add-i
     loop-less
     loop-again

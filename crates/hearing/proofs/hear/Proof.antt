@@ -1,16 +1,13 @@
 -- `hear` meets its contract.
 use Prim.Native.Nat.{ℕ}
-use mathlib.Core.Bool.{true}
 use mathlib.Core.List.{[]}
-use mathlib.Core.Path.{_≡_, sym, ap, _∙_}
-use native.Mathlib.Omega.{arith}
-use borrow.Author.Tests.{eq-eqb, ne-eqb, lt-ltb, le-ltb, not-true, not-false}
-use lib.Dec.{eqb}
+use mathlib.Core.Path.{sym, ap, _∙_}
+use borrow.Author.Tests.{eq-eqb, ne-eqb, ltb-true, not-true, not-false}
 use lib.ListN.{length, getD}
 use Rattle.refusal.specs.Told.{told}
 use Rattle.heard.specs.declared.Message.{Message}
 use Rattle.vector.specs.Reads.{vectorOf, isVector}
-use Rattle.calls.specs.Calls.{blank, opens, find, sound}
+use Rattle.calls.specs.Calls.{blank, opens, find, holds}
 use Rattle.calls.specs.Answers.{messageIn, vectorTold, wordTold, asHearing}
 use Rattle.awaited.specs.declared.Asked.{Asked}
 use Rattle.hearing.specs.Pieces.{vectorCalls, vectorMemory, wordMemory}
@@ -68,67 +65,45 @@ returns-3 c =
 ask-requires : tie.Need-ask-requires
 ask-requires c κs = search needs
 
+is-for-vector-requires : tie.Need-is-for-vector-requires
+is-for-vector-requires c κs = search needs
+
 find-requires : tie.Need-find-requires
 find-requires c κs = search needs
 
-count-requires : tie.Need-count-requires
-count-requires c κs = search needs
-
--- ---- what is known when the call of the packet's key has been looked for
-
--- the records are sound,
-right : (c : tie.After-count) → let start = c .before .before .before .before .before .before .before .before .before .before .before .before in sound (opens (start .args .calls)) ≡ true
-right c =
-    let last = c .before .before .before .before .before .before .before .before .before in
-    sym (last .before .sound .ensures) ∙ not-false (last .before .sound .result) (last .if1 .left)
-
--- .. the packet is a vector or a message word,
-kind : (c : tie.After-count) → let start = c .before .before .before .before .before .before .before .before .before .before .before .before in isVector (start .args .packet .bits) ≡ true
-kind c =
-    let start = c .before .before .before .before .before .before .before .before .before .before .before .before in
-    not-false (isVector (start .args .packet .bits)) (c .before .before .before .before .before .before .before .if2 .left)
-
--- .. and undamaged,
-good : (c : tie.After-count) → let start = c .before .before .before .before .before .before .before .before .before .before .before .before in eqb (messageIn (start .args .packet .bits) .damaged) 0 ≡ true
-good c =
-    let start = c .before .before .before .before .before .before .before .before .before .before .before .before in
-    let unmarked = c .before .before .before .before in
-    eq-eqb (messageIn (start .args .packet .bits) .damaged) 0 (sym (ap (λ (m : Message). m .damaged) (unmarked .before .before .message-in .ensures)) ∙ unmarked .if3 .left)
-
--- .. and the place is that of its key
-place : (c : tie.After-count) → let start = c .before .before .before .before .before .before .before .before .before .before .before .before in
-    let m = messageIn (start .args .packet .bits) in c .before .find .result ≡ find (m .phase) (m .word) (opens (start .args .calls))
-place c =
-    let start = c .before .before .before .before .before .before .before .before .before .before .before .before in
-    c .before .find .ensures ∙ ap (λ (m : Message). find (m .phase) (m .word) (opens (start .args .calls))) (c .before .before .before .before .before .before .message-in .ensures)
-
 take-vector-requires : tie.Need-take-vector-requires
 take-vector-requires c κs =
-    let found = c .before .before in
-    (kind found, omega (arith, c .before .if4 .taken, found .count .ensures .0))
+    let start = c .before .before .before .before .before .before .before .before .before .before .before .before .before .before in
+    let s = start .args .calls in
+    let message = c .before .before .before .before .before .before .before .before .message-in .result in
+    let held = ltb-true (find (message .phase) (message .word) (opens s)) (length (opens s)) (sym (c .before .before .before .is-for-vector .ensures) ∙ c .before .before .if4 .taken) in
+    (not-false (isVector (start .args .packet .bits)) (c .before .before .before .before .before .before .before .before .before .if2 .left), rw (c .before .find .ensures) held)
 
 same-length : tie.Need-same-length
 same-length c = search needs
 
 returns-4 : tie.Need-returns-4
 returns-4 c =
-    let found = c .before .before .before .before .before in
-    let start = found .before .before .before .before .before .before .before .before .before .before .before .before in
+    let start = c .before .before .before .before .before .before .before .before .before .before .before .before .before .before .before .before .before in
     let s = start .args .calls in
     let memory = start .args .memory .now in
     let bits = start .args .packet .bits in
-    let m = messageIn bits in
-    let is = lt-ltb (find (m .phase) (m .word) (opens s)) (length (opens s)) (omega (arith, place found, found .count .ensures .0, c .before .before .before .before .if4 .taken)) in
-    let done = hear-vector s memory bits (right found) (kind found) (good found) is in (
+    let message = c .before .before .before .before .before .before .before .before .before .before .before .message-in .ensures in
+    let right = sym (c .before .before .before .before .before .before .before .before .before .before .before .before .before .before .before .sound .ensures) ∙ not-false (c .before .before .before .before .before .before .before .before .before .before .before .before .before .before .before .sound .result) (c .before .before .before .before .before .before .before .before .before .before .before .before .before .before .if1 .left) in
+    let kind = not-false (isVector bits) (c .before .before .before .before .before .before .before .before .before .before .before .before .if2 .left) in
+    let good = eq-eqb (messageIn bits .damaged) 0 (sym (ap (λ (m : Message). m .damaged) message) ∙ c .before .before .before .before .before .before .before .before .before .if3 .left) in
+    let is = sym (c .before .before .before .before .before .before .is-for-vector .ensures ∙ ap (λ (m : Message). holds (m .phase) (m .word) (opens s)) message) ∙ c .before .before .before .before .before .if4 .taken in
+    let place = c .before .before .before .before .find .ensures ∙ ap (λ (m : Message). find (m .phase) (m .word) (opens s)) message in
+    let done = hear-vector s memory bits right kind good is in (
       c .before .before .take-vector .ensures .0
-          ∙ ap (λ (at : ℕ). asHearing (vectorTold s memory at (getD (opens s) at blank) (vectorOf bits)) (vectorCalls s memory at (vectorOf bits))) (place found)
+          ∙ ap (λ (at : ℕ). asHearing (vectorTold s memory at (getD (opens s) at blank) (vectorOf bits)) (vectorCalls s memory at (vectorOf bits))) place
           ∙ done .0,
-      c .before .before .take-vector .ensures .1 ∙ ap (λ (at : ℕ). vectorMemory s memory at (vectorOf bits)) (place found) ∙ done .1,
+      c .before .before .take-vector .ensures .1 ∙ ap (λ (at : ℕ). vectorMemory s memory at (vectorOf bits)) place ∙ done .1,
     )
 
 take-word-requires : tie.Need-take-word-requires
 take-word-requires c κs =
-    let asked = c .before .before .before .before .ask .ensures in
+    let asked = c .before .before .before .ask .ensures in
     (ap (λ (a : Asked). a .held) asked, ap (λ (a : Asked). a .lacked) asked)
 
 same-length-2 : tie.Need-same-length-2
@@ -136,15 +111,16 @@ same-length-2 c = search needs
 
 returns-5 : tie.Need-returns-5
 returns-5 c =
-    let found = c .before .before .before .before .before in
-    let start = found .before .before .before .before .before .before .before .before .before .before .before .before in
+    let start = c .before .before .before .before .before .before .before .before .before .before .before .before .before .before .before .before in
     let s = start .args .calls in
     let memory = start .args .memory .now in
     let bits = start .args .packet .bits in
-    let m = messageIn bits in
-    let message = found .before .before .before .before .before .before .message-in .ensures in
-    let is = le-ltb (find (m .phase) (m .word) (opens s)) (length (opens s)) (omega (arith, place found, found .count .ensures .0, c .before .before .before .before .if4 .left)) in
-    let done = hear-word s memory bits (right found) (kind found) (good found) is in (
+    let message = c .before .before .before .before .before .before .before .before .before .before .message-in .ensures in
+    let right = sym (c .before .before .before .before .before .before .before .before .before .before .before .before .before .before .sound .ensures) ∙ not-false (c .before .before .before .before .before .before .before .before .before .before .before .before .before .before .sound .result) (c .before .before .before .before .before .before .before .before .before .before .before .before .before .if1 .left) in
+    let kind = not-false (isVector bits) (c .before .before .before .before .before .before .before .before .before .before .before .if2 .left) in
+    let good = eq-eqb (messageIn bits .damaged) 0 (sym (ap (λ (m : Message). m .damaged) message) ∙ c .before .before .before .before .before .before .before .before .if3 .left) in
+    let is = sym (c .before .before .before .before .before .is-for-vector .ensures ∙ ap (λ (m : Message). holds (m .phase) (m .word) (opens s)) message) ∙ c .before .before .before .before .if4 .left in
+    let done = hear-word s memory bits right kind good is in (
       c .before .before .take-word .ensures .0 ∙ ap (λ (m : Message). asHearing (wordTold s memory m) s) message ∙ done .0,
       c .before .before .take-word .ensures .1 ∙ ap (wordMemory s memory) message ∙ done .1,
     )
@@ -165,8 +141,8 @@ hear-spec =
     unheard-requires-3
     returns-3
     ask-requires
+    is-for-vector-requires
     find-requires
-    count-requires
     take-vector-requires
     same-length
     returns-4
