@@ -5,14 +5,14 @@ use std::env;
 use std::path::Path;
 
 fn main() {
-    let own = Path::new(&env::var("CARGO_MANIFEST_DIR").expect("cargo sets it")).join("../../target/staticlib");
+    // On a machine that is not x86-64 the same modules are compiled for that machine (tools/library-folder).
+    let is_shipped = env::var("CARGO_CFG_TARGET_ARCH").as_deref() == Ok("x86_64");
+    let folder = if is_shipped { "../../target/staticlib" } else { "../../target/native" };
+    let own = Path::new(&env::var("CARGO_MANIFEST_DIR").expect("cargo sets it")).join(folder);
     let folder = env::var("MORTISEVANE_LIBRARY").unwrap_or(own.display().to_string());
     let library = Path::new(&folder).join("libmortisevane.a");
     if !library.exists() {
         println!("cargo:warning=there is no {}; tools/build-library makes it", library.display());
-    }
-    if env::var("CARGO_CFG_TARGET_ARCH").as_deref() != Ok("x86_64") {
-        println!("cargo:warning=libmortisevane.a is x86-64 code, and cannot be linked for another machine");
     }
     println!("cargo:rerun-if-env-changed=MORTISEVANE_LIBRARY");
     println!("cargo:rerun-if-changed={}", library.display());
