@@ -5,9 +5,10 @@ use std::hint::black_box;
 
 use crate::stack::{self, Depth};
 
-/// How often an operation is called while its instructions are counted. Each call has a state of its own that was
-/// made before, so that all calls are alike and nothing is put back in between.
-pub const CALLS: usize = 10;
+/// How often an operation is called while its instructions are counted: so often that what is run once, before and behind the
+/// calls, is too little to be told. Each call has a state of its own that was made before, so that all calls are alike and
+/// nothing is put back in between.
+pub const CALLS: usize = 40;
 
 /// An answer as numbers, with what was lent: what must be the same on both sides.
 pub type Told = Vec<u64>;

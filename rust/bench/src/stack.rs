@@ -24,11 +24,12 @@ pub fn depth<State: Clone, Answer>(state: &State, call: &impl Fn(&mut State) -> 
     let lowest = paint();
     let own_from = called(&mut state, call);
     let touched = lowest_touched(lowest);
-    // Registers are saved eight bytes at a time; the lowest of them may happen to be as painted.
-    let whole = |bytes: usize| bytes.next_multiple_of(8);
+    // Registers are saved eight bytes at a time; the lowest of them may happen to be as painted. Where a call puts its
+    // return address into a register, an operation may need no stack at all.
+    let whole = |from: usize| from.saturating_sub(touched).next_multiple_of(8);
     Depth {
-        own: whole(own_from - touched),
-        with_caller: whole(with_caller_from - touched),
+        own: whole(own_from),
+        with_caller: whole(with_caller_from),
     }
 }
 
@@ -43,8 +44,16 @@ fn called<State, Answer>(state: &mut State, call: &impl Fn(&mut State) -> Answer
 #[inline(always)]
 fn stack_pointer() -> usize {
     let pointer: usize;
+    #[cfg(target_arch = "x86_64")]
     // SAFETY: a register is read.
-    unsafe { asm!("mov {}, rsp", out(reg) pointer, options(nomem, nostack)) };
+    unsafe {
+        asm!("mov {}, rsp", out(reg) pointer, options(nomem, nostack))
+    };
+    #[cfg(target_arch = "aarch64")]
+    // SAFETY: a register is read.
+    unsafe {
+        asm!("mov {}, sp", out(reg) pointer, options(nomem, nostack))
+    };
     pointer
 }
 

@@ -4,7 +4,7 @@ use std::fmt::Write;
 use std::path::Path;
 
 use crate::bytes;
-use crate::callgrind::instructions;
+use crate::callgrind::{instructions, Callers};
 use crate::measure::{Purpose, Row};
 use crate::rows::AGAINST_SECOND;
 
@@ -91,8 +91,12 @@ const FURTHER: [Section; 5] = [
 /// The rows of the groups that are wanted, with what callgrind counted in the folder.
 fn counted(folder: &Path, wanted: &str) -> Result<Vec<Counted>, String> {
     let rows = crate::measured(Purpose::Stack, wanted).rows;
+    let callers = Callers::own()?;
     let count = |(place, row): (usize, Row)| {
-        let side = |side: usize| instructions(&folder.join(format!("part.{}", 2 * place + side)));
+        let side = |side: usize| {
+            let file = folder.join(format!("part.{}", 2 * place + side));
+            instructions(&file, &callers)
+        };
         let (library, other) = (side(1)?, side(2)?);
         Ok(Counted {
             row,
