@@ -130,28 +130,27 @@ fn fields_fit(c: Capcode) -> bool
     }
 }
 
-// What is asked of every CAPCODE before it is used. The tests come first; the refusals stand in 01's
-// order, and the first is the answer.
+// What is asked of every CAPCODE before it is used, in 01's order: the first refusal is the answer, and no more is asked.
 fn judge(c: Capcode) -> Judged
     ensures { λ r. ⌜ ((rest : Told) → toldJudged r rest ≡ asked c rest) ⌝ }
 {
     let lettered = is_standard(c.letter) | is_framed(c.letter);
-    let all_phase = is_all_phase(c.letter);
-    let accepted = is_accepted(c.address);
-    let below = is_below_offset(c);
-    let fit = fields_fit(c);
     if !lettered {
         return Judged::Refused(Refusal::Text);
     }
+    let all_phase = is_all_phase(c.letter);
     if all_phase {
         return Judged::Refused(Refusal::Type);
     }
+    let accepted = is_accepted(c.address);
     if !accepted {
         return Judged::Refused(Refusal::Range);
     }
+    let below = is_below_offset(c);
     if below {
         return Judged::Refused(Refusal::Offset);
     }
+    let fit = fields_fit(c);
     if !fit {
         return Judged::Refused(Refusal::Packet);
     }

@@ -1,7 +1,8 @@
 // The mirror follows the decoder: after one packet, and after a run of them (document 01, "Packets and the
 // handshake"; S8.4.2).
+ghost use Prim.Native.Nat.{ℕ};
 ghost use mathlib.Core.Path.{_≡_};
-ghost use Rattle.mirror.specs.Handshake.{summed, afterChecksum, afterOther, stepOf, runOf, answered};
+ghost use Rattle.mirror.specs.Handshake.{summed, stepOf, runOf, answered};
 use mirror::Mirror;
 use mirror::Mirrored;
 use packet::Packet;
@@ -18,80 +19,81 @@ fn summed(register: u32, bits: u32) -> u32
     register ^ (bits % 0x100_0000)
 }
 
-// A checksum wakes a silent decoder if it holds the register, and does nothing to one that talks.
-fn after_checksum(mirror: Mirror, bits: u32) -> Mirror
-    ensures { λ r. ⌜ r ≡ afterChecksum mirror bits ⌝ }
-{
-    if mirror.talking != 0 {
-        return mirror;
-    }
-    let register = mirror.register;
-    Mirror {
-        register,
-        talking: (bits % 0x100_0000 == register) as u32,
-    }
-}
-
-// Any other packet goes into the register and silences the decoder.
-fn after_other(mirror: Mirror, bits: u32) -> Mirror
-    ensures { λ r. ⌜ r ≡ afterOther mirror bits ⌝ }
-{
-    Mirror {
-        register: summed(mirror.register, bits),
-        talking: 0,
-    }
-}
-
-fn stepped(mirror: Mirror, bits: u32) -> Mirror
-    ensures { λ r. ⌜ r ≡ stepOf mirror bits ⌝ }
+// The register after a packet, whether the decoder talks or not: a checksum is not summed.
+fn register_after(register: u32, bits: u32) -> u32
+    ensures { λ r. ⌜ ((talking : ℕ) → r ≡ stepOf (record { register = register; talking = talking }) bits .register) ⌝ }
 {
     if bits >> 24 == Packet::CHECKSUM {
-        after_checksum(mirror, bits)
-    } else {
-        after_other(mirror, bits)
+        return register;
     }
+    summed(register, bits)
 }
 
-// The mirror after one packet.
+// Whether the decoder talks after a packet: a checksum wakes a silent one if it holds the register and does nothing to
+// one that talks, any other packet silences it.
+fn talking_after(register: u32, talking: u32, bits: u32) -> u32
+    ensures { λ r. ⌜ r ≡ stepOf (record { register = register; talking = talking }) bits .talking ⌝ }
+{
+    if bits >> 24 != Packet::CHECKSUM {
+        return 0;
+    }
+    if talking != 0 {
+        return talking;
+    }
+    (bits % 0x100_0000 == register) as u32
+}
+
+// The mirror after one packet. Here and in a run the register and whether the decoder talks are two numbers: a struct of
+// both would be packed into one register of the machine and taken apart again at every packet.
 pub fn step(mirror: Mirror, packet: Packet) -> Mirrored
     ensures { λ r. ⌜ r ≡ answered mirror (stepOf mirror (packet .bits)) ⌝ }
 {
-    if mirror.register >= 0x100_0000 {
+    let register = mirror.register;
+    let talking = mirror.talking;
+    if register >= 0x100_0000 {
         return Mirrored {
             number: Refusal::State.number(),
-            mirror,
+            mirror: Mirror { register, talking },
         };
     }
+    let bits = packet.bits;
+    let talking = talking_after(register, talking, bits);
+    let register = register_after(register, bits);
     Mirrored {
         number: 0,
-        mirror: stepped(mirror, packet.bits),
+        mirror: Mirror { register, talking },
     }
 }
 
-fn stepped_through(mirror: Mirror, packets: &[u32]) -> Mirror
-    ensures { λ r. ⌜ r ≡ runOf mirror (now (packets .entry)) ⌝ }
+fn stepped_through(register: u32, talking: u32, packets: &[u32]) -> Mirrored
+    ensures { λ r. ⌜ r ≡ record { number = 0; mirror = runOf (record { register = register; talking = talking }) (now (packets .entry)) } ⌝ }
 {
-    let mut reached = mirror;
+    let mut register = register;
+    let mut talking = talking;
     let mut i: usize = 0;
     while i < packets.len() {
-        reached = stepped(reached, packets[i]);
+        let bits = packets[i];
+        talking = talking_after(register, talking, bits);
+        register = register_after(register, bits);
         i += 1;
     }
-    reached
+    Mirrored {
+        number: 0,
+        mirror: Mirror { register, talking },
+    }
 }
 
 // The mirror after a run of packets.
 pub fn run(mirror: Mirror, packets: &[u32]) -> Mirrored
     ensures { λ r. ⌜ r ≡ answered mirror (runOf mirror (now (packets .entry))) ⌝ }
 {
-    if mirror.register >= 0x100_0000 {
+    let register = mirror.register;
+    let talking = mirror.talking;
+    if register >= 0x100_0000 {
         return Mirrored {
             number: Refusal::State.number(),
-            mirror,
+            mirror: Mirror { register, talking },
         };
     }
-    Mirrored {
-        number: 0,
-        mirror: stepped_through(mirror, packets),
-    }
+    stepped_through(register, talking, packets)
 }

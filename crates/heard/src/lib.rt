@@ -4,8 +4,8 @@
 // too, beside their tables and laws; `reported` reads them.
 ghost use mathlib.Core.Path.{_≡_};
 ghost use Rattle.laws.specs.Layouts.{fieldsOf};
-ghost use Rattle.heard.specs.Tables.{address};
-ghost use Rattle.heard.specs.Reads.{asAddress, addressRefusal, addressRead, messageRead};
+ghost use Rattle.heard.specs.Tables.{address, message};
+ghost use Rattle.heard.specs.Reads.{asAddress, addressRefusal, addressRead, asMessage, messageRead};
 use packet::Packet;
 use packet::PartId;
 use refusal::Refusal;
@@ -125,21 +125,33 @@ pub fn read_address(packet: Packet) -> AddressRead
     }
 }
 
-// Reads a message packet.
+fn message_of(bits: u32) -> Message
+    ensures { λ r. ⌜ r ≡ asMessage (fieldsOf message bits) ⌝ }
+{
+    Message {
+        word: (bits >> 24) % 0x80,
+        damaged: (bits >> 23) % 2,
+        phase: (bits >> 21) % 4,
+        bits: bits % 0x20_0000,
+    }
+}
+
+// Reads a message packet. Another one is answered at once.
 pub fn read_message(packet: Packet) -> MessageRead
     ensures { λ r. ⌜ r ≡ messageRead (packet .bits) ⌝ }
 {
     let bits = packet.bits;
     let id = bits >> 24;
     let good = (Packet::FIRST_MESSAGE <= id) & (id <= Packet::LAST_WORD);
-    let bits = kept(good, bits);
-    MessageRead {
-        number: Refusal::Packet.unless(good),
-        fields: Message {
-            word: (bits >> 24) % 0x80,
-            damaged: (bits >> 23) % 2,
-            phase: (bits >> 21) % 4,
-            bits: bits % 0x20_0000,
-        },
+    if good {
+        MessageRead {
+            number: 0,
+            fields: message_of(bits),
+        }
+    } else {
+        MessageRead {
+            number: Refusal::Packet.number(),
+            fields: message_of(0),
+        }
     }
 }

@@ -7,7 +7,6 @@ use packet::Built;
 use packet::Checksum;
 use packet::Packet;
 use refusal::Refusal;
-use refusal::kept;
 
 // The register, 24 bits; `talking` is 0 while the decoder sends nothing but its part ID.
 #[repr(C)]
@@ -28,11 +27,20 @@ pub fn reset(packet: Packet) -> Mirrored
     ensures { λ r. ⌜ r ≡ resetBy (packet .bits) ⌝ }
 {
     let bits = packet.bits;
-    let good = bits & 0xFF00_0000 == Packet::PART_ID << 24;
+    // No ID is above the part ID's, so what a packet is over it are its data bits.
+    if bits < Packet::PART_ID << 24 {
+        return Mirrored {
+            number: Refusal::Packet.number(),
+            mirror: Mirror {
+                register: 0,
+                talking: 0,
+            },
+        };
+    }
     Mirrored {
-        number: Refusal::Packet.unless(good),
+        number: 0,
         mirror: Mirror {
-            register: kept(good, bits % 0x100_0000),
+            register: bits - (Packet::PART_ID << 24),
             talking: 0,
         },
     }

@@ -1,7 +1,8 @@
 -- What document 01 promises of what is sent: which packets may be sent, and which are refused.
-use Prim.Native.Nat.{ℕ, zero, suc, _-_, _≤_, _<_}
-use mathlib.Core.Bool.{Bool, true, false, not, _&&_, Bool·beq, and-false, true≢false}
+use Prim.Native.Nat.{ℕ, zero, suc, _-_, _^_, _≤_, _<_}
+use mathlib.Core.Bool.{Bool, true, false, not, _&&_, _||_, Bool·beq, and-false, true≢false}
 use mathlib.Core.List.{List, [], _∷_}
+use mathlib.Core.Logic.{⊎-elim}
 use mathlib.Core.Path.{_≡_, refl, ap, ap₂, sym, _∙_}
 use native.Mathlib.Omega.{arith}
 use borrow.Author.Tests.{eq-eqb, eqb-true, le-leb, lt-leb, ltb-false, ltb-true, ne-eqb}
@@ -12,6 +13,7 @@ use Rattle.laws.specs.Choice.{every, everyAfter, implies}
 use Rattle.laws.specs.Layouts.{Layout, bitsAt, shows, fit, packed}
 use Rattle.laws.proofs.Counting.{allBelow, of-all-below}
 use Rattle.laws.proofs.Layouts.{laid, shown-bits, shows-each, shows-packed}
+use Rattle.laws.proofs.Tests.{either-of}
 use Rattle.packet.proofs.Laws.{fitting-built}
 use Rattle.packet.specs.Names.{idOf, among, checksumID, configurationID, controlID, allFrameModeID, receiverLinesID, firstSettingID, lastSettingID, shutDown1ID, shutDown2ID, firstSpecialID, lastSpecialID, firstFramesID, lastFramesID, addressEnableID, firstUserAddressID, lastUserAddressID}
 use Rattle.packet.specs.Tables.{checksum, configuration, control, allFrameMode, receiverLines, shutDown, frameAssignment, userAddress, addressEnable}
@@ -245,3 +247,38 @@ zero-bit-refused shutDownKind n i e = not-met n 4 (asked-not-met (isOf shutDownK
 zero-bit-refused frameAssignmentKind n i e = not-met n 5 (asked-not-met (isOf frameAssignmentKind (idOf n)) (shows frameAssignment n) i e)
 zero-bit-refused addressEnableKind n i e = not-met n 6 (asked-not-met (isOf addressEnableKind (idOf n)) (shows addressEnable n) i e)
 zero-bit-refused userAddressKind n i e = not-met n 7 (asked-not-met (isOf userAddressKind (idOf n)) (shows userAddress n) i e)
+
+-- a packet with an ID of a row of IDs that ask for no table may be sent
+pub sent-with-any : (first last : ℕ) → T (justAsks (among first last) noTable) → (n : ℕ) → first ≤ idOf n → idOf n ≤ last → maySend n ≡ true
+sent-with-any first last t n from to = sent-by-id (among first last) noTable t n (λ h. between first last (idOf n) from to) refl
+
+-- whether each ID of 8 bits from the first to the last of a row is a kind's or one that is never sent
+abbrev pub onlyOf : Kind → ℕ → ℕ → Bool
+onlyOf k first last = allBelow (λ id. implies (among first last id) (neverSent id || isOf k id)) 256
+
+-- what is refused may not be sent
+refused-not-sent : (sent : Bool) → numberUnless refusals.Packet sent ≡ 7 → sent ≡ false
+refused-not-sent true e = absurd (omega (arith, e))
+refused-not-sent false e = refl
+
+holds : (test : Bool) → T test → test ≡ true
+holds true t = refl
+holds false t = absurd t
+
+-- a packet with an ID of such a row may be sent exactly if it has the bits that the kind's table prints
+pub sent-as-shown : (k : Kind) (first last : ℕ) → T (onlyOf k first last) → (n : ℕ) → n < 2 ^ 32 → first ≤ idOf n → idOf n ≤ last → shows (tableOf k) n ≡ maySend n
+sent-as-shown k first last t n small from to = by-shown (shows (tableOf k) n) refl
+  where
+    only : (neverSent (idOf n) || isOf k (idOf n)) ≡ true
+    only =
+        holds
+        (neverSent (idOf n) || isOf k (idOf n))
+        (rw (between first last (idOf n) from to) at (of-all-below (λ id. implies (among first last id) (neverSent id || isOf k id)) 256 t (idOf n) (omega arith)))
+
+    by-shown : (seen : Bool) → shows (tableOf k) n ≡ seen → seen ≡ maySend n
+    by-shown true e = sym (read-sent k n e)
+    by-shown false e =
+        sym
+        (refused-not-sent
+        (maySend n)
+        (⊎-elim (named-never n) (λ is. zero-bit-refused k n is e) (either-of (neverSent (idOf n)) (isOf k (idOf n)) only)))

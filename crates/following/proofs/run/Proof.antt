@@ -11,7 +11,7 @@ number-requires c κs = search needs
 
 returns : tie.Need-returns
 returns c =
-    let m = c .before .before .before .before .args .mirror in
+    let m = c .before .before .before .args .mirror in
     rw (c .number .ensures, le-ltb (m .register) (2 ^ 24) (omega (arith, c .before .if1 .taken)))
 
 stepped-through-requires : tie.Need-stepped-through-requires
@@ -19,7 +19,7 @@ stepped-through-requires c κs = search needs
 
 returns-2 : tie.Need-returns-2
 returns-2 c =
-    let m = c .before .before .before .before .args .mirror in
+    let m = c .before .before .before .args .mirror in
     rw (c .stepped-through .ensures, lt-ltb (m .register) (2 ^ 24) (omega (arith, c .before .if1 .left)))
 
 pub run-spec : {M : Type 1} → statement M

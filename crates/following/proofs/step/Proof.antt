@@ -11,16 +11,21 @@ number-requires c κs = search needs
 
 returns : tie.Need-returns
 returns c =
-    let m = c .before .before .before .args .mirror in
+    let m = c .before .before .args .mirror in
     rw (c .number .ensures, le-ltb (m .register) (2 ^ 24) (omega (arith, c .before .if1 .taken)))
 
-stepped-requires : tie.Need-stepped-requires
-stepped-requires c κs = search needs
+talking-after-requires : tie.Need-talking-after-requires
+talking-after-requires c κs = search needs
+
+register-after-requires : tie.Need-register-after-requires
+register-after-requires c κs = search needs
 
 returns-2 : tie.Need-returns-2
 returns-2 c =
     let m = c .before .before .before .args .mirror in
-    rw (c .stepped .ensures, lt-ltb (m .register) (2 ^ 24) (omega (arith, c .before .if1 .left)))
+    rw (c .register-after .ensures (m .talking), c .before .talking-after .ensures, lt-ltb (m .register) (2 ^ 24) (omega (arith, c .before .before .if1 .left)))
 
 pub step-spec : {M : Type 1} → statement M
-step-spec = tie.close (tie.spec number-requires returns stepped-requires returns-2)
+step-spec =
+    tie.close
+    (tie.spec number-requires returns talking-after-requires register-after-requires returns-2)

@@ -11,22 +11,27 @@ use Rattle.following.proofs.stepped_through.Statement.{statement}
 use Rattle.following.proofs.stepped_through.Tie as tie
 
 abbrev Inv-loop : tie.InvT-loop
-Inv-loop packets reached₀ i₀ reached i = (i ≤ length packets) × (runOf reached₀ packets ≡ runOf reached (drop i packets))
+Inv-loop register talking packets register₀ talking₀ i₀ reached talks i =
+    (i ≤ length packets)
+    × (runOf (record { register = register; talking = talking }) packets ≡ runOf (record { register = reached; talking = talks }) (drop i packets))
 
 abbrev μ-loop : tie.MeasureT-loop
-μ-loop packets reached₀ i₀ reached i = length packets - i
+μ-loop register talking packets register₀ talking₀ i₀ reached talks i = length packets - i
 
 loop-holds : tie.Need-loop-holds Inv-loop μ-loop
 loop-holds c = (omega arith, refl)
 
-mul-stepped : tie.Need-mul-stepped Inv-loop μ-loop
-mul-stepped c = search needs
+mul-bits : tie.Need-mul-bits Inv-loop μ-loop
+mul-bits c = search needs
 
-shared-slice-read-stepped : tie.Need-shared-slice-read-stepped Inv-loop μ-loop
-shared-slice-read-stepped c = search needs
+shared-slice-read-bits : tie.Need-shared-slice-read-bits Inv-loop μ-loop
+shared-slice-read-bits c = search needs
 
-stepped-requires : tie.Need-stepped-requires Inv-loop μ-loop
-stepped-requires c κs = search needs
+talking-after-requires : tie.Need-talking-after-requires Inv-loop μ-loop
+talking-after-requires c κs = search needs
+
+register-after-requires : tie.Need-register-after-requires Inv-loop μ-loop
+register-after-requires c κs = search needs
 
 add-i : tie.Need-add-i Inv-loop μ-loop
 add-i c = search needs
@@ -37,9 +42,9 @@ loop-less c = search needs
 loop-again : tie.Need-loop-again Inv-loop μ-loop
 unfolding runOf
 loop-again c =
-    let turn = c .before .before .before in
+    let turn = c .before .before .before .before in
     let packets = turn .before .before .args .packets .now in
-    (omega arith, turn .loop .inv .1 ∙ rw (add-one, drop-cons packets (turn .loop .i) 0 (omega arith), c .stepped .ensures))
+    (omega arith, turn .loop .inv .1 ∙ rw (add-one, drop-cons packets (turn .loop .i) 0 (omega arith), c .register-after .ensures (turn .loop .talking), c .before .talking-after .ensures))
 
 returns : tie.Need-returns Inv-loop μ-loop
 unfolding runOf
@@ -47,7 +52,7 @@ returns c =
     let turn = c .before in
     let packets = turn .before .before .args .packets .now in
     let done : length packets ≤ turn .loop .i = omega arith in
-    sym (turn .loop .inv .1 ∙ rw (drop-of-length-le packets done))
+    sym (rw (turn .loop .inv .1, drop-of-length-le packets done))
 
 pub stepped-through-spec : {M : Type 1} → statement M
 stepped-through-spec =
@@ -56,9 +61,10 @@ stepped-through-spec =
     Inv-loop
     μ-loop
     loop-holds
-    mul-stepped
-    shared-slice-read-stepped
-    stepped-requires
+    mul-bits
+    shared-slice-read-bits
+    talking-after-requires
+    register-after-requires
     add-i
     loop-less
     loop-again
