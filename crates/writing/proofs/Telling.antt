@@ -32,10 +32,11 @@ no-text (head ∷ []) short = by-test (isFirst (head ∷ []))
 no-text (head ∷ second ∷ words) short = absurd (omega arith)
 
 -- the text of a second word, then that of the words behind it: how long it is, and where it stands
-pub begun : (second next : ℕ) (words lent after : List ℕ) → after ≡ put lent 0 (withoutFill (cellsIn second)) → next ≡ 0 + length (withoutFill (cellsIn second))
-    → (next + length (withoutFill (cellsOf (drop 2 words))) ≡ length (textFrom second words)) × (put after next (withoutFill (cellsOf (drop 2 words))) ≡ put lent 0 (textFrom second words))
-begun second next words lent after is there =
-    (omega (arith, there, length-from second words), put-on lent after (withoutFill (cellsIn second)) _ 0 next (omega arith) is there ∙ ap (put lent 0) (sym (text-from second words)))
+pub joined : (second next behind : ℕ) (words lent after last : List ℕ) → next ≡ 0 + length (withoutFill (cellsIn second)) → after ≡ put lent 0 (withoutFill (cellsIn second))
+    → behind ≡ next + length (withoutFill (cellsOf (drop 2 words))) → last ≡ put after next (withoutFill (cellsOf (drop 2 words)))
+    → (behind ≡ length (textFrom second words)) × (last ≡ put lent 0 (textFrom second words))
+joined second next behind words lent after last there is ends holds =
+    (omega (arith, length-from second words), holds ∙ put-on lent after (withoutFill (cellsIn second)) _ 0 next (omega arith) is there ∙ ap (put lent 0) (sym (text-from second words)))
 
 module _ (words lent : List ℕ) where
   -- a text that has room is written
