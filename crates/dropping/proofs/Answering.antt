@@ -7,10 +7,9 @@ use native.Mathlib.Nat.{zero-add}
 use native.Mathlib.Omega.{arith}
 use borrow.Author.Tests.{ltb-false}
 use lib.Dec.{ltb, eqb}
-use lib.ListN.{length, drop, set, drop-of-length-le}
+use lib.ListN.{length, drop, set}
 use lib.Seq.{set-out}
 use Rattle.laws.specs.Choice.{pick}
-use Rattle.laws.specs.Lists.{firstThat}
 use Rattle.refusal.specs.declared.Refusal.the-variants.{State, Packet, Address, NoChain}
 use Rattle.refusal.specs.Told.{Told, given, ask, numberTold, numberUnless}
 use Rattle.slots.specs.declared.Chain.{Chain}
@@ -28,25 +27,22 @@ within-row true = omega arith
 within-row false = omega arith
 
 module _ (row : List Chain) (eight : length row ≡ 8) (address n : ℕ) where
-  -- where nothing was looked at, no record is changed
-  untouched : (from slot : ℕ) → from ≡ 8 → slot ≡ from + find address n (drop from row) → set row slot blank ≡ row
-  untouched from slot is ends = set-out row slot blank (omega arith)
+  -- with a slot behind the last no record is changed, whatever is told
+  unchanged : (number slot : ℕ) → length row ≤ slot → _≡_ {A = ChainDrop} (record { number = number; chains = record { slots = set row slot blank } }) (record { number = number; chains = record { slots = row } })
+  unchanged number slot behind = ap (λ (slots : List Chain). record { number = number; chains = record { slots = slots } }) (set-out row slot blank behind)
 
-  -- .. nor where the search ended behind the last slot
+  -- 13, or the chain is closed
   searched : (held : Bool) (slot : ℕ) → ltb slot (length row) ≡ held
       → _≡_ {A = ChainDrop} (record { number = numberUnless NoChain held; chains = record { slots = set row slot blank } }) (asDrop (ask (not held) NoChain (given [])) (pick (eqb (numberTold (ask (not held) NoChain (given []))) 0) (set row slot blank) row))
   searched true slot there = refl
-  searched false slot none =
-      ap (λ (slots : List Chain). record { number = 13; chains = record { slots = slots } }) (set-out row slot blank (ltb-false slot (length row) none))
+  searched false slot none = unchanged 13 slot (ltb-false slot (length row) none)
 
+  -- the tests before the search decide whether there is one
   by-tests : (right message small : Bool) (from slot : ℕ) → let refusal = numberTold (asked right message small (given [])) in let told = asked right message small (ask (not (ltb (find address n row) (length row))) NoChain (given [])) in from ≡ pick (eqb refusal 0) 0 8 → slot ≡ from + find address n (drop from row)
       → _≡_ {A = ChainDrop} (record { number = pick (eqb refusal 0) (numberUnless NoChain (ltb slot 8)) refusal; chains = record { slots = set row slot blank } }) (asDrop told (pick (eqb (numberTold told) 0) (set row (find address n row) blank) row))
-  by-tests false message small from slot begun ends =
-      ap (λ (slots : List Chain). record { number = 2; chains = record { slots = slots } }) (untouched from slot begun ends)
-  by-tests true false small from slot begun ends =
-      ap (λ (slots : List Chain). record { number = 7; chains = record { slots = slots } }) (untouched from slot begun ends)
-  by-tests true true false from slot begun ends =
-      ap (λ (slots : List Chain). record { number = 8; chains = record { slots = slots } }) (untouched from slot begun ends)
+  by-tests false message small from slot begun ends = unchanged 2 slot (omega arith)
+  by-tests true false small from slot begun ends = unchanged 7 slot (omega arith)
+  by-tests true true false from slot begun ends = unchanged 8 slot (omega arith)
   by-tests true true true from slot begun ends =
       let there : slot ≡ find address n row = (rw begun at ends) ∙ zero-add (find address n row) in
       rw (← eight, ← there) (searched (ltb slot (length row)) slot refl)

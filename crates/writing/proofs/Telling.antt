@@ -1,22 +1,20 @@
 -- What is told of a text, and what the lent bytes hold then.
 use Prim.Native.Nat.{ℕ, _+_, _≤_, _<_}
-use mathlib.Core.Bool.{Bool, true, false, not}
+use mathlib.Core.Bool.{Bool, true, false}
 use mathlib.Core.List.{List, [], _∷_}
 use mathlib.Core.Path.{_≡_, refl, sym, ap, _∙_}
 use native.Mathlib.Omega.{arith}
 use borrow.Author.Tests.{lt-ltb}
-use lib.Dec.{ltb}
 use lib.ListN.{length, drop}
 use Rattle.laws.specs.Choice.{bitOf}
 use Rattle.laws.specs.Lists.{put}
 use Rattle.laws.proofs.Writing.{put-nothing, put-on}
-use Rattle.refusal.specs.declared.Refusal.the-variants.{Room, Size, Damaged, Checksum}
-use Rattle.refusal.specs.Told.{Told, refused, given, ask, numberTold, writtenBy}
-use Rattle.refusal.proofs.Laws.{refusal-keeps, given-writes}
-use Rattle.sums.specs.Words.{undamaged}
-use Rattle.message.specs.Fragments.{isSize, isFirst, cellsIn, cellsOf, withoutFill, textIn, checked}
-use Rattle.message.specs.Answers.{headingTold, headingOf, readOf, readAfter, textOf, textAfter}
-use Rattle.message.proofs.Laws.{Good, heading-told, read-told, text-told, text-accepted}
+use Rattle.refusal.specs.declared.Refusal.the-variants.{Room}
+use Rattle.refusal.specs.Told.{refused, given}
+use Rattle.refusal.proofs.Laws.{given-writes}
+use Rattle.message.specs.Fragments.{isFirst, cellsIn, cellsOf, withoutFill, textIn}
+use Rattle.message.specs.Answers.{textOf, textAfter}
+use Rattle.message.proofs.Laws.{text-told, text-accepted}
 use Rattle.cells.specs.Pieces.{textFrom}
 use Rattle.cells.proofs.Reading.{text-from, length-from}
 

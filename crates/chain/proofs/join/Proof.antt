@@ -1,5 +1,5 @@
 -- `join` meets its contract: each return is one case of what becomes of the chain.
-use Prim.Native.Nat.{_+_, _*_, _<_, ℕ, _≤_}
+use Prim.Native.Nat.{_+_, _*_, _<_, _≤_}
 use mathlib.Core.Logic.{⊎-elim}
 use mathlib.Core.Path.{refl, ap₂, _≡_, sym, ap, _∙_}
 use mathlib.Core.List.{List, [], _∷_}
@@ -17,7 +17,7 @@ use Rattle.slots.specs.declared.Chain.{Chain}
 use Rattle.slots.specs.Chains.{blank}
 use Rattle.slots.specs.Steps.{chainBefore, isFirst, fate, fateOf, recordAfter, rowAfter}
 use Rattle.slots.proofs.Steps.{slot-most}
-use Rattle.slots.specs.Answers.{known, asStep}
+use Rattle.slots.specs.Answers.{known}
 use Rattle.fate.specs.declared.ChainFate.{ChainFate}
 use Rattle.fate.specs.Answers.{fateNumber, asFate}
 use Rattle.chain.specs.Pieces.{takenOf, turnOf, orphan}

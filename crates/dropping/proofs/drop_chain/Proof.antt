@@ -1,7 +1,6 @@
 -- `drop_chain` meets its contract: what is found from a slot on is found from the first that was looked at, and there the
 -- record is cleared.
 use Prim.Native.Nat.{_+_, _-_, _≤_}
-use mathlib.Core.List.{List}
 use mathlib.Core.Logic.{⊎-elim}
 use mathlib.Core.Path.{_≡_, refl, sym, ap, _∙_}
 use native.Mathlib.Omega.{arith}
@@ -9,7 +8,6 @@ use lib.Dec.{eqb}
 use lib.ListN.{length, drop, set, length-map}
 use lib.Seq.{set-out}
 use Rattle.laws.proofs.Searches.{found-here, found-later, found-none}
-use Rattle.slots.specs.declared.Chain.{Chain}
 use Rattle.slots.specs.Chains.{blank, isOf, find}
 use Rattle.finding.specs.declared.Judged.{Judged}
 use Rattle.dropping.proofs.Answering.{within-row, answered}
