@@ -5,14 +5,14 @@ use mathlib.Core.List.{List, [], _∷_}
 use mathlib.Core.Logic.{⊎-elim}
 use mathlib.Core.Path.{_≡_, refl, sym, ap, _∙_}
 use native.Mathlib.Omega.{arith}
-use borrow.Author.Tests.{eq-eqb, ne-eqb, lt-ltb, le-ltb, ltb-true, ltb-false}
+use borrow.Author.Tests.{eq-eqb, ne-eqb, lt-ltb, le-ltb, ltb-true, ltb-false, not-true}
 use lib.Dec.{ltb}
 use lib.ListN.{length, getD, set}
-use lib.Seq.{set-set}
+use lib.Seq.{set-set, set-out}
 use Rattle.laws.specs.Choice.{pick, bitOf}
 use Rattle.laws.specs.Lists.{put, firstThat}
 use Rattle.laws.proofs.Searches.{first-most}
-use Rattle.laws.proofs.Tests.{decided}
+use Rattle.laws.proofs.Tests.{decided, first-of, second-of}
 use Rattle.refusal.specs.declared.Refusal.the-variants.{Full}
 use Rattle.refusal.specs.Told.{Told, told, ask, numberTold}
 use Rattle.message.specs.Fragments.{textIn}
@@ -94,9 +94,16 @@ module _ (row : List Chain) (address : ℕ) (h : FragmentRead) where
       (λ taken on none. rw on)
       (λ taken ends none. rw ends)
 
-  -- 13: a later fragment of a key that has no open chain
-  pub joins-none : orphan row address h ≡ true → asStep (joinOf row address h) (joinedRow row address h) ≡ asStep (told 13 []) row
-  joins-none is = rw is
+  -- a later fragment of a key that has no open chain has no slot, and changes no record
+  orphan-stays : orphan row address h ≡ true → rowAfter row address h ≡ row
+  orphan-stays is =
+      let later = not-true (isFirst h) (first-of (not (isFirst h)) (not (known row address h)) is) in
+      let none = not-true (known row address h) (second-of (not (isFirst h)) (not (known row address h)) is) in
+      rw later (set-out row (olderSlot row address h) _ (ltb-false (olderSlot row address h) (length row) none))
+
+  -- 13: it is refused
+  pub joins-none : orphan row address h ≡ true → asStep (joinOf row address h) (joinedRow row address h) ≡ asStep (told 13 []) (rowAfter row address h)
+  joins-none is = rw (orphan-stays is, is)
 
   module _ (is : orphan row address h ≡ false) where
     -- 14, 15, 16: the chain is lost

@@ -165,7 +165,9 @@ fn write_at(words: &[u32], buffer: &mut [u8], place: usize)
     let _written = writing::write_text(words, &mut buffer[place..]);
 }
 
-// A good fragment joined: 13, 14, 15, 16 and 12 of 01's table, or its text written at its chain's end.
+// A good fragment joined: 13, 14, 15, 16 and 12 of 01's table, or its text written at its chain's end. A later fragment
+// without a chain has no slot, so that nothing is stored for it; it is refused with these records too, since to keep those
+// before them is one more copy for every fragment.
 fn join(
     slots: [Chain; SLOTS],
     buffer: &mut [u8],
@@ -180,12 +182,12 @@ fn join(
     ensures buffer { λ r. ⌜ now (buffer .exit) ≡ joinedBytes slots address (now (words .entry)) (now (buffer .entry)) ⌝ }
 {
     let turn = turn_of(slots, address, heading);
-    if (heading.fragment_number != FIRST_FRAGMENT) & !turn.known {
-        return unchanged(slots, Refusal::NoChain.number());
-    }
     let fate = fate::fate(turn.chain, heading);
     let cleared = stored(slots, turn.older, BLANK);
     let after = stored(cleared, turn.slot, fate.chain);
+    if (heading.fragment_number != FIRST_FRAGMENT) & !turn.known {
+        return unchanged(after, Refusal::NoChain.number());
+    }
     if fate.number != 0 {
         return ChainStep {
             answer: refused(fate.number, turn.known),

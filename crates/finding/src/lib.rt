@@ -10,6 +10,12 @@ use slots::LAST_MESSAGE;
 use slots::SLOTS;
 use slots::WHOLE_SUM;
 
+// Eight slots, and whether they are sound.
+pub struct Judged {
+    pub slots: [Chain; SLOTS],
+    pub is_sound: bool,
+}
+
 // Whether a slot has the open chain of a key.
 pub fn is_of(chain: Chain, address: u32, message_number: u32) -> bool
     ensures { λ r. ⌜ r ≡ isOf address «message_number» chain ⌝ }
@@ -65,28 +71,42 @@ pub fn first_free(slots: [Chain; SLOTS]) -> usize
     slot
 }
 
-// 01's table, 2: whether each slot is sound and no two open chains are of one key. Two loops in one function: one that
-// was handed the slots for each slot would copy all of them each time.
-pub fn sound(slots: [Chain; SLOTS]) -> bool
-    ensures { λ r. ⌜ r ≡ sound slots ⌝ }
+// 01's table, 2: whether each slot is sound and no two open chains are of one key, with the slots. Two loops in one function,
+// and the slots handed back: one that was handed them for each slot would copy all of them each time, and so would the caller
+// that goes on with them.
+pub fn judge(slots: [Chain; SLOTS]) -> Judged
+    ensures { λ r. ⌜ r ≡ record { slots = slots; «is_sound» = sound slots } ⌝ }
 {
+    let mut judged = Judged {
+        slots: slots,
+        is_sound: false,
+    };
     let mut i: usize = 0;
     while i < SLOTS {
-        let chain = slots[i];
+        let chain = judged.slots[i];
         if !is_sound(chain) {
-            return false;
+            return judged;
         }
         if chain.is_open != 0 {
             let mut j = i + 1;
             while j < SLOTS {
-                let other = slots[j];
+                let other = judged.slots[j];
                 if is_of(other, chain.address, chain.message_number) {
-                    return false;
+                    return judged;
                 }
                 j += 1;
             }
         }
         i += 1;
     }
-    true
+    judged.is_sound = true;
+    judged
+}
+
+// The same, where the slots are not wanted again.
+pub fn sound(slots: [Chain; SLOTS]) -> bool
+    ensures { λ r. ⌜ r ≡ sound slots ⌝ }
+{
+    let judged = judge(slots);
+    judged.is_sound
 }

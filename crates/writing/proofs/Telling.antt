@@ -1,22 +1,20 @@
 -- What is told of a text, and what the lent bytes hold then.
 use Prim.Native.Nat.{ℕ, _+_, _≤_, _<_}
-use mathlib.Core.Bool.{Bool, true, false, not}
+use mathlib.Core.Bool.{Bool, true, false}
 use mathlib.Core.List.{List, [], _∷_}
 use mathlib.Core.Path.{_≡_, refl, sym, ap, _∙_}
 use native.Mathlib.Omega.{arith}
 use borrow.Author.Tests.{lt-ltb}
-use lib.Dec.{ltb}
 use lib.ListN.{length, drop}
 use Rattle.laws.specs.Choice.{bitOf}
 use Rattle.laws.specs.Lists.{put}
 use Rattle.laws.proofs.Writing.{put-nothing, put-on}
-use Rattle.refusal.specs.declared.Refusal.the-variants.{Room, Size, Damaged, Checksum}
-use Rattle.refusal.specs.Told.{Told, refused, given, ask, numberTold, writtenBy}
-use Rattle.refusal.proofs.Laws.{refusal-keeps, given-writes}
-use Rattle.sums.specs.Words.{undamaged}
-use Rattle.message.specs.Fragments.{isSize, isFirst, cellsIn, cellsOf, withoutFill, textIn, checked}
-use Rattle.message.specs.Answers.{headingTold, headingOf, readOf, readAfter, textOf, textAfter}
-use Rattle.message.proofs.Laws.{Good, heading-told, read-told, text-told, text-accepted}
+use Rattle.refusal.specs.declared.Refusal.the-variants.{Room}
+use Rattle.refusal.specs.Told.{refused, given}
+use Rattle.refusal.proofs.Laws.{given-writes}
+use Rattle.message.specs.Fragments.{isFirst, cellsIn, cellsOf, withoutFill, textIn}
+use Rattle.message.specs.Answers.{textOf, textAfter}
+use Rattle.message.proofs.Laws.{text-told, text-accepted}
 use Rattle.cells.specs.Pieces.{textFrom}
 use Rattle.cells.proofs.Reading.{text-from, length-from}
 
@@ -32,10 +30,11 @@ no-text (head ∷ []) short = by-test (isFirst (head ∷ []))
 no-text (head ∷ second ∷ words) short = absurd (omega arith)
 
 -- the text of a second word, then that of the words behind it: how long it is, and where it stands
-pub begun : (second next : ℕ) (words lent after : List ℕ) → after ≡ put lent 0 (withoutFill (cellsIn second)) → next ≡ 0 + length (withoutFill (cellsIn second))
-    → (next + length (withoutFill (cellsOf (drop 2 words))) ≡ length (textFrom second words)) × (put after next (withoutFill (cellsOf (drop 2 words))) ≡ put lent 0 (textFrom second words))
-begun second next words lent after is there =
-    (omega (arith, there, length-from second words), put-on lent after (withoutFill (cellsIn second)) _ 0 next (omega arith) is there ∙ ap (put lent 0) (sym (text-from second words)))
+pub joined : (second next behind : ℕ) (words lent after last : List ℕ) → next ≡ 0 + length (withoutFill (cellsIn second)) → after ≡ put lent 0 (withoutFill (cellsIn second))
+    → behind ≡ next + length (withoutFill (cellsOf (drop 2 words))) → last ≡ put after next (withoutFill (cellsOf (drop 2 words)))
+    → (behind ≡ length (textFrom second words)) × (last ≡ put lent 0 (textFrom second words))
+joined second next behind words lent after last there is ends holds =
+    (omega (arith, length-from second words), holds ∙ put-on lent after (withoutFill (cellsIn second)) _ 0 next (omega arith) is there ∙ ap (put lent 0) (sym (text-from second words)))
 
 module _ (words lent : List ℕ) where
   -- a text that has room is written

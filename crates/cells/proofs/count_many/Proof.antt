@@ -1,17 +1,15 @@
 -- `count_many` meets its contract: the characters so far and those still to come are all.
-use Prim.Native.Nat.{_+_, _-_, _*_, _≤_}
-use mathlib.Core.Path.{_≡_, ap}
+use Prim.Native.Nat.{_-_}
 use native.Mathlib.Omega.{arith}
-use lib.ListN.{length, getD, drop}
-use Rattle.message.specs.Fragments.{cellsOf, withoutFill}
-use Rattle.cells.specs.Pieces.{textFrom}
-use Rattle.cells.proofs.Reading.{few, length-next, text-end, length-from}
+use lib.ListN.{length, getD}
+use Rattle.cells.proofs.Reading.{few}
+use Rattle.cells.proofs.Counting.{Counted, counted-second, counted-more, counted-last}
 use borrow.Author.Needs.{needs}
 use Rattle.cells.proofs.count_many.Statement.{statement}
 use Rattle.cells.proofs.count_many.Tie as tie
 
 abbrev Inv-loop : tie.InvT-loop
-Inv-loop second words count₀ at₀ count at = (count ≤ 3 * at) × (count + length (withoutFill (cellsOf (drop at words))) ≡ length (textFrom second words))
+Inv-loop second words count₀ at₀ count at = Counted second words count at
 
 abbrev μ-loop : tie.MeasureT-loop
 μ-loop second words count₀ at₀ count at = length words - at
@@ -23,9 +21,7 @@ cast-count : tie.Need-cast-count Inv-loop μ-loop
 cast-count c = search needs
 
 loop-holds : tie.Need-loop-holds Inv-loop μ-loop
-loop-holds c =
-    let args = c .before .before .args in
-    (omega (arith, c .count-in .ensures, few (args .second)), omega (arith, c .count-in .ensures, length-from (args .second) (args .words .now)))
+loop-holds c = counted-second _ _ _ (c .count-in .ensures)
 
 mul-count-in : tie.Need-mul-count-in Inv-loop μ-loop
 mul-count-in c = search needs
@@ -53,13 +49,10 @@ loop-less c = search needs
 loop-again : tie.Need-loop-again Inv-loop μ-loop
 loop-again c =
     let turn = c .before .before .before in
-    let words = turn .before .before .before .args .words .now in
-    (omega (arith, c .count-in2 .ensures, few (getD words (turn .loop .at) 0)), omega (arith, c .count-in2 .ensures, length-next words (turn .loop .at) (omega arith)))
+    counted-more _ _ _ _ _ (turn .loop .inv) (omega arith) (c .count-in2 .ensures)
 
 returns : tie.Need-returns Inv-loop μ-loop
-returns c =
-    let turn = c .before in
-    omega (arith, ap length (text-end (turn .before .before .before .args .words .now) (turn .loop .at) (omega arith)))
+returns c = counted-last _ _ _ _ (c .before .loop .inv) (omega arith)
 
 pub count-many-spec : {M : Type 1} → statement M
 count-many-spec =

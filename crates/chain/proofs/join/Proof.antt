@@ -1,5 +1,5 @@
 -- `join` meets its contract: each return is one case of what becomes of the chain.
-use Prim.Native.Nat.{_+_, _*_, _<_, ℕ, _≤_}
+use Prim.Native.Nat.{_+_, _*_, _<_, _≤_}
 use mathlib.Core.Logic.{⊎-elim}
 use mathlib.Core.Path.{refl, ap₂, _≡_, sym, ap, _∙_}
 use mathlib.Core.List.{List, [], _∷_}
@@ -17,7 +17,7 @@ use Rattle.slots.specs.declared.Chain.{Chain}
 use Rattle.slots.specs.Chains.{blank}
 use Rattle.slots.specs.Steps.{chainBefore, isFirst, fate, fateOf, recordAfter, rowAfter}
 use Rattle.slots.proofs.Steps.{slot-most}
-use Rattle.slots.specs.Answers.{known, asStep}
+use Rattle.slots.specs.Answers.{known}
 use Rattle.fate.specs.declared.ChainFate.{ChainFate}
 use Rattle.fate.specs.Answers.{fateNumber, asFate}
 use Rattle.chain.specs.Pieces.{takenOf, turnOf, orphan}
@@ -35,23 +35,23 @@ there : (c : tie.After-turn-of) → let start = c .before .before .before in c .
 there c = c .turn-of .ensures
 
 -- it is none of a key without a chain
-no-orphan : (c : tie.Else1) → let start = c .before .before .before .before .before .before in orphan (start .args .slots) (start .args .address) (start .args .heading) ≡ false
+no-orphan : (c : tie.Else1) → let start = c .before .before .before .before .before .before .before .before .before in orphan (start .args .slots) (start .args .address) (start .args .heading) ≡ false
 no-orphan c =
-    let found = c .before .before .before in
+    let found = c .before .before .before .before .before .before in
     let h = found .before .before .before .args .heading in
     ap (λ (t : Turn). not (isFirst h) && not (t .known)) (sym (there found)) ∙ c .if1 .left
 
 -- what becomes of the chain
-fate-is : (c : tie.After-fate) → let start = c .before .before .before .before .before .before .before in c .fate .result ≡ asFate (fateOf (start .args .slots) (start .args .address) (start .args .heading))
+fate-is : (c : tie.After-fate) → let start = c .before .before .before .before in c .fate .result ≡ asFate (fateOf (start .args .slots) (start .args .address) (start .args .heading))
 fate-is c =
-    let found = c .before .before .before .before in
+    let found = c .before in
     let h = found .before .before .before .args .heading in
     c .fate .ensures ∙ ap (λ (t : Turn). asFate (fate (t .chain) h)) (there found)
 
 -- the records then
-row-is : (c : tie.After-stored2) → let start = c .before .before .before .before .before .before .before .before .before in c .stored2 .result ≡ rowAfter (start .args .slots) (start .args .address) (start .args .heading)
+row-is : (c : tie.After-stored2) → let start = c .before .before .before .before .before .before in c .stored2 .result ≡ rowAfter (start .args .slots) (start .args .address) (start .args .heading)
 row-is c =
-    let found = c .before .before .before .before .before .before in
+    let found = c .before .before .before in
     let start = found .before .before .before in
     let row = start .args .slots in
     let fated = c .before .before in
@@ -62,7 +62,7 @@ row-is c =
 
 -- the chain is not lost
 not-lost : (c : tie.Else2) → let start = c .before .before .before .before .before .before .before .before .before .before .before in fateNumber (fateOf (start .args .slots) (start .args .address) (start .args .heading)) ≡ 0
-not-lost c = sym (ap (λ (g : ChainFate). g .number) (fate-is (c .before .before .before .before))) ∙ c .if2 .left
+not-lost c = sym (ap (λ (g : ChainFate). g .number) (fate-is (c .before .before .before .before .before .before .before))) ∙ c .if2 .left
 
 -- the slot is one of eight, and has room for the text
 bounds : (c : tie.Else3) → let found = c .before .before .before .before .before .before .before .before .before .before in
@@ -76,24 +76,6 @@ bounds c =
 turn-of-requires : tie.Need-turn-of-requires
 turn-of-requires c κs = search needs
 
-number-requires : tie.Need-number-requires
-number-requires c κs = search needs
-
-unchanged-requires : tie.Need-unchanged-requires
-unchanged-requires c κs = search needs
-
-returns : tie.Need-returns
-returns c =
-    let found = c .before .before .before .before .before in
-    let start = found .before .before .before in
-    let row = start .args .slots in
-    let h = start .args .heading in
-    let is : orphan row (start .args .address) h ≡ true = ap (λ (t : Turn). not (isFirst h) && not (t .known)) (sym (there found)) ∙ c .before .before .if1 .taken in
-    refused-joins row (start .args .address) (start .args .words .now) (start .args .buffer .now) h (start .pre .1 .1) (c .unchanged .result) (refused NoChain) row
-    (joins-none row (start .args .address) h is)
-    (c .unchanged .ensures ∙ ap (λ (n : ℕ). asStep (told n []) row) (c .before .number .ensures))
-    (λ none. omega arith)
-
 fate-requires : tie.Need-fate-requires
 fate-requires c κs = search needs
 
@@ -102,6 +84,25 @@ stored-requires c κs = search needs
 
 stored-requires-2 : tie.Need-stored-requires-2
 stored-requires-2 c κs = search needs
+
+number-requires : tie.Need-number-requires
+number-requires c κs = search needs
+
+unchanged-requires : tie.Need-unchanged-requires
+unchanged-requires c κs = search needs
+
+returns : tie.Need-returns
+returns c =
+    let step = c .before .before .before .before .before in
+    let found = step .before .before .before in
+    let start = found .before .before .before in
+    let row = start .args .slots in
+    let h = start .args .heading in
+    let is : orphan row (start .args .address) h ≡ true = ap (λ (t : Turn). not (isFirst h) && not (t .known)) (sym (there found)) ∙ c .before .before .if1 .taken in
+    refused-joins row (start .args .address) (start .args .words .now) (start .args .buffer .now) h (start .pre .1 .1) (c .unchanged .result) (refused NoChain) (rowAfter row (start .args .address) h)
+    (joins-none row (start .args .address) h is)
+    (c .unchanged .ensures ∙ rw (c .before .number .ensures, row-is step))
+    (λ none. omega arith)
 
 refused-requires : tie.Need-refused-requires
 refused-requires c κs = search needs
@@ -112,11 +113,11 @@ returns-2 c =
     let start = found .before .before .before in
     let row = start .args .slots in
     let h = start .args .heading in
-    let step = c .before .before .before in
+    let step = c .before .before .before .before .before .before in
     let fated = step .before .before in
     let f = fateOf row (start .args .address) h in
     refused-joins row (start .args .address) (start .args .words .now) (start .args .buffer .now) h (start .pre .1 .1) _ (told (fateNumber f) (bitOf (known row (start .args .address) h) ∷ [])) (rowAfter row (start .args .address) h)
-    (joins-lost row (start .args .address) h (no-orphan (fated .before)) (λ none. c .before .if2 .taken (ap (λ (g : ChainFate). g .number) (fate-is fated) ∙ none)))
+    (joins-lost row (start .args .address) h (no-orphan (c .before .before .before)) (λ none. c .before .if2 .taken (ap (λ (g : ChainFate). g .number) (fate-is fated) ∙ none)))
     (rw (c .refused .ensures, row-is step, fate-is fated, there found))
     (λ none. c .before .if2 .taken (ap (λ (g : ChainFate). g .number) (fate-is fated) ∙ none))
 
@@ -132,10 +133,9 @@ returns-3 c =
     let start = found .before .before .before in
     let row = start .args .slots in
     let h = start .args .heading in
-    let step = c .before .before .before .before .before .before in
-    let fated = step .before .before in
+    let step = c .before .before .before .before .before .before .before .before .before in
     refused-joins row (start .args .address) (start .args .words .now) (start .args .buffer .now) h (start .pre .1 .1) (c .unchanged2 .result) (refused Full) (rowAfter row (start .args .address) h)
-    (joins-full row (start .args .address) h (no-orphan (fated .before)) (not-lost (c .before .before .before .before)) (sym (ap (λ (t : Turn). t .slot) (there found)) ∙ c .before .before .if3 .taken ∙ sym (long start)))
+    (joins-full row (start .args .address) h (no-orphan (c .before .before .before .before .before .before)) (not-lost (c .before .before .before .before)) (sym (ap (λ (t : Turn). t .slot) (there found)) ∙ c .before .before .if3 .taken ∙ sym (long start)))
     (c .unchanged2 .ensures ∙ rw (c .before .number2 .ensures, row-is step))
     (λ none. omega arith)
 
@@ -182,10 +182,9 @@ returns-4 c =
     let row = start .args .slots in
     let h = start .args .heading in
     let slot = c .before .before .before .before .before .before .before in
-    let step = slot .before .before .before .before in
-    let fated = step .before .before in
+    let step = slot .before .before .before .before .before .before .before in
     taken-joins row (start .args .address) (start .args .words .now) (start .args .buffer .now) h (start .pre .1 .1) _ (takenOf (turnOf row (start .args .address) h) h) (rowAfter row (start .args .address) h)
-    (joins-taken row (start .args .address) h (no-orphan (fated .before)) (not-lost (slot .before .before)) (λ same. slot .if3 .left (ap (λ (t : Turn). t .slot) (there found) ∙ same ∙ long start)))
+    (joins-taken row (start .args .address) h (no-orphan (slot .before .before .before .before)) (not-lost (slot .before .before)) (λ same. slot .if3 .left (ap (λ (t : Turn). t .slot) (there found) ∙ same ∙ long start)))
     (rw (c .taken .ensures, row-is step, there found))
     _
     refl
@@ -196,12 +195,12 @@ join-spec =
     tie.close
     (tie.spec
     turn-of-requires
-    number-requires
-    unchanged-requires
-    returns
     fate-requires
     stored-requires
     stored-requires-2
+    number-requires
+    unchanged-requires
+    returns
     refused-requires
     returns-2
     number-requires-2

@@ -1,22 +1,20 @@
 -- `copy` meets its contract: after i turns the first i bytes of the text stand at the place.
-use Prim.Native.Nat.{_≤_, _-_}
-use mathlib.Core.Path.{_≡_, refl, _∙_}
-use native.Mathlib.Numerals.{add-one}
+use Prim.Native.Nat.{_-_}
 use native.Mathlib.Omega.{arith}
-use lib.ListN.{length, length-set}
-use lib.Seq.{paste, paste-zero, paste-suc, take-length}
+use lib.ListN.{length}
+use Rattle.opening.proofs.Writes.{Copied, copied-none, copied-more, copied-all}
 use borrow.Author.Needs.{needs}
 use Rattle.closing.proofs.copy.Statement.{statement}
 use Rattle.closing.proofs.copy.Tie as tie
 
 abbrev Inv-loop : tie.InvT-loop
-Inv-loop text out₀ place i₀ out i = (i ≤ length text) × (length out ≡ length out₀) × (out ≡ paste out₀ place text i)
+Inv-loop text out₀ place i₀ out i = Copied out₀ text place out i
 
 abbrev μ-loop : tie.MeasureT-loop
 μ-loop text out₀ place i₀ out i = length text - i
 
 loop-holds : tie.Need-loop-holds Inv-loop μ-loop
-loop-holds c = (omega arith, refl, paste-zero (c .args .out .now) (c .args .place) (c .args .text .now))
+loop-holds c = copied-none _ _ _
 
 shared-slice-read-out : tie.Need-shared-slice-read-out Inv-loop μ-loop
 shared-slice-read-out c = search needs
@@ -34,9 +32,7 @@ loop-less : tie.Need-loop-less Inv-loop μ-loop
 loop-less c = search needs
 
 loop-again : tie.Need-loop-again Inv-loop μ-loop
-loop-again c =
-    let a = c .before .before in
-    (search needs, simp length-set (a .loop .inv .1), rw (a .loop .inv .2, add-one) (paste-suc (a .before .args .out .now) (a .before .args .place) (a .before .args .text .now) (a .loop .i) 0 (omega arith) (omega arith)))
+loop-again c = copied-more _ _ _ _ _ (c .before .before .loop .inv) (omega arith) (c .before .before .before .pre)
 
 add-result : tie.Need-add-result Inv-loop μ-loop
 add-result c = search needs
@@ -45,9 +41,7 @@ same-length : tie.Need-same-length Inv-loop μ-loop
 same-length c = search needs
 
 returns : tie.Need-returns Inv-loop μ-loop
-returns c =
-    let all : c .before .loop .i ≡ length (c .before .before .args .text .now) = omega arith in
-    record { ends = omega arith; holds = c .before .loop .inv .2 ∙ rw (all, take-length) }
+returns c = copied-all _ _ _ _ _ (c .before .loop .inv) (omega arith)
 
 pub copy-spec : {M : Type 1} → statement M
 copy-spec =

@@ -5,7 +5,7 @@ use native.Mathlib.Omega.{arith}
 use lib.ListN.{length, drop}
 use Rattle.message.specs.Fragments.{cellsOf, withoutFill}
 use Rattle.cells.proofs.Reading.{length-from}
-use Rattle.writing.proofs.Telling.{begun}
+use Rattle.writing.proofs.Telling.{joined}
 use borrow.Author.Needs.{needs}
 use Rattle.writing.proofs.write_words.Statement.{statement}
 use Rattle.writing.proofs.write_words.Tie as tie
@@ -37,10 +37,7 @@ returns : tie.Need-returns
 returns c =
     let last = c .before .before in
     let wrote = last .before .before .before .before .before .before in
-    let args = wrote .before .before .before .before .args in
-    let next = wrote .write-word .ensures in
-    let all = begun (args .second) (wrote .write-word .result) (args .words .now) (args .text .now) (wrote .write-word .last .1 .0) (next .1) (next .0) in
-    (last .write-full .ensures .0 ∙ all .0, last .write-full .ensures .1 ∙ all .1)
+    joined _ _ _ (wrote .before .before .before .before .args .words .now) _ _ _ (wrote .write-word .ensures .0) (wrote .write-word .ensures .1) (last .write-full .ensures .0) (last .write-full .ensures .1)
 
 write-rest-requires : tie.Need-write-rest-requires
 write-rest-requires c κs = room (c .before .before)
@@ -52,10 +49,7 @@ returns-2 : tie.Need-returns-2
 returns-2 c =
     let last = c .before .before in
     let wrote = last .before .before .before .before .before .before in
-    let args = wrote .before .before .before .before .args in
-    let next = wrote .write-word .ensures in
-    let all = begun (args .second) (wrote .write-word .result) (args .words .now) (args .text .now) (wrote .write-word .last .1 .0) (next .1) (next .0) in
-    (last .write-rest .ensures .0 ∙ all .0, last .write-rest .ensures .1 ∙ all .1)
+    joined _ _ _ (wrote .before .before .before .before .args .words .now) _ _ _ (wrote .write-word .ensures .0) (wrote .write-word .ensures .1) (last .write-rest .ensures .0) (last .write-rest .ensures .1)
 
 pub write-words-spec : {M : Type 1} → statement M
 write-words-spec =
