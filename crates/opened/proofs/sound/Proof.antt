@@ -1,168 +1,199 @@
--- `sound` meets its contract: what is sound from a place on is sound from the start, and the key of a call is looked for
--- behind it from place to place.
-use Prim.Native.Nat.{_+_, _-_, _≤_}
-use mathlib.Core.Path.{_≡_, refl, sym, ap, _∙_}
+-- `sound` meets its contract: from the last call to the first, those behind are sound and their keys are marked.
+use Prim.Native.Nat.{ℕ, _+_, _-_, _≤_, _<_}
+use mathlib.Core.Bool.{true, false}
+use mathlib.Core.List.{List, _∷_}
+use mathlib.Core.Logic.{⊎-elim}
+use mathlib.Core.Path.{_≡_, refl, sym, ap, _∙_, subst}
 use native.Mathlib.Omega.{arith}
 use borrow.Author.Tests.{not-true, not-false}
-use lib.ListN.{length, getD, take, drop}
+use lib.ListN.{length, getD, take, drop, drop-of-length-le, length-set}
 use lib.Seq.{getD-take}
-use Rattle.laws.proofs.Searches.{found-here, found-later, found-none}
-use Rattle.calls.specs.Calls.{blank, isOf, find, sound}
-use Rattle.calls.proofs.Records.{sound-end}
-use Rattle.opened.proofs.Asking.{open-again, unsound, twice, alone}
+use Rattle.laws.specs.Choice.{bitOf}
+use Rattle.laws.proofs.Bits.{set-bit}
+use Rattle.laws.proofs.Tests.{decided}
+use Rattle.calls.specs.declared.Call.{Call}
+use Rattle.calls.specs.Calls.{blank, inLimits, holds, sound}
+use Rattle.calls.proofs.Records.{Limits, in-limits, sound-end}
+use Rattle.opened.proofs.Asking.{open-again, call-then, unsound, twice, alone, spoiled}
+use Rattle.opened.proofs.Marks.{withMark, keyOf, Marks, none-marked, one-marked}
 use borrow.Author.Needs.{needs}
 use Rattle.opened.proofs.sound.Statement.{statement}
 use Rattle.opened.proofs.sound.Tie as tie
 
-abbrev Inv-loop2 : tie.InvT-loop2
-Inv-loop2 row count i call j₀ j =
-    (i + 1 ≤ j) × (j ≤ count)
-    × (i + 1 + find (call .phase) (call .vector) (drop (i + 1) (take count row)) ≡ j + find (call .phase) (call .vector) (drop j (take count row)))
-
-abbrev μ-loop2 : tie.MeasureT-loop2
-μ-loop2 row count i call j₀ j = count - j
-
 abbrev Inv-loop : tie.InvT-loop
-Inv-loop row count i₀ i = (i ≤ count) × (sound (take count row) ≡ sound (drop i (take count row)))
+Inv-loop row i₀ marks₀ i marks =
+    (i ≤ i₀) × (i₀ ≤ 8) × (length marks ≡ 6) × (sound (drop i (take i₀ row)) ≡ true) × Marks marks (drop i (take i₀ row))
 
 abbrev μ-loop : tie.MeasureT-loop
-μ-loop row count i₀ i = count - i
+μ-loop row i₀ marks₀ i marks = i
 
-count-requires : tie.Need-count-requires Inv-loop2 μ-loop2 Inv-loop μ-loop
+count-requires : tie.Need-count-requires Inv-loop μ-loop
 count-requires c κs = search needs
 
 -- the open calls, as they were found
-opened : (c : tie.After-count Inv-loop2 μ-loop2 Inv-loop μ-loop) → take (c .count .result) (c .before .before .args .calls .calls) ≡ take (c .before .before .args .calls .size) (c .before .before .args .calls .calls)
+opened : (c : tie.After-count Inv-loop μ-loop) → take (c .count .result) (c .before .before .args .calls .calls) ≡ take (c .before .before .args .calls .size) (c .before .before .args .calls .calls)
 opened c =
     let s = c .before .before .args .calls in
     open-again (s .calls) (s .size) (c .count .result) (c .count .ensures .0)
 
 -- how many calls are open
-long : (c : tie.After-count Inv-loop2 μ-loop2 Inv-loop μ-loop) → length (take (c .count .result) (c .before .before .args .calls .calls)) ≡ c .count .result
+long : (c : tie.After-count Inv-loop μ-loop) → length (take (c .count .result) (c .before .before .args .calls .calls)) ≡ c .count .result
 long c = ap length (opened c) ∙ sym (c .count .ensures .0)
 
-loop-holds : tie.Need-loop-holds Inv-loop2 μ-loop2 Inv-loop μ-loop
-loop-holds c = (omega arith, refl)
+loop-holds : tie.Need-loop-holds Inv-loop μ-loop
+loop-holds c =
+    let row = take (c .count .result) (c .before .before .args .calls .calls) in
+    let done : length row ≤ c .count .result = omega (arith, long c) in
+    (omega arith, c .count .ensures .1, refl, sound-end row (c .count .result) done, rw (drop-of-length-le row done) (none-marked 6))
 
-mul-call : tie.Need-mul-call Inv-loop2 μ-loop2 Inv-loop μ-loop
+sub-i : tie.Need-sub-i Inv-loop μ-loop
+sub-i c = search needs
+
+mul-call : tie.Need-mul-call Inv-loop μ-loop
 mul-call c = search needs
 
-array-copy-out-call : tie.Need-array-copy-out-call Inv-loop2 μ-loop2 Inv-loop μ-loop
+array-copy-out-call : tie.Need-array-copy-out-call Inv-loop μ-loop
 array-copy-out-call c = search needs
 
-in-limits-requires : tie.Need-in-limits-requires Inv-loop2 μ-loop2 Inv-loop μ-loop
+in-limits-requires : tie.Need-in-limits-requires Inv-loop μ-loop
 in-limits-requires c κs = search needs
 
--- a call that is not within its limits
-returns : tie.Need-returns Inv-loop2 μ-loop2 Inv-loop μ-loop
+-- the open calls
+abbrev row : tie.After-count Inv-loop μ-loop → List Call
+row c = take (c .count .result) (c .before .before .args .calls .calls)
+
+-- the call of a turn is one of them
+there : (c : tie.In-loop Inv-loop μ-loop) → getD (row (c .before .before)) (c .before .loop .i - 1) blank ≡ getD (c .before .before .before .before .args .calls .calls) (c .before .loop .i - 1) blank
+there c =
+    getD-take (c .before .before .count .result) (c .before .before .before .before .args .calls .calls) (c .before .loop .i - 1) blank (omega (arith, c .before .loop .inv .0, c .loop-test .taken))
+
+within : (c : tie.In-loop Inv-loop μ-loop) → c .before .loop .i - 1 < length (row (c .before .before))
+within c = omega (arith, long (c .before .before), c .before .loop .inv .0, c .loop-test .taken)
+
+-- .. and those behind it are where the turn began
+behind : (c : tie.In-loop Inv-loop μ-loop) → c .before .loop .i - 1 + 1 ≡ c .before .loop .i
+behind c = omega (arith, c .loop-test .taken)
+
+-- it is within its limits
+sane : (c : tie.Else1 Inv-loop μ-loop) → inLimits (getD (c .before .before .before .before .before .before .before .args .calls .calls) (c .before .before .before .before .loop .i - 1) blank) ≡ true
+sane c = sym (c .before .in-limits .ensures) ∙ not-false (c .before .in-limits .result) (c .if1 .left)
+
+limited : (c : tie.Else1 Inv-loop μ-loop) → Limits (getD (c .before .before .before .before .before .before .before .args .calls .calls) (c .before .before .before .before .loop .i - 1) blank)
+limited c = in-limits (getD (c .before .before .before .before .before .before .before .args .calls .calls) (c .before .before .before .before .loop .i - 1) blank) .0 (sane c)
+
+returns : tie.Need-returns Inv-loop μ-loop
 returns c =
     let turn = c .before .before .before in
-    let start = turn .before .before in
-    let calls = start .before .before .args .calls .calls in
+    let count = turn .before .before in
     let i = turn .before .loop .i in
-    let there = getD-take (start .count .result) calls i blank (omega arith) in
-    sym (ap sound (sym (opened start)) ∙ turn .before .loop .inv .1 ∙ unsound (take (start .count .result) calls) i (getD calls i blank) there (omega (arith, long start)) (sym (c .before .in-limits .ensures) ∙ not-true (c .before .in-limits .result) (c .if1 .taken)))
+    let call = getD (c .before .before .before .before .before .before .before .args .calls .calls) (i - 1) blank in
+    let bad = sym (c .before .in-limits .ensures) ∙ not-true (c .before .in-limits .result) (c .if1 .taken) in
+    sym (ap sound (sym (opened count)) ∙ spoiled (row count) (i - 1) (unsound (row count) (i - 1) call (there turn) (within turn) bad))
 
-add-j : tie.Need-add-j Inv-loop2 μ-loop2 Inv-loop μ-loop
-add-j c = search needs
+add-key : tie.Need-add-key Inv-loop μ-loop
+add-key c = search needs
 
-loop2-holds : tie.Need-loop2-holds Inv-loop2 μ-loop2 Inv-loop μ-loop
-loop2-holds c = (omega arith, omega arith, refl)
+mul-key : tie.Need-mul-key Inv-loop μ-loop
+mul-key c = omega (arith, limited (c .before) .of-phase)
 
-mul-other : tie.Need-mul-other Inv-loop2 μ-loop2 Inv-loop μ-loop
-mul-other c = search needs
+add-key-2 : tie.Need-add-key-2 Inv-loop μ-loop
+add-key-2 c = omega (arith, limited (c .before .before) .of-phase, limited (c .before .before) .of-vector)
 
-array-copy-out-other : tie.Need-array-copy-out-other Inv-loop2 μ-loop2 Inv-loop μ-loop
-array-copy-out-other c = search needs
+cast-at : tie.Need-cast-at Inv-loop μ-loop
+cast-at c = omega (arith, limited (c .before .before) .of-phase, limited (c .before .before) .of-vector)
 
-is-of-requires : tie.Need-is-of-requires Inv-loop2 μ-loop2 Inv-loop μ-loop
-is-of-requires c κs = search needs
+mul-mark : tie.Need-mul-mark Inv-loop μ-loop
+mul-mark c = omega (arith, limited (c .before .before) .of-phase, limited (c .before .before) .of-vector)
 
--- a call behind it is of its key
-returns-2 : tie.Need-returns-2 Inv-loop2 μ-loop2 Inv-loop μ-loop
+array-read-mark : tie.Need-array-read-mark Inv-loop μ-loop
+array-read-mark c = omega (arith, limited (c .before .before) .of-phase, limited (c .before .before) .of-vector)
+
+cast-if2 : tie.Need-cast-if2 Inv-loop μ-loop
+cast-if2 c = omega arith
+
+shr-if2 : tie.Need-shr-if2 Inv-loop μ-loop
+shr-if2 c = omega arith
+
+returns-2 : tie.Need-returns-2 Inv-loop μ-loop
 returns-2 c =
-    let at = c .before .before .before .before in
-    let turn = at .before .before .before .before in
-    let start = turn .before .before in
-    let calls = start .before .before .args .calls .calls in
-    let row = take (start .count .result) calls in
+    let turn = c .before .before .before .before .before .before in
+    let count = turn .before .before in
     let i = turn .before .loop .i in
-    let key = getD calls i blank in
-    let test = isOf (key .phase) (key .vector) in
-    let there = getD-take (start .count .result) calls i blank (omega arith) in
-    let other = getD-take (start .count .result) calls (at .loop2 .j) blank (omega arith) in
-    let found = at .loop2 .inv .2 ∙ found-here test row blank (at .loop2 .j) (omega (arith, long start)) (ap test other ∙ sym (c .before .is-of .ensures) ∙ c .if2 .taken) in
-    sym (ap sound (sym (opened start)) ∙ turn .before .loop .inv .1 ∙ twice row i key there (omega (arith, long start)) (omega (arith, long start, found)))
+    let call = getD (c .before .before .before .before .before .before .before .before .before .before .args .calls .calls) (i - 1) blank in
+    let limits = limited (c .before .before .before) in
+    let marked = turn .before .loop .inv .4 (call .phase) (call .vector) (limits .of-phase) (limits .of-vector) in
+    let met = set-bit (holds (call .phase) (call .vector) (drop i (row count))) (sym marked ∙ c .if2 .taken) in
+    sym (ap sound (sym (opened count)) ∙ spoiled (row count) (i - 1) (twice (row count) (i - 1) call (there turn) (within turn) (rw (behind turn) met)))
 
-add-j-2 : tie.Need-add-j-2 Inv-loop2 μ-loop2 Inv-loop μ-loop
-add-j-2 c = search needs
+cast-marks : tie.Need-cast-marks Inv-loop μ-loop
+cast-marks c = omega arith
 
-loop2-less : tie.Need-loop2-less Inv-loop2 μ-loop2 Inv-loop μ-loop
-loop2-less c = search needs
+shl-marks : tie.Need-shl-marks Inv-loop μ-loop
+shl-marks c = omega arith
 
--- .. is not
-loop2-again : tie.Need-loop2-again Inv-loop2 μ-loop2 Inv-loop μ-loop
-loop2-again c =
-    let at = c .before .before .before .before in
-    let turn = at .before .before .before .before in
-    let start = turn .before .before in
-    let calls = start .before .before .args .calls .calls in
-    let key = getD calls (turn .before .loop .i) blank in
-    let test = isOf (key .phase) (key .vector) in
-    let other = getD-take (start .count .result) calls (at .loop2 .j) blank (omega arith) in
-    (omega arith, omega arith, at .loop2 .inv .2 ∙ found-later test (take (start .count .result) calls) blank (at .loop2 .j) (omega (arith, long start)) (ap test other ∙ sym (c .before .is-of .ensures) ∙ c .if2 .left))
+mul-marks : tie.Need-mul-marks Inv-loop μ-loop
+mul-marks c = omega (arith, limited (c .before .before .before) .of-phase, limited (c .before .before .before) .of-vector)
 
-add-i : tie.Need-add-i Inv-loop2 μ-loop2 Inv-loop μ-loop
-add-i c = search needs
+array-write-marks : tie.Need-array-write-marks Inv-loop μ-loop
+array-write-marks c = omega (arith, limited (c .before .before .before) .of-phase, limited (c .before .before .before) .of-vector)
 
-loop-less : tie.Need-loop-less Inv-loop2 μ-loop2 Inv-loop μ-loop
+loop-less : tie.Need-loop-less Inv-loop μ-loop
 loop-less c = search needs
 
--- no call behind it is
-loop-again : tie.Need-loop-again Inv-loop2 μ-loop2 Inv-loop μ-loop
+loop-again : tie.Need-loop-again Inv-loop μ-loop
 loop-again c =
-    let at = c .before in
-    let asked = at .before .before in
-    let turn = asked .before .before in
-    let start = turn .before .before in
-    let calls = start .before .before .args .calls .calls in
-    let row = take (start .count .result) calls in
+    let turn = c .before .before .before .before .before .before in
+    let count = turn .before .before in
     let i = turn .before .loop .i in
-    let key = getD calls i blank in
-    let there = getD-take (start .count .result) calls i blank (omega arith) in
-    let good = sym (asked .in-limits .ensures) ∙ not-false (asked .in-limits .result) (at .before .if1 .left) in
-    let none = at .loop2 .inv .2 ∙ found-none (isOf (key .phase) (key .vector)) row blank (at .loop2 .j) (omega (arith, long start)) in
-    (omega arith, turn .before .loop .inv .1 ∙ alone row i key there (omega (arith, long start)) good (none ∙ omega (arith, long start)))
+    let marks = turn .before .loop .marks in
+    let so-far = turn .before .loop .inv in
+    let call = getD (c .before .before .before .before .before .before .before .before .before .before .args .calls .calls) (i - 1) blank in
+    let limits = limited (c .before .before .before) in
+    let rest = drop i (row count) in
+    let marked = so-far .4 (call .phase) (call .vector) (limits .of-phase) (limits .of-vector) in
+    let none : holds (call .phase) (call .vector) rest ≡ false =
+    ⊎-elim (λ met. absurd (c .if2 .left (marked ∙ ap bitOf met))) (λ unmet. unmet) (decided (holds (call .phase) (call .vector) rest))
+    in
+    let first : drop (i - 1) (row count) ≡ call ∷ rest = call-then (row count) (i - 1) call (there turn) (within turn) ∙ rw (behind turn) in (
+      omega (arith, so-far .0),
+      so-far .1,
+      length-set marks _ _ ∙ so-far .2,
+      alone (row count) (i - 1) call (there turn) (within turn) (sane (c .before .before .before)) (rw (behind turn) none) ∙ rw (behind turn) (so-far .3),
+      subst (Marks (withMark marks (keyOf (call .phase) (call .vector)))) (sym first) (one-marked marks call rest (so-far .2) (limits .of-phase) (limits .of-vector) (so-far .4)),
+    )
 
-returns-3 : tie.Need-returns-3 Inv-loop2 μ-loop2 Inv-loop μ-loop
+returns-3 : tie.Need-returns-3 Inv-loop μ-loop
 returns-3 c =
-    let start = c .before .before in
-    sym (ap sound (sym (opened start)) ∙ c .before .loop .inv .1 ∙ sound-end (take (start .count .result) (start .before .before .args .calls .calls)) (c .before .loop .i) (omega (arith, long start)))
+    let count = c .before .before in
+    let none : c .before .loop .i ≡ 0 = omega (arith, c .loop-test .left) in
+    sym (ap sound (sym (opened count)) ∙ ap (λ (k : ℕ). sound (drop k (row count))) (sym none) ∙ c .before .loop .inv .3)
 
 pub sound-spec : {M : Type 1} → statement M
 sound-spec =
     tie.close
     (tie.spec
-    Inv-loop2
-    μ-loop2
     Inv-loop
     μ-loop
     count-requires
     loop-holds
+    sub-i
     mul-call
     array-copy-out-call
     in-limits-requires
     returns
-    add-j
-    loop2-holds
-    mul-other
-    array-copy-out-other
-    is-of-requires
+    add-key
+    mul-key
+    add-key-2
+    cast-at
+    mul-mark
+    array-read-mark
+    cast-if2
+    shr-if2
     returns-2
-    add-j-2
-    loop2-less
-    loop2-again
-    add-i
+    cast-marks
+    shl-marks
+    mul-marks
+    array-write-marks
     loop-less
     loop-again
     returns-3)
