@@ -22,25 +22,28 @@ pub fn fresh() -> Calls
     }
 }
 
-// The open calls that are incomplete, in the order opened. They are stored where they are found: a function that was handed
-// the list for each call would copy it each time.
+// The open calls that are incomplete, in the order opened. They are stored where they are found, in a row that becomes the
+// answer's: a function that was handed the list for each call would copy it each time.
 fn incomplete(calls: Calls, memory: &[u32]) -> Calls
     ensures { λ r. ⌜ r ≡ listed mostCalls (incompleteIn (opens calls) (now (memory .entry))) ⌝ }
 {
     let row = calls.calls;
     let count = opened::count(calls);
-    let mut found = fresh();
+    let mut found = [BLANK; MOST_CALLS];
+    let mut size: usize = 0;
     let mut i: usize = 0;
     while i < count {
         let call = row[i];
         if !area::is_complete(call, memory) {
-            let size = found.size;
-            found.calls[size] = call;
-            found.size = size + 1;
+            found[size] = call;
+            size += 1;
         }
         i += 1;
     }
-    found
+    Calls {
+        size: size,
+        calls: found,
+    }
 }
 
 // The end of a frame: the calls that were incomplete, and the records with no call open.

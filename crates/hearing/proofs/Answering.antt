@@ -1,5 +1,5 @@
 -- The answers, the records and the lent memory in each case of the code.
-use Prim.Native.Nat.{ℕ, _^_, _≤_, _<_}
+use Prim.Native.Nat.{ℕ, _+_, _^_, _≤_, _<_}
 use mathlib.Core.Bool.{Bool, true, false}
 use mathlib.Core.List.{List, [], _∷_}
 use mathlib.Core.Logic.{⊎-elim}
@@ -8,11 +8,11 @@ use native.Mathlib.Omega.{arith}
 use lib.Dec.{eqb}
 use lib.ListN.{length, getD, replicate}
 use lib.Seq.{getD-take}
-use Rattle.laws.specs.Choice.{pick}
+use Rattle.laws.specs.Choice.{pick, bitOf}
 use Rattle.laws.specs.Lists.{put}
 use Rattle.laws.proofs.Tests.{decided}
 use Rattle.refusal.specs.declared.Refusal.the-variants as refusals
-use Rattle.refusal.specs.Told.{Told, given, refused, ask, kept}
+use Rattle.refusal.specs.Told.{Told, told, given, refused, ask, kept}
 use Rattle.heard.specs.declared.Message.{Message}
 use Rattle.vector.specs.declared.Vector.{Vector}
 use Rattle.vector.specs.declared.VectorRead.{VectorRead}
@@ -26,11 +26,19 @@ use Rattle.calls.specs.Steps.{bringsWords, vectorFits, changed, removed}
 use Rattle.calls.specs.Answers.{messageIn, isShort, vectorTold, wordTold, vectorPlace, isForVector, vectorCall, hearOf, heardIn, memoryAfter, asHearing}
 use Rattle.calls.proofs.Rows.{opens-most}
 use Rattle.calls.proofs.Laws.{vector-fits, no-words}
-use Rattle.hearing.specs.Pieces.{callAt, givenAt, vectorCalls, vectorMemory, wordMemory}
+use Rattle.hearing.specs.declared.Turn.{Turn}
+use Rattle.hearing.specs.Pieces.{callAt, givenAt, vectorCalls, vectorMemory, wordMemory, refusing, changes, hearingOf}
 
 -- what a packet does: its answer with the records, and the memory
 abbrev pub Does : CallHearing → List ℕ → Told → Calls → List ℕ → Type 0
 Does hearing memory t s after = (hearing ≡ asHearing t s) × (memory ≡ after)
+
+-- ---- a turn in numbers
+
+module _ (s : Calls) (t : Turn) (hearing : CallHearing) where
+  -- a refusal that closes no call leaves the records, and names no open call
+  pub refusal-turn : (n : ℕ) → t ≡ refusing n 0 → eqb n 9 ≡ false → asHearing (told n []) s ≡ hearing → (hearingOf s t ≡ hearing) × (t .place + bitOf (changes t) ≤ length (opens s))
+  refusal-turn n is other same = (ap (hearingOf s) is ∙ rw other same, rw (is, other) (omega arith))
 
 -- ---- a message word
 

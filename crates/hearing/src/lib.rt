@@ -4,17 +4,16 @@
 ghost use mathlib.Core.Path.{_≡_};
 ghost use Prim.Native.Nat.{_+_, _^_, _≤_, _<_};
 ghost use mathlib.Core.Bool.{true};
-ghost use mathlib.Core.List.{[]};
 ghost use lib.ListN.{length, getD, replicate};
-ghost use Rattle.laws.specs.Choice.{pick};
+ghost use Rattle.laws.specs.Choice.{pick, bitOf};
 ghost use Rattle.laws.specs.Lists.{put};
-ghost use Rattle.refusal.specs.Told.{told};
 ghost use Rattle.vector.specs.Reads.{isVector, vectorOf};
-ghost use Rattle.calls.specs.Calls.{mostCalls, blank, opens, holds};
-ghost use Rattle.calls.specs.Words.{lacking, isHeld, isLacked};
+ghost use Rattle.calls.specs.Calls.{mostCalls, blank, opens};
+ghost use Rattle.calls.specs.Words.{lacking};
 ghost use Rattle.calls.specs.Steps.{bringsWords, vectorFits, withVector, nextArea, changed, removed};
 ghost use Rattle.calls.specs.Answers.{messageIn, vectorTold, wordTold, hearOf, heardIn, memoryAfter, asHearing};
-ghost use Rattle.hearing.specs.Pieces.{vectorCalls, vectorMemory, wordMemory};
+ghost use Rattle.hearing.specs.Pieces.{vectorCalls, vectorMemory, wordMemory, refusing, changes, recordsAfter, hearingOf};
+use calls::BLANK;
 use calls::Call;
 use calls::CallHeard;
 use calls::CallHearing;
@@ -27,11 +26,19 @@ use packet::Packet;
 use refusal::Refusal;
 use vector::Vector;
 
-// A packet that is refused: the records stay as they are given.
-fn unheard(calls: Calls, number: u32) -> CallHearing
-    ensures { λ r. ⌜ r ≡ asHearing (told number []) calls ⌝ }
+// What a packet makes of the calls, in numbers, so that one function alone makes the records anew: the answer; and where
+// the answer is 9 the place of the call that is closed, where it is a vector's the place of its call and the record then.
+struct Turn {
+    answer: CallHeard,
+    place: usize,
+    call: Call,
+}
+
+// A packet that is refused, with the place of the call that it closes, if it closes one.
+fn unheard(number: u32, place: usize) -> Turn
+    ensures { λ r. ⌜ r ≡ refusing number place ⌝ }
 {
-    CallHearing {
+    Turn {
         answer: CallHeard {
             number: number,
             is_vector: 0,
@@ -40,7 +47,8 @@ fn unheard(calls: Calls, number: u32) -> CallHearing
             check: 0,
             completed: 0,
         },
-        calls: calls,
+        place: place,
+        call: BLANK,
     }
 }
 
@@ -152,28 +160,29 @@ fn completed_by(kind: u32, place: usize) -> u32
 }
 
 // A vector for the call at a place: 14, 9 and 1 of 01's table, or the call with its span and none of its words.
-fn take_vector(calls: Calls, memory: &mut [u32], packet: Packet, place: usize) -> CallHearing
+fn take_vector(calls: Calls, memory: &mut [u32], packet: Packet, place: usize) -> Turn
     requires { ⌜ isVector (packet .bits) ≡ true ⌝ }
     requires { ⌜ place < length (opens calls) ⌝ }
-    ensures told { λ r. ⌜ r ≡ asHearing (vectorTold calls (now (memory .entry)) place (getD (opens calls) place blank) (vectorOf (packet .bits))) (vectorCalls calls (now (memory .entry)) place (vectorOf (packet .bits))) ⌝ }
+    ensures told { λ r. ⌜ hearingOf calls r ≡ asHearing (vectorTold calls (now (memory .entry)) place (getD (opens calls) place blank) (vectorOf (packet .bits))) (vectorCalls calls (now (memory .entry)) place (vectorOf (packet .bits))) ⌝ }
+    ensures placed { λ r. ⌜ r .place + bitOf (changes r) ≤ length (opens calls) ⌝ }
     ensures memory { λ r. ⌜ now (memory .exit) ≡ vectorMemory calls (now (memory .entry)) place (vectorOf (packet .bits)) ⌝ }
 {
     let row = calls.calls;
     let call = row[place];
     if call.has_vector != 0 {
-        return unheard(calls, Refusal::OutOfTurn.number());
+        return unheard(Refusal::OutOfTurn.number(), 0);
     }
     let read = vector::read_vector(packet);
     let vector = read.fields;
     if !vector_fits(call, vector) {
-        return unheard(removed(calls, place), Refusal::Size.number());
+        return unheard(Refusal::Size.number(), place);
     }
     if memory.len() < MEMORY {
-        return unheard(calls, Refusal::Room.number());
+        return unheard(Refusal::Room.number(), 0);
     }
     let given = with_vector(call, vector, next_area(calls));
     clear(memory, area::place(given), given.words as usize);
-    CallHearing {
+    Turn {
         answer: CallHeard {
             number: 0,
             is_vector: 1,
@@ -182,34 +191,28 @@ fn take_vector(calls: Calls, memory: &mut [u32], packet: Packet, place: usize) -
             check: given.check,
             completed: completed_by(given.kind, place),
         },
-        calls: changed(calls, place, given),
+        place: place,
+        call: given,
     }
 }
 
-// A message word of which is known whether it is held and lacked: 17, 14 and 1 of 01's table, or the word given to the
-// calls that lack it.
-fn take_word(
-    calls: Calls,
-    memory: &mut [u32],
-    message: Message,
-    held: bool,
-    lacked: bool,
-) -> CallHearing
-    requires { ⌜ held ≡ isHeld (opens calls) message ⌝ }
-    requires { ⌜ lacked ≡ isLacked (opens calls) message (now memory) ⌝ }
-    ensures told { λ r. ⌜ r ≡ asHearing (wordTold calls (now (memory .entry)) message) calls ⌝ }
+// A message word: 17, 14 and 1 of 01's table, or the word given to the calls that lack it.
+fn take_word(calls: Calls, memory: &mut [u32], message: Message) -> Turn
+    ensures told { λ r. ⌜ hearingOf calls r ≡ asHearing (wordTold calls (now (memory .entry)) message) calls ⌝ }
+    ensures placed { λ r. ⌜ r .place + bitOf (changes r) ≤ length (opens calls) ⌝ }
     ensures memory { λ r. ⌜ now (memory .exit) ≡ wordMemory calls (now (memory .entry)) message ⌝ }
 {
-    if !held {
-        return unheard(calls, Refusal::NoCall.number());
+    let asked = awaited::ask(calls, message, memory);
+    if !asked.held {
+        return unheard(Refusal::NoCall.number(), 0);
     }
-    if !lacked {
-        return unheard(calls, Refusal::OutOfTurn.number());
+    if !asked.lacked {
+        return unheard(Refusal::OutOfTurn.number(), 0);
     }
     if memory.len() < MEMORY {
-        return unheard(calls, Refusal::Room.number());
+        return unheard(Refusal::Room.number(), 0);
     }
-    CallHearing {
+    Turn {
         answer: CallHeard {
             number: 0,
             is_vector: 0,
@@ -218,7 +221,8 @@ fn take_word(
             check: 0,
             completed: awaited::give(calls, message, memory),
         },
-        calls: calls,
+        place: 0,
+        call: BLANK,
     }
 }
 
@@ -234,36 +238,56 @@ fn message_in(bits: u32) -> Message
     }
 }
 
-// Whether a packet is the vector of an open call.
-fn is_for_vector(calls: Calls, message: Message) -> bool
-    ensures { λ r. ⌜ r ≡ holds (message .phase) (message .word) (opens calls) ⌝ }
+// What a vector or message packet makes of the calls, and the words in the lent memory. Vector places are looked at
+// before spans.
+fn turn_of(calls: Calls, memory: &mut [u32], packet: Packet) -> Turn
+    ensures told { λ r. ⌜ hearingOf calls r ≡ asHearing (hearOf calls (now (memory .entry)) (packet .bits)) (heardIn calls (now (memory .entry)) (packet .bits)) ⌝ }
+    ensures placed { λ r. ⌜ r .place + bitOf (changes r) ≤ length (opens calls) ⌝ }
+    ensures memory { λ r. ⌜ now (memory .exit) ≡ memoryAfter calls (now (memory .entry)) (packet .bits) ⌝ }
 {
-    opened::find(calls, message.phase, message.word) < opened::count(calls)
+    if !opened::sound(calls) {
+        return unheard(Refusal::State.number(), 0);
+    }
+    let id = packet.bits >> 24;
+    if !((Packet::FIRST_VECTOR <= id) & (id <= Packet::LAST_WORD)) {
+        return unheard(Refusal::Packet.number(), 0);
+    }
+    let message = message_in(packet.bits);
+    if message.damaged != 0 {
+        return unheard(Refusal::Damaged.number(), 0);
+    }
+    let place = opened::find(calls, message.phase, message.word);
+    if place < opened::count(calls) {
+        return take_vector(calls, memory, packet, place);
+    }
+    take_word(calls, memory, message)
 }
 
-// A vector or message packet: the answer, the records then, and the words in the lent memory. Vector places are looked
-// at before spans.
+// The records after a packet.
+fn records_after(calls: Calls, turn: Turn) -> Calls
+    requires { ⌜ turn .place + bitOf (changes turn) ≤ length (opens calls) ⌝ }
+    ensures { λ r. ⌜ r ≡ recordsAfter calls turn ⌝ }
+{
+    let answer = turn.answer;
+    if answer.number == Refusal::Size.number() {
+        return removed(calls, turn.place);
+    }
+    if answer.is_vector == 1 {
+        let call = turn.call;
+        return changed(calls, turn.place, call);
+    }
+    calls
+}
+
+// A vector or message packet: the answer, the records then, and the words in the lent memory.
 pub fn hear(calls: Calls, memory: &mut [u32], packet: Packet) -> CallHearing
     ensures told { λ r. ⌜ r ≡ asHearing (hearOf calls (now (memory .entry)) (packet .bits)) (heardIn calls (now (memory .entry)) (packet .bits)) ⌝ }
     ensures memory { λ r. ⌜ now (memory .exit) ≡ memoryAfter calls (now (memory .entry)) (packet .bits) ⌝ }
 {
-    if !opened::sound(calls) {
-        return unheard(calls, Refusal::State.number());
+    let turn = turn_of(calls, memory, packet);
+    let answer = turn.answer;
+    CallHearing {
+        answer: answer,
+        calls: records_after(calls, turn),
     }
-    let id = packet.bits >> 24;
-    if !((Packet::FIRST_VECTOR <= id) & (id <= Packet::LAST_WORD)) {
-        return unheard(calls, Refusal::Packet.number());
-    }
-    let message = message_in(packet.bits);
-    if message.damaged != 0 {
-        return unheard(calls, Refusal::Damaged.number());
-    }
-    let asked = awaited::ask(calls, message, memory);
-    let held = asked.held;
-    let lacked = asked.lacked;
-    if is_for_vector(calls, message) {
-        let place = opened::find(calls, message.phase, message.word);
-        return take_vector(calls, memory, packet, place);
-    }
-    take_word(calls, memory, message, held, lacked)
 }

@@ -1,14 +1,16 @@
 -- 01's table, 2, call by call as the code asks it.
-use Prim.Native.Nat.{ℕ, _+_, _-_, _<_}
+use Prim.Native.Nat.{ℕ, zero, suc, _+_, _<_}
 use mathlib.Core.Bool.{Bool, true, false, not, _&&_}
-use mathlib.Core.List.{List}
+use mathlib.Core.List.{List, [], _∷_}
+use mathlib.Core.Logic.{⊎-elim}
 use mathlib.Core.Path.{_≡_, refl, sym, ap, _∙_}
-use native.Mathlib.Omega.{arith}
-use borrow.Author.Tests.{lt-ltb, le-ltb}
-use lib.ListN.{length, getD, take, drop, length-take, length-drop}
+use native.Mathlib.Numerals.{add-one}
+use lib.ListN.{length, getD, take, drop, length-take}
+use lib.Seq.{drop-cons}
 use Rattle.laws.proofs.Counting.{take-min}
+use Rattle.laws.proofs.Tests.{decided, not-both, second-of}
 use Rattle.calls.specs.declared.Call.{Call}
-use Rattle.calls.specs.Calls.{blank, inLimits, find, holds, sound}
+use Rattle.calls.specs.Calls.{blank, inLimits, holds, sound}
 use Rattle.calls.proofs.Records.{sound-from}
 
 -- the open calls are the first of the row, as many as are open
@@ -33,20 +35,35 @@ module _ (row : List Call) (place : ℕ) (c : Call) (is : getD row place blank �
   call-first : sound (drop place row) ≡ (inLimits c && not (holds (c .phase) (c .vector) behind) && sound behind)
   call-first = rw (← is) (sound-from row place within)
 
+  pub call-then : drop place row ≡ c ∷ behind
+  call-then = rw (← is, add-one place) (drop-cons row place blank within)
+
   -- a call that is not within its limits: the row is not sound
   pub unsound : inLimits c ≡ false → sound (drop place row) ≡ false
   unsound bad = rw (call-first, bad)
 
-  -- .. nor where its key is found behind it
-  pub twice : place + 1 + find (c .phase) (c .vector) behind < length row → sound (drop place row) ≡ false
-  twice found =
-      let left : length behind ≡ length row - (place + 1) = length-drop (place + 1) row in
-      rw call-first
-      (spoils (inLimits c) (holds (c .phase) (c .vector) behind) (sound behind) (lt-ltb (find (c .phase) (c .vector) behind) (length behind) (omega arith)))
+  -- .. nor where its key has a call behind it
+  pub twice : holds (c .phase) (c .vector) behind ≡ true → sound (drop place row) ≡ false
+  twice met =
+      rw call-first (spoils (inLimits c) (holds (c .phase) (c .vector) behind) (sound behind) met)
 
-  -- where it is not, those behind it are still to be asked
-  pub alone : inLimits c ≡ true → place + 1 + find (c .phase) (c .vector) behind ≡ length row → sound (drop place row) ≡ sound behind
+  -- where it has none, the row is sound if those behind it are
+  pub alone : inLimits c ≡ true → holds (c .phase) (c .vector) behind ≡ false → sound (drop place row) ≡ sound behind
   alone good none =
-      let left : length behind ≡ length row - (place + 1) = length-drop (place + 1) row in
-      rw call-first
-      (leaves (inLimits c) (holds (c .phase) (c .vector) behind) (sound behind) good (le-ltb (find (c .phase) (c .vector) behind) (length behind) (omega arith)))
+      rw call-first (leaves (inLimits c) (holds (c .phase) (c .vector) behind) (sound behind) good none)
+
+-- a part of a sound row is sound,
+sound-part : (row : List Call) (k : ℕ) → sound row ≡ true → sound (drop k row) ≡ true
+unfolding sound
+sound-part row zero good = good
+sound-part [] (suc k) good = refl
+sound-part (c ∷ row) (suc k) good =
+    sound-part row k (second-of (inLimits c && not (holds (c .phase) (c .vector) row)) (sound row) good)
+
+-- .. so that a part that is not spoils the row
+pub spoiled : (row : List Call) (k : ℕ) → sound (drop k row) ≡ false → sound row ≡ false
+spoiled row k bad =
+    ⊎-elim
+    (λ good. absurd (not-both (sound (drop k row)) (sound-part row k good) bad))
+    (λ wrong. wrong)
+    (decided (sound row))

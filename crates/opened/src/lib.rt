@@ -10,6 +10,9 @@ use calls::LAST_PHASE;
 use calls::MOST_CALLS;
 use packet::Packet;
 
+// The keys of calls within their limits, four phases of 88 word numbers, are numbers below 352: six times 64 bits.
+const MARKS: usize = 6;
+
 // How many calls are open.
 pub fn count(calls: Calls) -> usize
     ensures told { λ r. ⌜ r ≡ length (opens calls) ⌝ }
@@ -32,13 +35,13 @@ fn is_of(call: Call, phase: u32, vector: u32) -> bool
 fn in_limits(call: Call) -> bool
     ensures { λ r. ⌜ r ≡ inLimits call ⌝ }
 {
-    if call.has_vector == 0 {
-        return (call.phase <= LAST_PHASE) & (call.vector <= Packet::LAST_WORD);
+    if !((call.phase <= LAST_PHASE) & (call.vector <= Packet::LAST_WORD)) {
+        return false;
     }
-    (call.phase <= LAST_PHASE)
-        & (call.vector <= Packet::LAST_WORD)
-        & ((call.words == 0)
-            | span::fits(call.long_address != 0, call.vector, call.start, call.words))
+    if (call.has_vector == 0) | (call.words == 0) {
+        return true;
+    }
+    span::fits(call.long_address != 0, call.vector, call.start, call.words)
 }
 
 // The place of the call of a key among the open ones; their number where it has none.
@@ -58,28 +61,39 @@ pub fn find(calls: Calls, phase: u32, vector: u32) -> usize
     at
 }
 
-// 01's table, 2: whether each open call is within its limits and no two are of one key. Two loops in one function: one
-// that was handed the records for each call would copy all of them each time.
-pub fn sound(calls: Calls) -> bool
+// Whether each open call is within its limits and no two are of one key. From the last call to the first the keys that
+// were met are marked, each by a bit of its own: a call whose key is marked already has the key of a later one.
+fn sound_from_last(calls: Calls) -> bool
     ensures { λ r. ⌜ r ≡ sound (opens calls) ⌝ }
 {
     let row = calls.calls;
-    let count = count(calls);
-    let mut i: usize = 0;
-    while i < count {
+    let mut i = count(calls);
+    let mut marks = [0u64; MARKS];
+    while i > 0 {
+        i -= 1;
         let call = row[i];
         if !in_limits(call) {
             return false;
         }
-        let mut j = i + 1;
-        while j < count {
-            let other = row[j];
-            if is_of(other, call.phase, call.vector) {
-                return false;
-            }
-            j += 1;
+        let key = call.phase * (Packet::LAST_WORD + 1) + call.vector;
+        let at = (key / 64) as usize;
+        let bit = key % 64;
+        let mark = marks[at];
+        if (mark >> bit) % 2 == 1 {
+            return false;
         }
-        i += 1;
+        marks[at] = mark | (1 << bit);
     }
     true
+}
+
+// 01's table, 2: whether each open call is within its limits and no two are of one key. Where no call is open the records
+// are not copied to look at them.
+pub fn sound(calls: Calls) -> bool
+    ensures { λ r. ⌜ r ≡ sound (opens calls) ⌝ }
+{
+    if calls.size == 0 {
+        return true;
+    }
+    sound_from_last(calls)
 }

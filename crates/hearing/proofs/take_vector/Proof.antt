@@ -1,25 +1,22 @@
 -- `take_vector` meets its contract.
 use Prim.Native.Nat.{ℕ, _^_, _<_}
 use mathlib.Core.Bool.{not}
-use mathlib.Core.List.{[]}
-use mathlib.Core.Path.{_≡_, sym, ap, _∙_}
+use mathlib.Core.Path.{_≡_, refl, sym, ap, _∙_}
 use native.Mathlib.Omega.{arith}
 use borrow.Author.Tests.{eq-eqb, ne-eqb, not-true, not-false, lt-ltb, le-ltb}
 use lib.ListN.{length, getD, replicate, length-map}
 use Rattle.laws.specs.Choice.{pick}
 use Rattle.laws.specs.Lists.{put}
-use Rattle.refusal.specs.Told.{told}
 use Rattle.vector.specs.declared.Vector.{Vector}
 use Rattle.vector.specs.Reads.{vectorOf}
 use Rattle.calls.specs.declared.Call.{Call}
-use Rattle.calls.specs.declared.Calls.{Calls}
 use Rattle.calls.specs.declared.CallHearing.{CallHearing}
 use Rattle.calls.specs.Calls.{blank, opens, hasVector}
 use Rattle.calls.specs.Words.{lacking, placeOf}
 use Rattle.calls.specs.Steps.{bringsWords, vectorFits, withVector, nextArea, changed}
-use Rattle.calls.specs.Answers.{asHearing}
 use Rattle.calls.proofs.Rows.{opens-most}
-use Rattle.hearing.proofs.Answering.{vector-again, vector-bad, vector-no-room, vector-taken, fitting-words, read-as, open-at}
+use Rattle.hearing.specs.Pieces.{refusing, hearingOf}
+use Rattle.hearing.proofs.Answering.{refusal-turn, vector-again, vector-bad, vector-no-room, vector-taken, fitting-words, read-as, open-at}
 use borrow.Author.Needs.{needs}
 use Rattle.hearing.proofs.take_vector.Statement.{statement}
 use Rattle.hearing.proofs.take_vector.Tie as tie
@@ -32,12 +29,12 @@ long c = sym (length-map (c .args .calls .calls) _) ∙ c .good .0 .1 .1 .1 .0 .
 small : (c : tie.Start) → c .args .place < 8
 small c = omega (arith, long c, opens-most (c .args .calls) .0, c .pre .1)
 
--- the answer to a vector that is taken
-abbrev telling : ℕ → Call → ℕ → Calls → CallHearing
-telling place g completed s =
+-- the answer to a vector that is taken, with the records then
+abbrev telling : tie.Start → Call → ℕ → CallHearing
+telling c g completed =
     record {
-      answer = record { number = 0; «is_vector» = 1; call = place; kind = g .kind; check = g .check; completed = completed };
-      calls = s;
+      answer = record { number = 0; «is_vector» = 1; call = c .args .place; kind = g .kind; check = g .check; completed = completed };
+      calls = changed (c .args .calls) (c .args .place) g;
     }
 
 -- the record there is the call
@@ -65,16 +62,14 @@ returns c =
     let start = c .before .before .before .before .before .before .before in
     let done = vector-again (start .args .calls) (start .args .memory .now) (start .args .place) (vectorOf (start .args .packet .bits))
     (ap hasVector (there start) ∙ ap not (ne-eqb (getD (start .args .calls .calls) (start .args .place) blank .«has_vector») 0 (c .before .before .if1 .taken))) in
-    (c .unheard .ensures ∙ ap (λ (n : ℕ). asHearing (told n []) (start .args .calls)) (c .before .number .ensures) ∙ done .0, done .1)
+    let turn = refusal-turn (start .args .calls) (c .unheard .result) _ 14 (c .unheard .ensures ∙ ap (λ (n : ℕ). refusing n 0) (c .before .number .ensures)) refl (done .0) in
+    (turn .0, (turn .1, done .1))
 
 read-vector-requires : tie.Need-read-vector-requires
 read-vector-requires c κs = search needs
 
 vector-fits-requires : tie.Need-vector-fits-requires
 vector-fits-requires c κs = search needs
-
-removed-requires : tie.Need-removed-requires
-removed-requires c κs = search needs
 
 number-requires-2 : tie.Need-number-requires-2
 number-requires-2 c κs = search needs
@@ -84,14 +79,18 @@ unheard-requires-2 c κs = search needs
 
 returns-2 : tie.Need-returns-2
 returns-2 c =
-    let start = c .before .before .before .before .before .before .before .before .before .before .before .before in
-    let call = getD (start .args .calls .calls) (start .args .place) blank in
+    let start = c .before .before .before .before .before .before .before .before .before .before .before in
+    let s = start .args .calls in
+    let memory = start .args .memory .now in
+    let place = start .args .place in
+    let call = getD (s .calls) place blank in
     let vector = vectorOf (start .args .packet .bits) in
-    let none = ap hasVector (there start) ∙ ap not (eq-eqb (call .«has_vector») 0 (c .before .before .before .before .before .before .before .if1 .left)) in
-    let read = read-as (start .args .packet .bits) (c .before .before .before .before .before .before .read-vector .result) (start .pre .0) (c .before .before .before .before .before .before .read-vector .ensures) in
-    let asked = c .before .before .before .before .vector-fits .ensures ∙ ap (vectorFits call) read ∙ ap (λ (c : Call). vectorFits c vector) (sym (there start)) in
-    let done = vector-bad (start .args .calls) (start .args .memory .now) (start .args .place) vector none (sym asked ∙ not-true (c .before .before .before .before .vector-fits .result) (c .before .before .before .if2 .taken)) in
-    (c .unheard2 .ensures ∙ ap (λ (n : ℕ). asHearing (told n []) (c .before .before .removed .result)) (c .before .number2 .ensures) ∙ ap (λ (s : Calls). asHearing (told 9 []) s) (c .before .before .removed .ensures) ∙ done .0, done .1)
+    let none = ap hasVector (there start) ∙ ap not (eq-eqb (call .«has_vector») 0 (c .before .before .before .before .before .before .if1 .left)) in
+    let read = read-as (start .args .packet .bits) (c .before .before .before .before .before .read-vector .result) (start .pre .0) (c .before .before .before .before .before .read-vector .ensures) in
+    let asked = c .before .before .before .vector-fits .ensures ∙ ap (vectorFits call) read ∙ ap (λ (c : Call). vectorFits c vector) (sym (there start)) in
+    let done = vector-bad s memory place vector none (sym asked ∙ not-true (c .before .before .before .vector-fits .result) (c .before .before .if2 .taken)) in
+    let closes = c .unheard2 .ensures ∙ ap (λ (n : ℕ). refusing n place) (c .before .number2 .ensures) in
+    (ap (hearingOf s) closes ∙ done .0, (rw closes (omega (arith, start .pre .1)), done .1))
 
 number-requires-3 : tie.Need-number-requires-3
 number-requires-3 c κs = search needs
@@ -102,13 +101,17 @@ unheard-requires-3 c κs = search needs
 returns-3 : tie.Need-returns-3
 returns-3 c =
     let start = c .before .before .before .before .before .before .before .before .before .before .before .before in
-    let call = getD (start .args .calls .calls) (start .args .place) blank in
+    let s = start .args .calls in
+    let memory = start .args .memory .now in
+    let place = start .args .place in
+    let call = getD (s .calls) place blank in
     let vector = vectorOf (start .args .packet .bits) in
     let none = ap hasVector (there start) ∙ ap not (eq-eqb (call .«has_vector») 0 (c .before .before .before .before .before .before .before .if1 .left)) in
     let read = read-as (start .args .packet .bits) (c .before .before .before .before .before .before .read-vector .result) (start .pre .0) (c .before .before .before .before .before .before .read-vector .ensures) in
     let asked = c .before .before .before .before .vector-fits .ensures ∙ ap (vectorFits call) read ∙ ap (λ (c : Call). vectorFits c vector) (sym (there start)) in
-    let done = vector-no-room (start .args .calls) (start .args .memory .now) (start .args .place) vector none (sym asked ∙ not-false (c .before .before .before .before .vector-fits .result) (c .before .before .before .if2 .left)) (lt-ltb (length (start .args .memory .now)) 680 (c .before .before .if3 .taken)) in
-    (c .unheard3 .ensures ∙ ap (λ (n : ℕ). asHearing (told n []) (start .args .calls)) (c .before .number3 .ensures) ∙ done .0, done .1)
+    let done = vector-no-room s memory place vector none (sym asked ∙ not-false (c .before .before .before .before .vector-fits .result) (c .before .before .before .if2 .left)) (lt-ltb (length memory) 680 (c .before .before .if3 .taken)) in
+    let turn = refusal-turn s (c .unheard3 .result) _ 1 (c .unheard3 .ensures ∙ ap (λ (n : ℕ). refusing n 0) (c .before .number3 .ensures)) refl (done .0) in
+    (turn .0, (turn .1, done .1))
 
 next-area-requires : tie.Need-next-area-requires
 next-area-requires c κs = search needs
@@ -132,45 +135,42 @@ clear-requires c κs =
     let place = c .before .place .ensures in
     omega (arith, words, given, place, c .before .before .before .before .before .if3 .left)
 
+same-length : tie.Need-same-length
+same-length c = search needs
+
 completed-by-requires : tie.Need-completed-by-requires
 completed-by-requires c κs =
     let less = small (c .before .before .before .before .before .before .before .before .before .before .before .before .before .before .before .before .before .before) in
     search needs
 
-changed-requires : tie.Need-changed-requires
-changed-requires c κs =
-    let less = small (c .before .before .before .before .before .before .before .before .before .before .before .before .before .before .before .before .before .before .before) in
-    search needs
-
-same-length : tie.Need-same-length
-same-length c = search needs
-
 returns-4 : tie.Need-returns-4
 returns-4 c =
-    let start = c .before .before .before .before .before .before .before .before .before .before .before .before .before .before .before .before .before .before .before .before in
-    let call = getD (start .args .calls .calls) (start .args .place) blank in
-    let vector = vectorOf (start .args .packet .bits) in
-    let none = ap hasVector (there start) ∙ ap not (eq-eqb (call .«has_vector») 0 (c .before .before .before .before .before .before .before .before .before .before .before .before .before .before .before .if1 .left)) in
-    let read = read-as (start .args .packet .bits) (c .before .before .before .before .before .before .before .before .before .before .before .before .before .before .read-vector .result) (start .pre .0) (c .before .before .before .before .before .before .before .before .before .before .before .before .before .before .read-vector .ensures) in
-    let asked = c .before .before .before .before .before .before .before .before .before .before .before .before .vector-fits .ensures ∙ ap (vectorFits call) read ∙ ap (λ (c : Call). vectorFits c vector) (sym (there start)) in
-    let done = vector-taken (start .args .calls) (start .args .memory .now) (start .args .place) vector none (sym asked ∙ not-false (c .before .before .before .before .before .before .before .before .before .before .before .before .vector-fits .result) (c .before .before .before .before .before .before .before .before .before .before .before .if2 .left)) (le-ltb (length (start .args .memory .now)) 680 (c .before .before .before .before .before .before .before .before .before .before .if3 .left)) in
+    let start = c .before .before .before .before .before .before .before .before .before .before .before .before .before .before .before .before .before .before .before in
     let s = start .args .calls in
     let memory = start .args .memory .now in
     let place = start .args .place in
-    let area = c .before .before .before .before .before .before .before .before .before .next-area in
-    let given = c .before .before .before .before .before .before .before .before .with-vector in
+    let call = getD (s .calls) place blank in
+    let vector = vectorOf (start .args .packet .bits) in
+    let none = ap hasVector (there start) ∙ ap not (eq-eqb (call .«has_vector») 0 (c .before .before .before .before .before .before .before .before .before .before .before .before .before .before .if1 .left)) in
+    let read = read-as (start .args .packet .bits) (c .before .before .before .before .before .before .before .before .before .before .before .before .before .read-vector .result) (start .pre .0) (c .before .before .before .before .before .before .before .before .before .before .before .before .before .read-vector .ensures) in
+    let asked = c .before .before .before .before .before .before .before .before .before .before .before .vector-fits .ensures ∙ ap (vectorFits call) read ∙ ap (λ (c : Call). vectorFits c vector) (sym (there start)) in
+    let done = vector-taken s memory place vector none (sym asked ∙ not-false (c .before .before .before .before .before .before .before .before .before .before .before .vector-fits .result) (c .before .before .before .before .before .before .before .before .before .before .if2 .left)) (le-ltb (length memory) 680 (c .before .before .before .before .before .before .before .before .before .if3 .left)) in
+    let area = c .before .before .before .before .before .before .before .before .next-area in
+    let given = c .before .before .before .before .before .before .before .with-vector in
     let is = given .ensures
     ∙ ap (λ (v : Vector). withVector call v (area .result)) read
     ∙ ap (withVector call vector) (area .ensures)
     ∙ ap (λ (c : Call). withVector c vector (nextArea (opens s))) (sym (there start)) in (
-      ap (telling place (given .result) (c .before .completed-by .result)) (c .changed .ensures)
-          ∙ ap (λ (n : ℕ). telling place (given .result) n (changed s place (given .result))) (c .before .completed-by .ensures)
-          ∙ ap (λ (g : Call). telling place g (pick (bringsWords (g .kind)) 0 (2 ^ place)) (changed s place g)) is
+      ap (telling start (given .result)) (c .completed-by .ensures)
+          ∙ ap (λ (g : Call). telling start g (pick (bringsWords (g .kind)) 0 (2 ^ place))) is
           ∙ done .0,
-      c .before .before .before .before .clear .ensures
-          ∙ ap (λ (at : ℕ). put memory at (replicate (given .result .words) lacking)) (c .before .before .before .before .before .before .place .ensures)
-          ∙ ap (λ (g : Call). put memory (placeOf g) (replicate (g .words) lacking)) is
-          ∙ done .1,
+      (
+        omega (arith, start .pre .1),
+        c .before .before .before .clear .ensures
+            ∙ ap (λ (at : ℕ). put memory at (replicate (given .result .words) lacking)) (c .before .before .before .before .before .place .ensures)
+            ∙ ap (λ (g : Call). put memory (placeOf g) (replicate (g .words) lacking)) is
+            ∙ done .1,
+      ),
     )
 
 pub take-vector-spec : {M : Type 1} → statement M
@@ -184,7 +184,6 @@ take-vector-spec =
     returns
     read-vector-requires
     vector-fits-requires
-    removed-requires
     number-requires-2
     unheard-requires-2
     returns-2
@@ -197,6 +196,5 @@ take-vector-spec =
     cast-clear
     clear-requires
     completed-by-requires
-    changed-requires
     same-length
     returns-4)
