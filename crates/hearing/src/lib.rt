@@ -8,7 +8,7 @@ ghost use lib.ListN.{length, getD, replicate};
 ghost use Rattle.laws.specs.Choice.{pick, bitOf};
 ghost use Rattle.laws.specs.Lists.{put};
 ghost use Rattle.vector.specs.Reads.{isVector, vectorOf};
-ghost use Rattle.calls.specs.Calls.{mostCalls, blank, opens};
+ghost use Rattle.calls.specs.Calls.{mostCalls, blank, opens, find};
 ghost use Rattle.calls.specs.Words.{lacking};
 ghost use Rattle.calls.specs.Steps.{bringsWords, vectorFits, withVector, nextArea, changed, removed};
 ghost use Rattle.calls.specs.Answers.{messageIn, vectorTold, wordTold, hearOf, heardIn, memoryAfter, asHearing};
@@ -238,6 +238,14 @@ fn message_in(bits: u32) -> Message
     }
 }
 
+// The place among the open calls of the one whose vector a packet is, whichever spans hold its word number; the number of
+// open calls where it is none's.
+fn vector_place(calls: Calls, message: Message) -> usize
+    ensures { λ r. ⌜ r ≡ find (message .phase) (message .word) (opens calls) ⌝ }
+{
+    opened::find(calls, message.phase, message.word)
+}
+
 // What a vector or message packet makes of the calls, and the words in the lent memory. Vector places are looked at
 // before spans.
 fn turn_of(calls: Calls, memory: &mut [u32], packet: Packet) -> Turn
@@ -256,7 +264,7 @@ fn turn_of(calls: Calls, memory: &mut [u32], packet: Packet) -> Turn
     if message.damaged != 0 {
         return unheard(Refusal::Damaged.number(), 0);
     }
-    let place = opened::find(calls, message.phase, message.word);
+    let place = vector_place(calls, message);
     if place < opened::count(calls) {
         return take_vector(calls, memory, packet, place);
     }

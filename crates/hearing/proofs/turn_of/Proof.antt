@@ -30,9 +30,9 @@ good c =
     eq-eqb (messageIn (c .before .before .before .before .before .before .before .before .args .packet .bits) .damaged) 0 (sym (ap (λ (m : Message). m .damaged) (c .before .before .message-in .ensures)) ∙ c .if3 .left)
 
 -- the place that is looked at is the vector's
-there : (c : tie.After-find) → c .find .result ≡ vectorPlace (c .before .before .before .before .before .before .before .before .before .args .calls) (c .before .before .before .before .before .before .before .before .before .args .packet .bits)
+there : (c : tie.After-vector-place) → c .vector-place .result ≡ vectorPlace (c .before .before .before .before .before .before .before .before .before .args .calls) (c .before .before .before .before .before .before .before .before .before .args .packet .bits)
 there c =
-    c .find .ensures ∙ ap (λ (m : Message). find (m .phase) (m .word) (opens (c .before .before .before .before .before .before .before .before .before .args .calls))) (c .before .before .before .message-in .ensures)
+    c .vector-place .ensures ∙ ap (λ (m : Message). find (m .phase) (m .word) (opens (c .before .before .before .before .before .before .before .before .before .args .calls))) (c .before .before .before .message-in .ensures)
 
 sound-requires : tie.Need-sound-requires
 sound-requires c κs = search needs
@@ -80,8 +80,8 @@ returns-3 c =
     let turn = refusal-turn (start .args .calls) (c .unheard3 .result) _ 10 (c .unheard3 .ensures ∙ ap (λ (n : ℕ). refusing n 0) (c .before .number3 .ensures)) refl (done .0) in
     (turn .0, (turn .1, done .1))
 
-find-requires : tie.Need-find-requires
-find-requires c κs = search needs
+vector-place-requires : tie.Need-vector-place-requires
+vector-place-requires c κs = search needs
 
 count-requires : tie.Need-count-requires
 count-requires c κs = search needs
@@ -143,7 +143,7 @@ turn-of-spec =
     number-requires-3
     unheard-requires-3
     returns-3
-    find-requires
+    vector-place-requires
     count-requires
     take-vector-requires
     same-length
