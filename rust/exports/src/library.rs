@@ -1,13 +1,14 @@
-//! The library: the exports of every crate `host_*` in the order of crates.txt, with the structs that they need, each
-//! once and behind those that it holds, and the constants that a caller needs.
+//! The library: the exports of the crate `host` and of every crate `host_*`, file by file in the order of crates.txt
+//! and of the `mod` lines, with the structs that they need, each once and after those that it holds, and the constants
+//! that a caller needs.
 
 use crate::names;
-use crate::source::{self, Constant, Function, Source, Struct, Type};
-use std::collections::{BTreeMap, BTreeSet};
-use std::fs;
+use crate::source::{self, Constant, Function, Struct, Type};
+use crate::tree::{self, File, Found, Tree};
+use std::collections::BTreeSet;
 use std::path::Path;
 
-/// The exports of one crate.
+/// The exports of one file.
 pub struct Part {
     pub about: Vec<String>,
     pub structs: Vec<Struct>,
@@ -75,91 +76,80 @@ pub fn is_number(name: &str) -> bool {
     NUMBERS.contains(&name)
 }
 
-/// Every file that was read, and which structs the library has so far.
-struct Collector {
-    sources: BTreeMap<String, Source>,
-    taken: BTreeSet<(String, String)>,
+/// All source files, and which structs the library has so far, each by its file and its name.
+struct Collector<'a> {
+    tree: &'a Tree,
+    taken: BTreeSet<(&'a str, &'a str)>,
 }
 
-impl Collector {
-    fn source(&self, of: &str) -> Result<&Source, String> {
-        self.sources.get(of).ok_or(format!("there is no crate {of}"))
-    }
-
-    /// The crate that a name used in one is of.
-    fn home(&self, of: &str, name: &str) -> Result<String, String> {
-        let source = self.source(of)?;
-        if source.structs.iter().any(|known| known.name == name) {
-            return Ok(of.to_string());
+impl<'a> Collector<'a> {
+    /// How many an array has, from the number or the constant that is written in a file.
+    fn count(&self, file: &'a File, text: &str) -> Result<u64, String> {
+        if let Some(value) = source::number(text) {
+            return Ok(value);
         }
-        source.uses.get(name).cloned().ok_or(format!("{of} uses {name}, which it neither has nor imports"))
+        let Found::Item(home, name) = self.tree.find(file, text)? else {
+            return Err(format!("{}: {text} counts an array and is no constant of a crate's", file.path));
+        };
+        let value = number_of(home, name);
+        value.ok_or(format!("{}: {name} counts an array and is no constant with a plain number", home.path))
     }
 
-    fn constant(&self, of: &str, name: &str) -> Result<u64, String> {
-        let source = self.source(of)?;
-        if let Some(known) = source.constants.iter().find(|known| known.of.is_none() && known.name == name) {
-            return Ok(known.value);
-        }
-        match source.uses.get(name) {
-            Some(home) => self.constant(home, name),
-            None => Err(format!("{of} has no constant {name}")),
-        }
-    }
-
-    /// A type with the count of an array as a number.
-    fn counted(&self, of: &str, kind: &Type) -> Result<Type, String> {
-        let Type::Array(element, count) = kind else { return Ok(kind.clone()) };
-        let count = source::number(count).map_or_else(|| self.constant(of, count), Ok)?;
-        Ok(Type::Array(element.clone(), count.to_string()))
-    }
-
-    /// Adds the struct that a type names, if any, behind those that it holds.
-    fn take(&mut self, of: &str, kind: &Type, into: &mut Vec<Struct>) -> Result<(), String> {
+    /// A type that a file writes, as C has it: a struct by its own name, whatever the file calls it, and the count of
+    /// an array as a number. Adds the struct to the library.
+    fn crossing(&mut self, file: &'a File, kind: &Type, into: &mut Vec<Struct>) -> Result<Type, String> {
         let (Type::Plain(name) | Type::Array(name, _) | Type::Slice(name, _)) = kind;
-        if is_number(name) {
-            return Ok(());
+        let name = if is_number(name) { name.clone() } else { self.take(file, name, into)? };
+        Ok(match kind {
+            Type::Plain(_) => Type::Plain(name),
+            Type::Array(_, count) => Type::Array(name, self.count(file, count)?.to_string()),
+            Type::Slice(_, is_mutable) => Type::Slice(name, *is_mutable),
+        })
+    }
+
+    /// Adds the struct that a file calls by a name, after those that it holds, and answers its own name.
+    fn take(&mut self, file: &'a File, name: &str, into: &mut Vec<Struct>) -> Result<String, String> {
+        let Found::Item(home, name) = self.tree.find(file, name)? else {
+            return Err(format!("{}: {name} crosses to C and is no struct of a crate's", file.path));
+        };
+        if !self.taken.insert((&home.path, name)) {
+            return Ok(name.to_string());
         }
-        let home = self.home(of, name)?;
-        if !self.taken.insert((home.clone(), name.clone())) {
-            return Ok(());
+        let mut others = self.taken.iter().filter(|(path, other)| (*path, *other) != (&home.path, name));
+        if let Some((path, _)) = others.find(|(_, other)| names::bare(other) == names::bare(name)) {
+            let both = format!("{path} and {}", home.path);
+            return Err(format!("two structs that cross to C are called {}, in {both}", names::bare(name)));
         }
-        if self.taken.iter().filter(|(_, other)| names::bare(other) == names::bare(name)).count() > 1 {
-            return Err(format!("two structs that cross to C are called {}", names::bare(name)));
-        }
-        let known = self.source(&home)?.structs.iter().find(|known| known.name == *name);
-        let mut known = known.cloned().ok_or(format!("{home} has no struct {name}"))?;
+        let known = home.source.structs.iter().find(|known| known.name == name);
+        let mut known = known.cloned().ok_or(format!("{}: {name} crosses to C and is no struct", home.path))?;
         if !known.crosses {
-            return Err(format!("{home}::{name} crosses to C without #[repr(C)]"));
+            return Err(format!("{}: {name} crosses to C without #[repr(C)]", home.path));
         }
         for field in &mut known.fields {
-            self.take(&home, &field.kind, into)?;
-            field.kind = self.counted(&home, &field.kind)?;
+            field.kind = self.crossing(home, &field.kind, into)?;
         }
         into.push(known);
-        Ok(())
+        Ok(name.to_string())
     }
 
-    fn part(&mut self, of: &str) -> Result<Part, String> {
-        let source = self.source(of)?.clone();
+    fn part(&mut self, file: &'a File) -> Result<Part, String> {
         let mut structs = Vec::new();
-        for function in &source.functions {
-            told(function)?;
-            for parameter in &function.parameters {
-                self.take(of, &parameter.kind, &mut structs)?;
+        let mut functions = file.source.functions.clone();
+        for function in &mut functions {
+            told(function).map_err(|fault| format!("{}: {fault}", file.path))?;
+            for parameter in &mut function.parameters {
+                parameter.kind = self.crossing(file, &parameter.kind, &mut structs)?;
             }
-            self.take(of, &function.answer, &mut structs)?;
+            function.answer = self.crossing(file, &function.answer, &mut structs)?;
         }
-        Ok(Part { about: source.about, structs, functions: source.functions })
+        Ok(Part { about: file.source.about.clone(), structs, functions })
     }
+}
 
-    fn group(&self, of: &str, owner: &str) -> Result<Vec<Constant>, String> {
-        let all = self.source(of)?.constants.iter();
-        let own: Vec<Constant> = all.filter(|known| known.of.as_deref() == Some(owner)).cloned().collect();
-        if own.is_empty() {
-            return Err(format!("{of} gives {owner} no numbers"));
-        }
-        Ok(own)
-    }
+/// The number of a constant that a file declares outside of any `impl` block.
+fn number_of(file: &File, name: &str) -> Option<u64> {
+    let mut all = file.source.constants.iter();
+    all.find(|known| known.of.is_none() && known.name == name).map(|known| known.value)
 }
 
 /// Every export says what it takes, what it answers and what it refuses.
@@ -172,40 +162,62 @@ fn told(function: &Function) -> Result<(), String> {
     Ok(())
 }
 
-/// The crates of crates.txt, in its order.
-fn crates(root: &Path) -> Result<Vec<String>, String> {
-    let text = fs::read_to_string(root.join("crates.txt")).map_err(|fault| format!("crates.txt: {fault}"))?;
-    let names = text.lines().filter(|line| !line.starts_with('#')).filter_map(|line| line.split_once(':'));
-    Ok(names.map(|(name, _)| name.to_string()).collect())
+/// The number of a constant, from the first file of its crate that declares it.
+pub fn limit(tree: &Tree, of: &str, name: &str) -> Result<u64, String> {
+    let files = tree.files_of(of)?;
+    let home = files.iter().find(|file| file.source.items.contains(name));
+    let home = home.ok_or(format!("no file of the crate {of} declares {name}"))?;
+    number_of(home, name).ok_or(format!("{}: {name} is no constant with a plain number", home.path))
 }
 
-fn sources(root: &Path, crates: &[String]) -> Result<BTreeMap<String, Source>, String> {
-    let mut sources = BTreeMap::new();
-    for name in crates {
-        let path = root.join("crates").join(name).join("src/lib.rt");
-        // A program has no lib.rt, and exports nothing.
-        if let Ok(text) = fs::read_to_string(&path) {
-            sources.insert(name.clone(), source::read(&text).map_err(|fault| format!("{name}: {fault}"))?);
+/// The numbers of a type, from all files of its crate. A variant has its comment where the enum is declared, which may
+/// be another file than the one of its number.
+pub fn group(tree: &Tree, of: &str, owner: &str) -> Result<Vec<Constant>, String> {
+    let files = tree.files_of(of)?;
+    let all = files.iter().flat_map(|file| &file.source.constants);
+    let mut own: Vec<Constant> = all.filter(|known| known.of.as_deref() == Some(owner)).cloned().collect();
+    if own.is_empty() {
+        return Err(format!("no file of the crate {of} gives {owner} numbers"));
+    }
+    let mut names = BTreeSet::new();
+    for known in &mut own {
+        if !names.insert(known.name.clone()) {
+            return Err(format!("the crate {of} gives {owner}::{} two numbers", known.name));
+        }
+        let variant = format!("{owner}::{}", known.name);
+        if let Some(comment) = files.iter().find_map(|file| file.source.variants.get(&variant)) {
+            known.comment = comment.clone();
         }
     }
-    Ok(sources)
+    Ok(own)
+}
+
+/// The parts of the library: every file with exports. A library without any is refused.
+pub fn parts(tree: &Tree) -> Result<Vec<Part>, String> {
+    let host: Vec<&File> = tree.files.iter().filter(|file| file.is_host()).collect();
+    let with_exports: Vec<&File> = host.iter().copied().filter(|file| !file.source.functions.is_empty()).collect();
+    if host.is_empty() {
+        return Err("crates.txt has neither a crate host nor a crate host_*".to_string());
+    }
+    if with_exports.is_empty() {
+        let paths: Vec<&str> = host.iter().map(|file| file.path.as_str()).collect();
+        return Err(format!("the library has no exported function: there is none in {}", paths.join(", ")));
+    }
+    let mut collector = Collector { tree, taken: BTreeSet::new() };
+    with_exports.into_iter().map(|file| collector.part(file)).collect()
 }
 
 pub fn read(root: &Path) -> Result<Library, String> {
-    let crates = crates(root)?;
-    let mut collector = Collector { sources: sources(root, &crates)?, taken: BTreeSet::new() };
+    let tree = tree::read(root)?;
+    let parts = parts(&tree)?;
     let mut groups = Vec::new();
     for (of, owner, prefix, about) in GROUPS {
-        groups.push(Group { prefix, about, constants: collector.group(of, owner)? });
+        groups.push(Group { prefix, about, constants: group(&tree, of, owner)? });
     }
     let mut sizes = Vec::new();
     for (name, about, of, constant) in LIMITS {
-        sizes.push(Size { name, about, value: Written::Number(collector.constant(of, constant)?) });
+        sizes.push(Size { name, about, value: Written::Number(limit(&tree, of, constant)?) });
     }
     sizes.extend(FORMULAS.map(|(name, about, formula)| Size { name, about, value: Written::Formula(formula) }));
-    let mut parts = Vec::new();
-    for name in crates.iter().filter(|name| name.starts_with("host_")) {
-        parts.push(collector.part(name).map_err(|fault| format!("{name}: {fault}"))?);
-    }
     Ok(Library { groups, sizes, parts })
 }

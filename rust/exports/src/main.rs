@@ -1,12 +1,16 @@
 //! `exports header ROOT` writes the C header of the library to standard output, `exports rust ROOT` its Rust
-//! declarations. Both are made from the Rattle source of the crates `host_*` and from nothing else, so that neither
-//! can say something other than what was proved. ROOT is the folder of crates.txt.
+//! declarations. Both are made from the Rattle source of the crate `host` and the crates `host_*`, with what these
+//! use, and from nothing else, so that neither can say something other than what was proved. ROOT is the folder of
+//! crates.txt.
 
 mod c;
 mod library;
 mod names;
 mod rust;
 mod source;
+#[cfg(test)]
+mod tests;
+mod tree;
 
 use std::env;
 use std::io::{self, Write};
