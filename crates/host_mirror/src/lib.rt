@@ -26,7 +26,7 @@ pub extern "C" fn mortisevane_mirror_reset(packet: u32) -> Mirrored
 pub extern "C" fn mortisevane_mirror_step(mirror: Mirror, packet: u32) -> Mirrored
     ensures { λ r. ⌜ r ≡ answered mirror (stepOf mirror packet) ⌝ }
 {
-    following::step(mirror, Packet { bits: packet })
+    mirror::step(mirror, Packet { bits: packet })
 }
 
 // The mirror after a run of packets that the host sent.
@@ -37,7 +37,7 @@ pub extern "C" fn mortisevane_mirror_step(mirror: Mirror, packet: u32) -> Mirror
 pub extern "C" fn mortisevane_mirror_run(mirror: Mirror, packets: &[u32]) -> Mirrored
     ensures { λ r. ⌜ r ≡ answered mirror (runOf mirror (now (packets .entry))) ⌝ }
 {
-    following::run(mirror, packets)
+    mirror::run(mirror, packets)
 }
 
 // The checksum packet that makes the decoder talk.

@@ -1,2 +1,2 @@
-pub mod Laws
 pub mod Examples
+pub mod Laws

@@ -9,8 +9,8 @@ use Rattle.laws.proofs.Layouts.{shows-each}
 use Rattle.packet.specs.Names.{partIdID}
 use Rattle.packet.specs.Tables.{partId}
 use borrow.Author.Needs.{needs}
-use Rattle.mirror.proofs.reset.Statement.{statement}
-use Rattle.mirror.proofs.reset.Tie as tie
+use Rattle.mirror.proofs.ends.reset.Statement.{statement}
+use Rattle.mirror.proofs.ends.reset.Tie as tie
 
 number-requires : tie.Need-number-requires
 number-requires c κs = search needs

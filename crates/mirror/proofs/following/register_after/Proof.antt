@@ -2,10 +2,10 @@
 use Prim.Native.Nat.{_/_, _^_}
 use mathlib.Core.Path.{sym, _∙_}
 use borrow.Author.Tests.{ne-eqb}
 use Rattle.mirror.proofs.Laws.{step-register}
 use borrow.Author.Needs.{needs}
-use Rattle.following.proofs.register_after.Statement.{statement}
-use Rattle.following.proofs.register_after.Tie as tie
+use Rattle.mirror.proofs.following.register_after.Statement.{statement}
+use Rattle.mirror.proofs.following.register_after.Tie as tie
 
 returns : tie.Need-returns
 returns c talking =

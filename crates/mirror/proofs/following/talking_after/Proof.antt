@@ -5,8 +5,8 @@ use borrow.Author.Tests.{eq-eqb, ne-eqb}
 use native.Mathlib.Omega.{arith}
 use Rattle.laws.proofs.Bits.{as-bit}
 use borrow.Author.Needs.{needs}
-use Rattle.following.proofs.talking_after.Statement.{statement}
-use Rattle.following.proofs.talking_after.Tie as tie
+use Rattle.mirror.proofs.following.talking_after.Statement.{statement}
+use Rattle.mirror.proofs.following.talking_after.Tie as tie
 
 returns : tie.Need-returns
 returns c = rw (ne-eqb (c .before .args .bits / 2 ^ 24) 0 (omega (arith, c .if1 .taken)))

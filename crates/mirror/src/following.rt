@@ -2,9 +2,9 @@
 // handshake"; S8.4.2).
 ghost use Prim.Native.Nat.{ℕ};
 ghost use mathlib.Core.Path.{_≡_};
 ghost use Rattle.mirror.specs.Handshake.{summed, stepOf, runOf, answered};
-use mirror::Mirror;
-use mirror::Mirrored;
+use crate::Mirror;
+use crate::Mirrored;
 use packet::Packet;
 use refusal::Refusal;
 

@@ -1,9 +1,9 @@
 -- `summed` meets its contract: a special packet is left out.
 use mathlib.Core.Bool.{true, false}
 use mathlib.Core.Path.{_≡_, refl}
 use Rattle.mirror.specs.Handshake.{isSpecial}
-use Rattle.following.proofs.summed.Statement.{statement}
-use Rattle.following.proofs.summed.Tie as tie
+use Rattle.mirror.proofs.following.summed.Statement.{statement}
+use Rattle.mirror.proofs.following.summed.Tie as tie
 
 returns : tie.Need-returns
 returns c =

@@ -5,10 +5,10 @@ use native.Mathlib.Numerals.{add-one}
 use native.Mathlib.Omega.{arith}
 use lib.ListN.{length, drop, drop-of-length-le}
 use lib.Seq.{drop-cons}
 use Rattle.mirror.specs.Handshake.{runOf}
 use borrow.Author.Needs.{needs}
-use Rattle.following.proofs.stepped_through.Statement.{statement}
-use Rattle.following.proofs.stepped_through.Tie as tie
+use Rattle.mirror.proofs.following.stepped_through.Statement.{statement}
+use Rattle.mirror.proofs.following.stepped_through.Tie as tie
 
 abbrev Inv-loop : tie.InvT-loop
 Inv-loop register talking packets register₀ talking₀ i₀ reached talks i =

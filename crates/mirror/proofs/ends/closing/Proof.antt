@@ -4,8 +4,8 @@ use mathlib.Core.Path.{refl, _∙_}
 use borrow.Author.Tests.{lt-ltb, le-ltb}
 use native.Mathlib.Omega.{arith}
 use borrow.Author.Needs.{needs}
-use Rattle.mirror.proofs.closing.Statement.{statement}
-use Rattle.mirror.proofs.closing.Tie as tie
+use Rattle.mirror.proofs.ends.closing.Statement.{statement}
+use Rattle.mirror.proofs.ends.closing.Tie as tie
 
 number-requires : tie.Need-number-requires
 number-requires c κs = search needs
