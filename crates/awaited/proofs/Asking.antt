@@ -11,7 +11,7 @@ use lib.Pow.{pow-mono}
 use Rattle.laws.specs.Choice.{bitOf}
 use borrow.Author.Tests.{le-ltb}
 use Rattle.laws.proofs.Tests.{decided}
-use Rattle.heard.specs.declared.Message.{Message}
+use Rattle.packet.specs.declared.heard.Message.{Message}
 use Rattle.calls.specs.declared.Call.{Call}
 use Rattle.calls.specs.Calls.{blank, hasVector, numbersOf}
 use Rattle.calls.specs.Words.{isComplete, position, holdsWord, wordPlace, lacks, completes, offered, givenTo, finished}

@@ -1,7 +1,7 @@
 -- The question to one call, in the piece in which the code asks it.
 use Prim.Native.Nat.{ℕ}
 use mathlib.Core.List.{List}
-use Rattle.heard.specs.declared.Message.{Message}
+use Rattle.packet.specs.declared.heard.Message.{Message}
 use Rattle.calls.specs.declared.Call.{Call}
 use Rattle.calls.specs.Words.{holdsWord, lacks}
 use Rattle.awaited.specs.declared.Asked.{Asked}

@@ -10,7 +10,7 @@ ghost use Rattle.awaited.specs.Pieces.{offerOf};
 use calls::Call;
 use calls::Calls;
 use calls::LACKING;
-use heard::Message;
+use packet::Message;
 
 // What a message word finds among the open calls: whether the span of some call holds it, and whether some call still
 // lacks it.

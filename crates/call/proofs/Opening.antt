@@ -11,9 +11,9 @@ use Rattle.laws.specs.Choice.{pick}
 use Rattle.laws.specs.Layouts.{fieldsOf}
 use Rattle.refusal.specs.declared.Refusal.the-variants as refusals
 use Rattle.refusal.specs.Told.{Told, told, given, refused, ask, kept, numberTold, valueTold}
-use Rattle.heard.specs.declared.Address.{Address}
-use Rattle.heard.specs.Tables as tables
-use Rattle.heard.specs.Reads.{asAddress, addressRight, addressNumbered, addressRefusal, addressRead}
+use Rattle.packet.specs.declared.heard.Address.{Address}
+use Rattle.packet.specs.HeardTables as tables
+use Rattle.packet.specs.Heard.{asAddress, addressRight, addressNumbered, addressRefusal, addressRead}
 use Rattle.calls.specs.declared.Calls.{Calls}
 use Rattle.calls.specs.Calls.{opens, find, holds, sound}
 use Rattle.calls.specs.Steps.{callOf, added}

@@ -2,7 +2,7 @@
 use lib.Dec.{eqb}
 use Rattle.laws.specs.Choice.{pick}
 use Rattle.refusal.specs.Told.{numberTold}
-use Rattle.heard.specs.declared.Address.{Address}
+use Rattle.packet.specs.declared.heard.Address.{Address}
 use Rattle.calls.specs.declared.Calls.{Calls}
 use Rattle.calls.specs.Steps.{callOf, added}
 use Rattle.calls.specs.Answers.{openingOf}

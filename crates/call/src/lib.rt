@@ -14,7 +14,7 @@ use calls::CallOpened;
 use calls::CallOpening;
 use calls::Calls;
 use calls::MOST_CALLS;
-use heard::Address;
+use packet::Address;
 use packet::Packet;
 use refusal::Refusal;
 
@@ -102,7 +102,7 @@ pub fn open(calls: Calls, packet: Packet) -> CallOpening
     if !opened::sound(calls) {
         return not_opened(calls, Refusal::State.number());
     }
-    let read = heard::read_address(packet);
+    let read = packet::read_address(packet);
     if read.number != 0 {
         return not_opened(calls, read.number);
     }

@@ -18,11 +18,11 @@ use Rattle.refusal.specs.declared.Refusal.{Refusal}
 use Rattle.refusal.specs.declared.Refusal.the-variants as refusals
 use Rattle.refusal.proofs.Laws.{number-positive}
 use Rattle.refusal.specs.Told.{Told, refused, given, ask, numberTold, valueTold}
-use Rattle.heard.specs.Tables as tables
-use Rattle.heard.specs.Reads.{addressRight, addressNumbered}
-use Rattle.vector.specs.declared.Span.{Span}
-use Rattle.vector.specs.declared.Vector.{Vector}
-use Rattle.vector.specs.Reads.{isNumeric, isText, vectorType, vectorOf, isVector}
+use Rattle.packet.specs.HeardTables as tables
+use Rattle.packet.specs.Heard.{addressRight, addressNumbered}
+use Rattle.packet.specs.declared.vectors.Span.{Span}
+use Rattle.packet.specs.declared.vectors.Vector.{Vector}
+use Rattle.packet.specs.Vectors.{isNumeric, isText, vectorType, vectorOf, isVector}
 use Rattle.calls.specs.declared.Call.{Call}
 use Rattle.calls.specs.declared.Calls.{Calls}
 use Rattle.calls.specs.Calls.{blank, fresh, opens, hasVector, isLong, fits, isOf, holds, sound}

@@ -18,7 +18,7 @@ use Rattle.laws.proofs.Lists.{at-within, part-alike, those-most}
 use Rattle.laws.proofs.Tests.{decided, first-of, second-of, neither}
 use Rattle.laws.proofs.Writing.{put-there, put-keeps-before, put-keeps-behind}
 use Rattle.sums.specs.Words.{undamaged}
-use Rattle.heard.specs.declared.Message.{Message}
+use Rattle.packet.specs.declared.heard.Message.{Message}
 use Rattle.calls.specs.declared.Call.{Call}
 use Rattle.calls.specs.Calls.{blank, hasVector, isLong, numbersOf, inLimits}
 use Rattle.calls.specs.Words.{lacking, memorySize, placeOf, wordsOf, isComplete, position, holdsWord, wordPlace, lacks, offered, completes, givenTo, finished, isLacked}

@@ -7,7 +7,7 @@ use lib.ListN.{getD, set, replicate}
 use Rattle.laws.specs.Choice.{pick, bitOf}
 use Rattle.laws.specs.Lists.{firstThat, placeIn, all, anyOf, those, upFrom}
 use Rattle.refusal.specs.Told.{told, given}
-use Rattle.heard.specs.declared.Message.{Message}
+use Rattle.packet.specs.declared.heard.Message.{Message}
 use Rattle.calls.specs.declared.Call.{Call}
 use Rattle.calls.specs.Calls.{blank, fresh, opens, numbersOf, sound}
 use Rattle.calls.specs.Words.{lacking, placeOf, wordsOf, isComplete, lacks, givenTo, finished}

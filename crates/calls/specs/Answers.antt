@@ -9,12 +9,12 @@ use Rattle.laws.specs.Layouts.{fieldsOf}
 use Rattle.laws.specs.Lists.{put}
 use Rattle.refusal.specs.declared.Refusal.the-variants as refusals
 use Rattle.refusal.specs.Told.{Told, numberOf, given, ask, numberTold, valueTold}
-use Rattle.heard.specs.declared.Address.{Address}
-use Rattle.heard.specs.declared.Message.{Message}
-use Rattle.heard.specs.Tables as tables
-use Rattle.heard.specs.Reads.{asAddress, asMessage, addressRight, addressNumbered}
-use Rattle.vector.specs.declared.Vector.{Vector}
-use Rattle.vector.specs.Reads.{vectorOf, isVector}
+use Rattle.packet.specs.declared.heard.Address.{Address}
+use Rattle.packet.specs.declared.heard.Message.{Message}
+use Rattle.packet.specs.HeardTables as tables
+use Rattle.packet.specs.Heard.{asAddress, asMessage, addressRight, addressNumbered}
+use Rattle.packet.specs.declared.vectors.Vector.{Vector}
+use Rattle.packet.specs.Vectors.{vectorOf, isVector}
 use Rattle.calls.specs.declared.Call.{Call}
 use Rattle.calls.specs.declared.Calls.{Calls}
 use Rattle.calls.specs.declared.CallOpened.{CallOpened}

@@ -4,9 +4,9 @@ use mathlib.Core.Bool.{Bool, not, _||_}
 use mathlib.Core.List.{List, [], _∷_, _++_}
 use lib.ListN.{length, drop, set}
 use Rattle.laws.specs.Lists.{put, those}
-use Rattle.heard.specs.declared.Address.{Address}
-use Rattle.vector.specs.declared.Vector.{Vector}
-use Rattle.vector.specs.Reads.{isNumeric, isText}
+use Rattle.packet.specs.declared.heard.Address.{Address}
+use Rattle.packet.specs.declared.vectors.Vector.{Vector}
+use Rattle.packet.specs.Vectors.{isNumeric, isText}
 use Rattle.calls.specs.declared.Call.{Call}
 use Rattle.calls.specs.declared.Calls.{Calls}
 use Rattle.calls.specs.Calls.{blank, fresh, opens, hasVector, isLong, fits}

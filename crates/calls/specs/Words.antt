@@ -7,7 +7,7 @@ use lib.ListN.{length, getD, take, drop, set}
 use Rattle.laws.specs.Choice.{pick, bitOf}
 use Rattle.laws.specs.Lists.{placeIn, anyOf}
 use Rattle.sums.specs.Words.{wordBits, undamaged}
-use Rattle.heard.specs.declared.Message.{Message}
+use Rattle.packet.specs.declared.heard.Message.{Message}
 use Rattle.calls.specs.declared.Call.{Call}
 use Rattle.calls.specs.Calls.{mostCalls, mostWords, hasVector, numbersOf}
 

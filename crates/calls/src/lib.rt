@@ -1,7 +1,7 @@
 // Calls in a frame (document 01, "Calls in a frame"): their records, and the answers that are told. What packets do to
 // a row of records and to the words in lent memory is said in specs/, with the laws of it in proofs/; the functions, for
 // eight calls, are in `span`, `opened`, `area`, `awaited`, `call` and `hearing`.
-use heard::Address;
+use packet::Address;
 
 // 01: "At most 8 calls are open".
 pub const MOST_CALLS: usize = 8;

@@ -13,10 +13,10 @@ use Rattle.laws.specs.Lists.{put}
 use Rattle.laws.proofs.Tests.{decided}
 use Rattle.refusal.specs.declared.Refusal.the-variants as refusals
 use Rattle.refusal.specs.Told.{Told, told, given, refused, ask, kept}
-use Rattle.heard.specs.declared.Message.{Message}
-use Rattle.vector.specs.declared.Vector.{Vector}
-use Rattle.vector.specs.declared.VectorRead.{VectorRead}
-use Rattle.vector.specs.Reads.{vectorOf, isVector, vectorRead}
+use Rattle.packet.specs.declared.heard.Message.{Message}
+use Rattle.packet.specs.declared.vectors.Vector.{Vector}
+use Rattle.packet.specs.declared.vectors.VectorRead.{VectorRead}
+use Rattle.packet.specs.Vectors.{vectorOf, isVector, vectorRead}
 use Rattle.calls.specs.declared.Call.{Call}
 use Rattle.calls.specs.declared.Calls.{Calls}
 use Rattle.calls.specs.declared.CallHearing.{CallHearing}

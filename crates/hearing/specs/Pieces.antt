@@ -8,8 +8,8 @@ use Rattle.laws.specs.Choice.{pick}
 use Rattle.laws.specs.Lists.{put}
 use Rattle.refusal.specs.declared.Refusal.the-variants as refusals
 use Rattle.refusal.specs.Told.{told, numberOf, numberTold}
-use Rattle.heard.specs.declared.Message.{Message}
-use Rattle.vector.specs.declared.Vector.{Vector}
+use Rattle.packet.specs.declared.heard.Message.{Message}
+use Rattle.packet.specs.declared.vectors.Vector.{Vector}
 use Rattle.calls.specs.declared.Call.{Call}
 use Rattle.calls.specs.declared.Calls.{Calls}
 use Rattle.calls.specs.declared.CallHearing.{CallHearing}

@@ -7,7 +7,7 @@ ghost use mathlib.Core.Bool.{true};
 ghost use lib.ListN.{length, getD, replicate};
 ghost use Rattle.laws.specs.Choice.{pick, bitOf};
 ghost use Rattle.laws.specs.Lists.{put};
-ghost use Rattle.vector.specs.Reads.{isVector, vectorOf};
+ghost use Rattle.packet.specs.Vectors.{isVector, vectorOf};
 ghost use Rattle.calls.specs.Calls.{mostCalls, blank, opens, find};
 ghost use Rattle.calls.specs.Words.{lacking};
 ghost use Rattle.calls.specs.Steps.{bringsWords, vectorFits, withVector, nextArea, changed, removed};
@@ -21,10 +21,10 @@ use calls::Calls;
 use calls::LACKING;
 use calls::MEMORY;
 use calls::MOST_CALLS;
-use heard::Message;
+use packet::Message;
 use packet::Packet;
+use packet::Vector;
 use refusal::Refusal;
-use vector::Vector;
 
 // What a packet makes of the calls, in numbers, so that one function alone makes the records anew: the answer; and where
 // the answer is 9 the place of the call that is closed, where it is a vector's the place of its call and the record then.
@@ -172,7 +172,7 @@ fn take_vector(calls: Calls, memory: &mut [u32], packet: Packet, place: usize) -
     if call.has_vector != 0 {
         return unheard(Refusal::OutOfTurn.number(), 0);
     }
-    let read = vector::read_vector(packet);
+    let read = packet::read_vector(packet);
     let vector = read.fields;
     if !vector_fits(call, vector) {
         return unheard(Refusal::Size.number(), place);

@@ -4,37 +4,37 @@
 ghost use mathlib.Core.Path.{_≡_};
 ghost use Rattle.packet.specs.Tables.{checksum, configuration, control, allFrameMode, receiverLines, shutDown, frameAssignment, userAddress, addressEnable, partId};
 ghost use Rattle.packet.specs.Fields.{builtBy, ofChecksum, ofConfiguration, ofControl, ofAllFrameMode, ofReceiverLines, ofShutDown, ofFrameAssignment, ofUserAddress, ofAddressEnable, ofPartId};
-ghost use Rattle.sent.specs.Reads.{checksumRead, configurationRead, controlRead, allFrameModeRead};
-ghost use Rattle.assigned.specs.Reads.{receiverLinesRead, shutDownRead, frameAssignmentRead, userAddressRead, addressEnableRead};
-ghost use Rattle.sending.specs.Rule.{sendOf};
-ghost use Rattle.heard.specs.Reads.{partIdRead, statusRead, addressRead, messageRead};
-ghost use Rattle.vector.specs.Reads.{vectorRead};
-use assigned::AddressEnableRead;
-use assigned::FrameAssignmentRead;
-use assigned::ReceiverLinesRead;
-use assigned::ShutDownRead;
-use assigned::UserAddressRead;
-use heard::AddressRead;
-use heard::MessageRead;
-use heard::PartIdRead;
-use heard::StatusRead;
+ghost use Rattle.packet.specs.Sent.{checksumRead, configurationRead, controlRead, allFrameModeRead};
+ghost use Rattle.packet.specs.Sent.{receiverLinesRead, shutDownRead, frameAssignmentRead, userAddressRead, addressEnableRead};
+ghost use Rattle.packet.specs.Rule.{sendOf};
+ghost use Rattle.packet.specs.Heard.{partIdRead, statusRead, addressRead, messageRead};
+ghost use Rattle.packet.specs.Vectors.{vectorRead};
 use packet::AddressEnable;
+use packet::AddressEnableRead;
+use packet::AddressRead;
 use packet::AllFrameMode;
+use packet::AllFrameModeRead;
 use packet::Built;
 use packet::Checksum;
+use packet::ChecksumRead;
 use packet::Configuration;
+use packet::ConfigurationRead;
 use packet::Control;
+use packet::ControlRead;
 use packet::FrameAssignment;
+use packet::FrameAssignmentRead;
+use packet::MessageRead;
 use packet::Packet;
 use packet::PartId;
+use packet::PartIdRead;
 use packet::ReceiverLines;
+use packet::ReceiverLinesRead;
 use packet::ShutDown;
+use packet::ShutDownRead;
+use packet::StatusRead;
 use packet::UserAddress;
-use sent::AllFrameModeRead;
-use sent::ChecksumRead;
-use sent::ConfigurationRead;
-use sent::ControlRead;
-use vector::VectorRead;
+use packet::UserAddressRead;
+use packet::VectorRead;
 
 // Builds a checksum packet.
 // Takes its fields.
@@ -154,7 +154,7 @@ pub extern "C" fn mortisevane_build_part_id(fields: PartId) -> Built
 pub extern "C" fn mortisevane_read_checksum(packet: u32) -> ChecksumRead
     ensures { λ r. ⌜ r ≡ checksumRead packet ⌝ }
 {
-    sent::read_checksum(Packet { bits: packet })
+    packet::read_checksum(Packet { bits: packet })
 }
 
 // Reads a configuration packet.
@@ -165,7 +165,7 @@ pub extern "C" fn mortisevane_read_checksum(packet: u32) -> ChecksumRead
 pub extern "C" fn mortisevane_read_configuration(packet: u32) -> ConfigurationRead
     ensures { λ r. ⌜ r ≡ configurationRead packet ⌝ }
 {
-    setup::read_configuration(Packet { bits: packet })
+    packet::read_configuration(Packet { bits: packet })
 }
 
 // Reads a control packet.
@@ -176,7 +176,7 @@ pub extern "C" fn mortisevane_read_configuration(packet: u32) -> ConfigurationRe
 pub extern "C" fn mortisevane_read_control(packet: u32) -> ControlRead
     ensures { λ r. ⌜ r ≡ controlRead packet ⌝ }
 {
-    setup::read_control(Packet { bits: packet })
+    packet::read_control(Packet { bits: packet })
 }
 
 // Reads an all frame mode packet.
@@ -187,7 +187,7 @@ pub extern "C" fn mortisevane_read_control(packet: u32) -> ControlRead
 pub extern "C" fn mortisevane_read_all_frame_mode(packet: u32) -> AllFrameModeRead
     ensures { λ r. ⌜ r ≡ allFrameModeRead packet ⌝ }
 {
-    sent::read_all_frame_mode(Packet { bits: packet })
+    packet::read_all_frame_mode(Packet { bits: packet })
 }
 
 // Reads a receiver line control packet.
@@ -198,7 +198,7 @@ pub extern "C" fn mortisevane_read_all_frame_mode(packet: u32) -> AllFrameModeRe
 pub extern "C" fn mortisevane_read_receiver_lines(packet: u32) -> ReceiverLinesRead
     ensures { λ r. ⌜ r ≡ receiverLinesRead packet ⌝ }
 {
-    lines::read_receiver_lines(Packet { bits: packet })
+    packet::read_receiver_lines(Packet { bits: packet })
 }
 
 // Reads a receiver shut-down packet.
@@ -209,7 +209,7 @@ pub extern "C" fn mortisevane_read_receiver_lines(packet: u32) -> ReceiverLinesR
 pub extern "C" fn mortisevane_read_shut_down(packet: u32) -> ShutDownRead
     ensures { λ r. ⌜ r ≡ shutDownRead packet ⌝ }
 {
-    lines::read_shut_down(Packet { bits: packet })
+    packet::read_shut_down(Packet { bits: packet })
 }
 
 // Reads a frame assignment packet.
@@ -220,7 +220,7 @@ pub extern "C" fn mortisevane_read_shut_down(packet: u32) -> ShutDownRead
 pub extern "C" fn mortisevane_read_frame_assignment(packet: u32) -> FrameAssignmentRead
     ensures { λ r. ⌜ r ≡ frameAssignmentRead packet ⌝ }
 {
-    assigned::read_frame_assignment(Packet { bits: packet })
+    packet::read_frame_assignment(Packet { bits: packet })
 }
 
 // Reads a user address assignment packet.
@@ -231,7 +231,7 @@ pub extern "C" fn mortisevane_read_frame_assignment(packet: u32) -> FrameAssignm
 pub extern "C" fn mortisevane_read_user_address(packet: u32) -> UserAddressRead
     ensures { λ r. ⌜ r ≡ userAddressRead packet ⌝ }
 {
-    assigned::read_user_address(Packet { bits: packet })
+    packet::read_user_address(Packet { bits: packet })
 }
 
 // Reads a user address enable packet.
@@ -242,7 +242,7 @@ pub extern "C" fn mortisevane_read_user_address(packet: u32) -> UserAddressRead
 pub extern "C" fn mortisevane_read_address_enable(packet: u32) -> AddressEnableRead
     ensures { λ r. ⌜ r ≡ addressEnableRead packet ⌝ }
 {
-    assigned::read_address_enable(Packet { bits: packet })
+    packet::read_address_enable(Packet { bits: packet })
 }
 
 // Reads a part ID packet.
@@ -253,7 +253,7 @@ pub extern "C" fn mortisevane_read_address_enable(packet: u32) -> AddressEnableR
 pub extern "C" fn mortisevane_read_part_id(packet: u32) -> PartIdRead
     ensures { λ r. ⌜ r ≡ partIdRead packet ⌝ }
 {
-    reported::read_part_id(Packet { bits: packet })
+    packet::read_part_id(Packet { bits: packet })
 }
 
 // Reads a status packet.
@@ -264,7 +264,7 @@ pub extern "C" fn mortisevane_read_part_id(packet: u32) -> PartIdRead
 pub extern "C" fn mortisevane_read_status(packet: u32) -> StatusRead
     ensures { λ r. ⌜ r ≡ statusRead packet ⌝ }
 {
-    reported::read_status(Packet { bits: packet })
+    packet::read_status(Packet { bits: packet })
 }
 
 // Reads an address packet.
@@ -275,7 +275,7 @@ pub extern "C" fn mortisevane_read_status(packet: u32) -> StatusRead
 pub extern "C" fn mortisevane_read_address(packet: u32) -> AddressRead
     ensures { λ r. ⌜ r ≡ addressRead packet ⌝ }
 {
-    heard::read_address(Packet { bits: packet })
+    packet::read_address(Packet { bits: packet })
 }
 
 // Reads a vector packet.
@@ -286,7 +286,7 @@ pub extern "C" fn mortisevane_read_address(packet: u32) -> AddressRead
 pub extern "C" fn mortisevane_read_vector(packet: u32) -> VectorRead
     ensures { λ r. ⌜ r ≡ vectorRead packet ⌝ }
 {
-    vector::read_vector(Packet { bits: packet })
+    packet::read_vector(Packet { bits: packet })
 }
 
 // Reads a message packet.
@@ -297,7 +297,7 @@ pub extern "C" fn mortisevane_read_vector(packet: u32) -> VectorRead
 pub extern "C" fn mortisevane_read_message(packet: u32) -> MessageRead
     ensures { λ r. ⌜ r ≡ messageRead packet ⌝ }
 {
-    heard::read_message(Packet { bits: packet })
+    packet::read_message(Packet { bits: packet })
 }
 
 // Whether the host may send a packet.
@@ -308,5 +308,5 @@ pub extern "C" fn mortisevane_read_message(packet: u32) -> MessageRead
 pub extern "C" fn mortisevane_may_send(packet: u32) -> u32
     ensures { λ r. ⌜ r ≡ sendOf packet ⌝ }
 {
-    sending::may_send(Packet { bits: packet })
+    packet::may_send(Packet { bits: packet })
 }

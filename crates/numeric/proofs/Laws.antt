@@ -20,7 +20,7 @@ use Rattle.laws.proofs.Numerals.{digits-are, digits-low, digit-bits, pow-mul}
 use Rattle.laws.proofs.Rows.{all-append, all-replicate, map-at}
 use Rattle.laws.proofs.Tests.{first-of, second-of}
 use Rattle.sums.specs.Sums.{sixBits}
-use Rattle.vector.specs.Reads.{isNumeric}
+use Rattle.packet.specs.Vectors.{isNumeric}
 use Rattle.refusal.specs.declared.Refusal.the-variants as refusals
 use Rattle.refusal.specs.Told.{refused, given, numberTold}
 use Rattle.refusal.proofs.Laws.{passed}

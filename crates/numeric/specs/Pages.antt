@@ -9,8 +9,8 @@ use Rattle.laws.specs.Layouts.{Layout, field, size, fieldsOf, fit, packed}
 use Rattle.laws.specs.Lists.{placeIn, all}
 use Rattle.laws.specs.Numerals.{number, digits}
 use Rattle.laws.specs.Texts.{bytesOf}
-use Rattle.vector.specs.Tables.{numberedType}
-use Rattle.vector.specs.Reads.{isNumeric}
+use Rattle.packet.specs.VectorTables.{numberedType}
+use Rattle.packet.specs.Vectors.{isNumeric}
 use Rattle.sums.specs.Sums.{sixBits}
 use Rattle.sums.specs.Words.{wordBits}
 

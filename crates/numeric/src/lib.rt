@@ -3,9 +3,9 @@
 // `paging` writes pages and `page` reads them.
 ghost use mathlib.Core.Path.{_≡_};
 ghost use Rattle.laws.specs.Layouts.{size};
-ghost use Rattle.vector.specs.Reads.{isNumeric};
+ghost use Rattle.packet.specs.Vectors.{isNumeric};
 ghost use Rattle.numeric.specs.Pages.{headOf};
-use vector::Vector;
+use packet::Vector;
 
 // 01: "w words (1 to 8)".
 pub const MOST_WORDS: usize = 8;

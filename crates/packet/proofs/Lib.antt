@@ -1,1 +1,9 @@
+pub mod HeardExamples
+pub mod HeardLaws
 pub mod Laws
+pub mod RuleExamples
+pub mod RuleLaws
+pub mod SentExamples
+pub mod SentLaws
+pub mod VectorExamples
+pub mod VectorLaws

@@ -1,3 +1,9 @@
 pub mod Fields
+pub mod Heard
+pub mod HeardTables
 pub mod Names
+pub mod Rule
+pub mod Sent
 pub mod Tables
+pub mod VectorTables
+pub mod Vectors

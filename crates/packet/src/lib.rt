@@ -1,13 +1,67 @@
-// The packets between host and decoder: each ID's one name, and the packets that are built from their
-// fields (document 01, "Packets and the handshake"; S8.3.5, S8.3.7, S8.3.8). The tables that say where
-// a field stands are in specs/Tables. Every field is a number, so that one too large for its place can
-// be refused (7) wherever it comes from; a flag is 0 or 1.
+// The packets between host and decoder (document 01, "Packets and the handshake"): each ID's one name, and the packets that
+// are built from their fields (S8.3.5, S8.3.7, S8.3.8). Every field is a number, so that one too large for its place can be
+// refused (7) wherever it comes from; a flag is 0 or 1.
+//
+// Where each field stands is said by the data sheet's tables: specs/Tables for what the host sends, specs/HeardTables and
+// specs/VectorTables for what the decoder sends. How fields become bits, and bits fields, is in specs/Fields, specs/Sent,
+// specs/Heard and specs/Vectors; what the host may send is in specs/Rule. proofs/ has the laws and worked packets of each.
+// The same ID means one thing to the decoder and another from it, so the readers are apart by direction.
+
 ghost use mathlib.Core.Path.{_≡_};
 ghost use Rattle.packet.specs.Names.{allIDs};
 ghost use Rattle.packet.specs.Tables.{checksum, configuration, control, allFrameMode, receiverLines, shutDown, frameAssignment, userAddress, addressEnable, partId};
 ghost use Rattle.packet.specs.Fields.{builtOf, builtBy, ofChecksum, ofConfiguration, ofControl, ofAllFrameMode, ofReceiverLines, ofShutDown, ofFrameAssignment, ofUserAddress, ofAddressEnable, ofPartId};
+
+// What the host sends, read back into its fields.
+mod sent;
+
+// What the host may send.
+mod sending;
+
+// What the decoder sends, read into its fields: address, message, part ID and status packets.
+mod heard;
+
+// The vectors that the decoder sends, of every type, read into their fields.
+mod vectors;
+
+pub use heard::Address;
+pub use heard::AddressRead;
+pub use heard::Message;
+pub use heard::MessageRead;
+pub use heard::PartIdRead;
+pub use heard::Status;
+pub use heard::StatusRead;
+pub use heard::read_address;
+pub use heard::read_message;
+pub use heard::read_part_id;
+pub use heard::read_status;
 use refusal::Refusal;
 use refusal::kept;
+pub use sending::may_send;
+pub use sent::AddressEnableRead;
+pub use sent::AllFrameModeRead;
+pub use sent::ChecksumRead;
+pub use sent::ConfigurationRead;
+pub use sent::ControlRead;
+pub use sent::FrameAssignmentRead;
+pub use sent::ReceiverLinesRead;
+pub use sent::ShutDownRead;
+pub use sent::UserAddressRead;
+pub use sent::read_address_enable;
+pub use sent::read_all_frame_mode;
+pub use sent::read_checksum;
+pub use sent::read_configuration;
+pub use sent::read_control;
+pub use sent::read_frame_assignment;
+pub use sent::read_receiver_lines;
+pub use sent::read_shut_down;
+pub use sent::read_user_address;
+pub use vectors::Instruction;
+pub use vectors::ShortMessage;
+pub use vectors::Span;
+pub use vectors::Vector;
+pub use vectors::VectorRead;
+pub use vectors::read_vector;
 
 // 32 bits: the ID in the highest byte, 24 data bits behind it (Table 1).
 #[repr(C)]

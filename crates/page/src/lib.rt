@@ -14,8 +14,8 @@ ghost use Rattle.numeric.specs.Answers.{asNumbering, readOf, textAfter, asRead}
 use numeric::MOST_WORDS;
 use numeric::Numbering;
 use numeric::PageRead;
+use packet::Vector;
 use refusal::Refusal;
-use vector::Vector;
 
 // How many characters a page of so many words has room for.
 fn room_of(numbered: bool, words: usize) -> usize

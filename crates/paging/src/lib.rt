@@ -15,9 +15,9 @@ ghost use Rattle.paging.specs.Pieces.{threeFrom};
 use numeric::MOST_WORDS;
 use numeric::Numbering;
 use numeric::Written;
+use packet::Vector;
 use refusal::Refusal;
 use sums::WORD_LIMIT;
-use vector::Vector;
 
 // How many characters a page of so many words has room for.
 fn room_of(numbered: bool, words: usize) -> usize

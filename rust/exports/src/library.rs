@@ -46,9 +46,9 @@ const GROUPS: [(&str, &str, &str, &str); 6] = [
     ("refusal", "Refusal", "REFUSED", "The refusals, by the paper's numbers. A `number` of 0 says that nothing was refused."),
     ("ranges", "Class", "CLASS", "The classes of addresses."),
     ("packet", "Packet", "PACKET", "The IDs of packets, the highest byte of their 32 bits. The same ID means one thing to the decoder and another from it."),
-    ("vector", "Vector", "VECTOR", "The types of vectors."),
-    ("vector", "ShortMessage", "SHORT_MESSAGE", "The types of short messages."),
-    ("vector", "Instruction", "INSTRUCTION", "The types of short instructions."),
+    ("packet", "Vector", "VECTOR", "The types of vectors."),
+    ("packet", "ShortMessage", "SHORT_MESSAGE", "The types of short messages."),
+    ("packet", "Instruction", "INSTRUCTION", "The types of short instructions."),
 ];
 
 /// The name, what it is, and the crate and constant that it is.

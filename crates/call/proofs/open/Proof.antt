@@ -5,9 +5,9 @@ use mathlib.Core.List.{[]}
 use mathlib.Core.Path.{_≡_, sym, ap, _∙_}
 use borrow.Author.Tests.{not-true, not-false}
 use Rattle.refusal.specs.Told.{told, given}
-use Rattle.heard.specs.declared.Address.{Address}
-use Rattle.heard.specs.declared.AddressRead.{AddressRead}
-use Rattle.heard.specs.Reads.{addressRead}
+use Rattle.packet.specs.declared.heard.Address.{Address}
+use Rattle.packet.specs.declared.heard.AddressRead.{AddressRead}
+use Rattle.packet.specs.Heard.{addressRead}
 use Rattle.calls.specs.Calls.{opens, sound}
 use Rattle.calls.specs.Answers.{addressIn, telling, openingOf, asOpening}
 use Rattle.call.specs.Pieces.{openingCalls}

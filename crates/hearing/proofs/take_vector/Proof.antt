@@ -7,8 +7,8 @@ use borrow.Author.Tests.{eq-eqb, ne-eqb, not-true, not-false, lt-ltb, le-ltb}
 use lib.ListN.{length, getD, replicate, length-map}
 use Rattle.laws.specs.Choice.{pick}
 use Rattle.laws.specs.Lists.{put}
-use Rattle.vector.specs.declared.Vector.{Vector}
-use Rattle.vector.specs.Reads.{vectorOf}
+use Rattle.packet.specs.declared.vectors.Vector.{Vector}
+use Rattle.packet.specs.Vectors.{vectorOf}
 use Rattle.calls.specs.declared.Call.{Call}
 use Rattle.calls.specs.declared.CallHearing.{CallHearing}
 use Rattle.calls.specs.Calls.{blank, opens, hasVector}

@@ -6,8 +6,8 @@ use native.Mathlib.Omega.{arith}
 use borrow.Author.Tests.{eq-eqb, ne-eqb, lt-ltb, le-ltb, not-true, not-false}
 use lib.Dec.{eqb}
 use lib.ListN.{length, getD}
-use Rattle.heard.specs.declared.Message.{Message}
-use Rattle.vector.specs.Reads.{vectorOf, isVector}
+use Rattle.packet.specs.declared.heard.Message.{Message}
+use Rattle.packet.specs.Vectors.{vectorOf, isVector}
 use Rattle.calls.specs.Calls.{blank, opens, find, sound}
 use Rattle.calls.specs.Answers.{messageIn, vectorPlace, vectorTold, wordTold, asHearing}
 use Rattle.hearing.specs.Pieces.{vectorCalls, vectorMemory, wordMemory, refusing}
