@@ -1,3 +1,4 @@
-pub mod Masks
 pub mod Hearing
 pub mod Laws
+pub mod Masks
+pub mod WaitLaws

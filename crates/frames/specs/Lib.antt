@@ -1,2 +1,3 @@
 pub mod Listening
 pub mod Repeating
+pub mod Waiting

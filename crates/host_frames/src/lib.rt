@@ -4,12 +4,12 @@
 ghost use mathlib.Core.Path.{_≡_};
 ghost use lib.ListN.{take};
 ghost use Rattle.frames.specs.Listening.{listened, toldListening};
-ghost use Rattle.waiting.specs.Waiting.{waited, toldAwaited};
+ghost use Rattle.frames.specs.Waiting.{waited, toldAwaited};
 ghost use Rattle.host_frames.specs.Flat.{framesFrom, waitFrom};
+use frames::Awaited;
 use frames::Listened;
 use frames::Listeners;
 use frames::Listening;
-use waiting::Awaited;
 
 // The number of frames listened to, and the masks of packets 20H to 27H.
 #[repr(C)]
@@ -46,7 +46,7 @@ fn wait_told(answer: Awaited) -> MortisevaneWait
 pub extern "C" fn mortisevane_frames_wait(from: u8, to: u8) -> MortisevaneWait
     ensures { λ r. ⌜ r ≡ waitFrom (waited from to) ⌝ }
 {
-    wait_told(waiting::wait(from, to))
+    wait_told(frames::wait(from, to))
 }
 
 fn frames_told(answer: Listening) -> MortisevaneFrames

@@ -1,8 +1,8 @@
 -- `wait_told` meets its contract: the answer is told, and its numbers stand in their fields.
 use Prim.Native.Nat.{ℕ}
 use mathlib.Core.Path.{ap, sym, _∙_}
-use Rattle.waiting.specs.declared.Awaited.{Awaited}
-use Rattle.waiting.specs.Waiting.{toldAwaited}
+use Rattle.frames.specs.declared.Awaited.{Awaited}
+use Rattle.frames.specs.Waiting.{toldAwaited}
 use Rattle.host_frames.specs.declared.MortisevaneWait.{MortisevaneWait}
 use Rattle.host_frames.specs.Flat.{waitFrom}
 use borrow.Author.Needs.{needs}

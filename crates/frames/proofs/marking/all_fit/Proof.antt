@@ -6,8 +6,8 @@ use lib.ListN.{length, take, drop}
 use Rattle.frames.specs.Listening.{allFit}
 use Rattle.frames.proofs.Hearing.{looked, ask-frame, ask-collapse, ask-others, ask-none}
 use borrow.Author.Needs.{needs}
-use Rattle.frames.proofs.all_fit.Statement.{statement}
-use Rattle.frames.proofs.all_fit.Tie as tie
+use Rattle.frames.proofs.marking.all_fit.Statement.{statement}
+use Rattle.frames.proofs.marking.all_fit.Tie as tie
 
 abbrev Inv-loop : tie.InvT-loop
 Inv-loop count listeners size i₀ i =

@@ -9,8 +9,8 @@ use Rattle.frames.proofs.Masks.{repeated}
 use Rattle.frames.proofs.Hearing.{heard-repeats}
 use Rattle.frames.proofs.Laws.{counted}
 use borrow.Author.Needs.{needs}
-use Rattle.frames.proofs.listen.Statement.{statement}
-use Rattle.frames.proofs.listen.Tie as tie
+use Rattle.frames.proofs.marking.listen.Statement.{statement}
+use Rattle.frames.proofs.marking.listen.Tie as tie
 
 -- past the first test every listener fits
 fit : (c : tie.Else1) → allFit (take (c .before .before .before .args .all .count) (c .before .before .before .args .all .listeners)) ≡ true

@@ -7,8 +7,8 @@ use lib.ListN.{length, take}
 use Rattle.frames.specs.Listening.{heard, maskFrom, allFit}
 use Rattle.frames.proofs.Hearing.{looked, fit-among, merge-more}
 use borrow.Author.Needs.{needs}
-use Rattle.frames.proofs.merged.Statement.{statement}
-use Rattle.frames.proofs.merged.Tie as tie
+use Rattle.frames.proofs.marking.merged.Statement.{statement}
+use Rattle.frames.proofs.marking.merged.Tie as tie
 
 abbrev Inv-loop : tie.InvT-loop
 Inv-loop count listeners size marked₀ i₀ marked i = (i ≤ size) × (marked ≡ maskFrom (heard (take i listeners)) 0 32)

@@ -1,13 +1,8 @@
 // The wait for a temporary address (document 01, "Fragments"; S8.8.4).
 ghost use mathlib.Core.Path.{_≡_};
-ghost use Rattle.waiting.specs.Waiting.{waited, toldAwaited};
+ghost use Rattle.frames.specs.Waiting.{waited, toldAwaited};
+use crate::Awaited;
 use refusal::Refusal;
-
-// The wait in frames, or the refusal.
-pub enum Awaited {
-    Frames(u32),
-    Refused(Refusal),
-}
 
 // How many frames it is from the present frame to a designated one.
 pub fn wait(from: u8, to: u8) -> Awaited

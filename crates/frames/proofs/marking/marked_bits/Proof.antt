@@ -10,8 +10,8 @@ use mir.Syntax.{w16}
 use mir.Val.{Fits}
 use Rattle.frames.proofs.Masks.{ones-more}
 use Rattle.frames.specs.Listening.{onesOf}
-use Rattle.frames.proofs.marked_bits.Statement.{statement}
-use Rattle.frames.proofs.marked_bits.Tie as tie
+use Rattle.frames.proofs.marking.marked_bits.Statement.{statement}
+use Rattle.frames.proofs.marking.marked_bits.Tie as tie
 
 abbrev Inv-loop : tie.InvT-loop
 Inv-loop masks count₀ i₀ count i = (i ≤ 8) × (count ≤ 16 * i) × (count ≡ onesOf (take i masks))

@@ -1,9 +1,9 @@
 -- `wait` meets its contract: each return stands behind the tests that the definition asks.
 use borrow.Author.Needs.{needs}
 use borrow.Author.Tests.{le-leb, lt-leb}
-use Rattle.waiting.specs.Waiting.{waited}
-use Rattle.waiting.proofs.wait.Statement.{statement}
-use Rattle.waiting.proofs.wait.Tie as tie
+use Rattle.frames.specs.Waiting.{waited}
+use Rattle.frames.proofs.waiting.wait.Statement.{statement}
+use Rattle.frames.proofs.waiting.wait.Tie as tie
 
 returns : tie.Need-returns
 unfolding waited

@@ -6,8 +6,8 @@ use borrow.Author.Tests.{le-leb}
 use native.Mathlib.Omega.{arith}
 use Rattle.refusal.specs.Told.{given}
 use Rattle.refusal.proofs.Laws.{given-not-refused, refused-tells}
-use Rattle.waiting.specs.declared.Awaited.{Awaited}
-use Rattle.waiting.specs.Waiting.{waited, toldAwaited}
+use Rattle.frames.specs.declared.Awaited.{Awaited}
+use Rattle.frames.specs.Waiting.{waited, toldAwaited}
 
 -- two waits that are told alike are the same
 pub awaited-tells : (a b : Awaited) → toldAwaited a ≡ toldAwaited b → a ≡ b

@@ -6,8 +6,8 @@ use native.Mathlib.Omega.{arith}
 use lib.Pow.{shl-exact, pow-pos, pow-mono}
 use Rattle.frames.proofs.Hearing.{comb-of}
 use borrow.Author.Needs.{needs}
-use Rattle.frames.proofs.mask.Statement.{statement}
-use Rattle.frames.proofs.mask.Tie as tie
+use Rattle.frames.proofs.marking.mask.Statement.{statement}
+use Rattle.frames.proofs.marking.mask.Tie as tie
 
 cast-collapse : tie.Need-cast-collapse
 cast-collapse c = search needs

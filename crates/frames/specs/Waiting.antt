@@ -5,7 +5,7 @@ use mathlib.Core.List.{[], _∷_}
 use lib.Dec.{leb}
 use Rattle.refusal.specs.declared.Refusal.the-variants.{Packet}
 use Rattle.refusal.specs.Told.{Told, refused, given, ask}
-use Rattle.waiting.specs.declared.Awaited.{Awaited}
+use Rattle.frames.specs.declared.Awaited.{Awaited}
 
 -- 01, "Temporary address wait": "from frame c to designated frame d it is (d - c) mod 128 frames"; 7 for a frame over 127
 unfoldable pub waited : ℕ → ℕ → Told
