@@ -6,9 +6,9 @@ use native.Mathlib.Numerals.{add-one}
 use lib.ListN.{length, getD, drop, drop-of-length-le}
 use lib.Seq.{drop-cons}
 use borrow.Author.Tests.{eq-eqb}
-use Rattle.capcode.specs.declared.Reading.{Reading}
-use Rattle.capcode.specs.declared.Step.{Step}
-use Rattle.capcode.specs.declared.Form.{Form}
+use Rattle.capcode.specs.declared.reading.Reading.{Reading}
+use Rattle.capcode.specs.declared.reading.Step.{Step}
+use Rattle.capcode.specs.declared.reading.Form.{Form}
 use Rattle.capcode.specs.Reads.{stepOf, going, stopped, onward, follow, endOf}
 use Rattle.capcode.specs.Underway.{Sound}
 use Rattle.capcode.proofs.Sound.{sound-step}

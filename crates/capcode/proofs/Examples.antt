@@ -5,7 +5,7 @@ use mathlib.Core.List.{List, [], _∷_, map}
 use Rattle.laws.specs.Texts.{bytesOf}
 use Rattle.refusal.specs.declared.Refusal.the-variants.{Text, «Type», Range, Offset}
 use Rattle.refusal.specs.Told.{Told, refused, given}
-use Rattle.ranges.specs.Ranges.{rows, classIn, classOf}
+use Rattle.capcode.specs.Ranges.{rows, classIn, classOf}
 use Rattle.capcode.specs.Assigned.{asked}
 use Rattle.capcode.specs.Reads.{stepOf, follow, formOf, readOf}
 

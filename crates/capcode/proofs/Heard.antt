@@ -11,9 +11,9 @@ use lib.Seq.{append-snoc}
 use borrow.Author.Tests.{eqb-false, eq-eqb, ne-eqb, not-true}
 use Rattle.laws.specs.Choice.{pick}
 use Rattle.capcode.specs.declared.Capcode.{Capcode}
-use Rattle.capcode.specs.declared.Reading.{Reading}
-use Rattle.capcode.specs.declared.Step.{Step}
-use Rattle.capcode.specs.declared.Form.{Form}
+use Rattle.capcode.specs.declared.reading.Reading.{Reading}
+use Rattle.capcode.specs.declared.reading.Step.{Step}
+use Rattle.capcode.specs.declared.reading.Form.{Form}
 use Rattle.capcode.specs.Text.{digits, textOf, Sayable}
 use Rattle.capcode.specs.Reads.{letterGoesOn, stepOf, Course, going, stopped, onward, follow, blank, isWhole, saidBy, endOf, formOf}
 use Rattle.capcode.specs.Underway.{Sound}

@@ -10,9 +10,9 @@ use Rattle.refusal.specs.declared.Refusal.{Refusal}
 use Rattle.refusal.specs.declared.Refusal.the-variants.{Text, «Type», Range, Offset, Packet}
 use Rattle.refusal.specs.Told.{Told, refused, given, ask}
 use Rattle.refusal.proofs.Laws.{given-not-refused}
-use Rattle.ranges.specs.Ranges.{accepted}
+use Rattle.capcode.specs.Ranges.{accepted}
 use Rattle.capcode.specs.declared.Capcode.{Capcode}
-use Rattle.capcode.specs.declared.Judged.{Judged}
+use Rattle.capcode.specs.declared.assigning.Judged.{Judged}
 use Rattle.capcode.specs.Assigned.{Fine, standard, framed, allPhase, offsetOf, fieldsFit, asked, toldJudged}
 use Rattle.laws.proofs.Tests.{first-of, other-of}
 

@@ -10,11 +10,11 @@ use lib.Dec.{leb}
 use Rattle.laws.proofs.Tests.{first-of, second-of, other-of, neither}
 use Rattle.refusal.specs.Told.{Told}
 use Rattle.refusal.proofs.Laws.{toldValues, given-not-refused, refused-tells}
-use Rattle.ranges.proofs.Bounds.{accepted-below}
+use Rattle.capcode.proofs.Bounds.{accepted-below}
 use Rattle.capcode.specs.declared.Capcode.{Capcode}
 use Rattle.capcode.specs.declared.AssignAnswer.{AssignAnswer}
 use Rattle.capcode.specs.declared.ReadAnswer.{ReadAnswer}
-use Rattle.capcode.specs.declared.Form.{Form}
+use Rattle.capcode.specs.declared.reading.Form.{Form}
 use Rattle.capcode.specs.Assigned.{Fine, standard, framed, anyPhase, fieldsFit, phaseOf, baseOf, toldAssign}
 use Rattle.capcode.specs.Text.{textOf, Sayable}
 use Rattle.capcode.specs.Reads.{formOf, toldRead}

@@ -12,9 +12,9 @@ use borrow.Author.Tests.{le-leb, leb-true, leb-false, eqb-true, eqb-false, ne-eq
 use Rattle.laws.specs.Choice.{pick}
 use Rattle.laws.proofs.Tests.{first-of, second-of, one-of}
 use Rattle.capcode.specs.declared.Capcode.{Capcode}
-use Rattle.capcode.specs.declared.Reading.{Reading}
-use Rattle.capcode.specs.declared.Step.{Step}
-use Rattle.capcode.specs.declared.Form.{Form}
+use Rattle.capcode.specs.declared.reading.Reading.{Reading}
+use Rattle.capcode.specs.declared.reading.Step.{Step}
+use Rattle.capcode.specs.declared.reading.Form.{Form}
 use Rattle.capcode.specs.Reads.{isDigit, headGoesOn, letterGoesOn, addressGoesOn, withHead, withLetter, withAddress, addressDigit, stepOf, Course, going, stopped, onward, follow, blank, isWhole, saidBy, endOf, formOf}
 use Rattle.capcode.specs.Underway.{Digits, Sound}
 use Rattle.capcode.proofs.Steps.{step-head, step-letter, step-address}

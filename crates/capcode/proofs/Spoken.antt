@@ -8,9 +8,9 @@ use native.Mathlib.Numerals.{add-one}
 use native.Mathlib.Omega.{arith}
 use borrow.Author.Tests.{leb-true, le-leb, lt-leb, ne-eqb}
 use Rattle.capcode.specs.declared.Capcode.{Capcode}
-use Rattle.capcode.specs.declared.Reading.{Reading}
-use Rattle.capcode.specs.declared.Step.{Step}
-use Rattle.capcode.specs.declared.Form.{Form}
+use Rattle.capcode.specs.declared.reading.Reading.{Reading}
+use Rattle.capcode.specs.declared.reading.Step.{Step}
+use Rattle.capcode.specs.declared.reading.Form.{Form}
 use Rattle.capcode.specs.Text.{digits, widthOf, headOf, textOf, Sayable}
 use Rattle.capcode.specs.Reads.{isDigit, headGoesOn, letterGoesOn, addressGoesOn, withLetter, stepOf, Course, going, takes, onward, follow, blank, endOf, formOf}
 use Rattle.capcode.specs.Underway.{Digits}

@@ -5,8 +5,8 @@ use mathlib.Core.Path.{_≡_, refl, ap, _∙_}
 use native.Mathlib.Omega.{arith}
 use lib.Dec.{leb, eqb}
 use borrow.Author.Tests.{eq-eqb, ne-eqb, eqb-true, eqb-false, leb-true}
-use Rattle.capcode.specs.declared.Reading.{Reading}
-use Rattle.capcode.specs.declared.Step.{Step}
+use Rattle.capcode.specs.declared.reading.Reading.{Reading}
+use Rattle.capcode.specs.declared.reading.Step.{Step}
 use Rattle.capcode.specs.Reads.{isDigit, headGoesOn, letterGoesOn, addressGoesOn, goOn, withHead, withLetter, withAddress, headDigit, theLetter, addressDigit, stepOf}
 use Rattle.laws.proofs.Tests.{first-of, second-of}
 

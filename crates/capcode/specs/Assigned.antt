@@ -8,10 +8,10 @@ use lib.Dec.{leb, ltb, eqb}
 use Rattle.laws.specs.Choice.{pick}
 use Rattle.refusal.specs.declared.Refusal.the-variants.{Text, «Type», Range, Offset, Packet}
 use Rattle.refusal.specs.Told.{Told, refused, given, ask}
-use Rattle.ranges.specs.Ranges.{accepted}
+use Rattle.capcode.specs.Ranges.{accepted}
 use Rattle.capcode.specs.declared.Capcode.{Capcode}
 use Rattle.capcode.specs.declared.AssignAnswer.{AssignAnswer}
-use Rattle.capcode.specs.declared.Judged.{Judged}
+use Rattle.capcode.specs.declared.assigning.Judged.{Judged}
 
 -- A to L: phase and frame by the standard rules
 abbrev pub standard : ℕ → Bool

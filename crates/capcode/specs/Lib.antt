@@ -1,4 +1,7 @@
 pub mod Assigned
-pub mod Text
+pub mod Printed
+pub mod Ranges
 pub mod Reads
+pub mod Text
 pub mod Underway
+pub mod Words

@@ -3,7 +3,7 @@ use Prim.Native.Nat.{ℕ, zero, suc, _/_}
 use mathlib.Core.Bool.{Bool, true}
 use mathlib.Core.Path.{_≡_}
 use mathlib.Core.Logic.{_⊎_}
-use Rattle.capcode.specs.declared.Reading.{Reading}
+use Rattle.capcode.specs.declared.reading.Reading.{Reading}
 use Rattle.capcode.specs.Reads.{headGoesOn, letterGoesOn, addressGoesOn}
 
 -- a number of so many digits of which a test held at each digit

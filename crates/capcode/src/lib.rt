@@ -1,13 +1,89 @@
-// CAPCODEs (document 01, "CAPCODE text"; S8.6.2): what one says, and the phase and base frame that it assigns (S8.6.5). What
-// its text is and how that is read is said in specs/, with the laws of it in proofs/; the functions are in `capcode_text` and
-// `label`.
+// CAPCODEs (document 01, "CAPCODE text"; S8.6): from the text on a label to the words that the decoder is given, and back.
+// A CAPCODE is characters: its zeros stay.
+//
+// The definitions, in the order of the paper: which addresses are accepted (specs/Ranges), the words of an address
+// (specs/Words), what a CAPCODE assigns (specs/Assigned), its text (specs/Text), how a text is read (specs/Reads, and
+// specs/Underway for a reader in the middle of one) and printed (specs/Printed). The laws: proofs/RangeLaws and
+// proofs/Bounds, proofs/WordLaws, proofs/Laws and proofs/Places (which texts are read as what, and where a wrong one goes
+// wrong), proofs/PrintLaws.
+
 ghost use mathlib.Core.Path.{_≡_};
-ghost use lib.Dec.{ltb};
-ghost use Rattle.refusal.specs.Told.{Told};
-ghost use Rattle.ranges.specs.Ranges.{accepted};
-ghost use Rattle.capcode.specs.Assigned.{Fine, standard, framed, anyPhase, allPhase, offsetOf, phaseOf, baseOf, fieldsFit, asked, assigned, toldJudged, toldAssign};
-use ranges::Classed;
+ghost use Rattle.capcode.specs.Ranges.{classNumber};
+
+// The accepted ranges of addresses, and the class of an address.
+mod ranges;
+
+// The words of an address, and the address of words.
+mod words;
+
+// The phase and base frame that a CAPCODE assigns.
+mod assigning;
+
+// A text read as a CAPCODE.
+mod reading;
+
+// A CAPCODE printed as text.
+mod printing;
+
+pub use assigning::assign;
+pub use printing::print;
+pub use ranges::class_of;
+pub use reading::read;
 use refusal::Refusal;
+pub use words::pair_address;
+pub use words::word_address;
+pub use words::words_of;
+
+// What an accepted address is for: a row of Table 22, by 01's words.
+pub enum Class {
+    Short,
+    InformationService,
+    Network,
+    Operator,
+    Set12,
+    Set13,
+    Set14,
+    Set23Country,
+    Set23InformationService,
+}
+
+impl Class {
+    // The class as a number: 01's rows in order, 1 to 9.
+    pub fn number(self) -> u32
+        ensures { λ r. ⌜ r ≡ classNumber self ⌝ }
+    {
+        match self {
+            Class::Short => 1,
+            Class::InformationService => 2,
+            Class::Network => 3,
+            Class::Operator => 4,
+            Class::Set12 => 5,
+            Class::Set13 => 6,
+            Class::Set14 => 7,
+            Class::Set23Country => 8,
+            Class::Set23InformationService => 9,
+        }
+    }
+}
+
+// The class of an address, or 5 where no accepted range holds it.
+pub enum Classed {
+    In(Class),
+    Refused(Refusal),
+}
+
+// The words of an address, as the decoder's address packets take them.
+pub enum Worded {
+    One(u32),
+    Two(u32, u32),
+    Refused(Refusal),
+}
+
+// The address that words belong to.
+pub enum Addressed {
+    Address(u64),
+    Refused(Refusal),
+}
 
 // What a CAPCODE says. The letter is its byte. `frame` is the three frame digits of U to Z; A to L have
 // none, and there it is 0. A collapse of 4 is what A to L mean where they have no digit.
@@ -36,171 +112,11 @@ pub enum ReadAnswer {
     Refused(Refusal),
 }
 
-// Whether a CAPCODE is one that may be used.
-pub enum Judged {
-    Fine,
-    Refused(Refusal),
-}
-
-// Where the reading of a text stands: how many digits came before the letter and their number, the letter
-// (0 while none came), how many digits came after it and their number.
-pub struct Reading {
-    pub before: u32,
-    pub number: u32,
-    pub letter: u8,
-    pub after: u32,
-    pub address: u64,
-}
-
-// One byte more: the reading goes on, or no correct text goes on so.
-pub enum Step {
-    On(Reading),
-    Stop,
-}
-
-// A text in the form and what it says, or the first place at which no correct text could go on: the
-// text's length where it only stops too soon.
-pub enum Form {
-    Says(Capcode),
-    Wrong(usize),
-}
-
 // 01: "An address up to 2031614 is seven digits; a larger one is ten".
 pub const LAST_OF_SEVEN: u64 = 2031614;
 
-// A to L: phase and base frame come from the address.
-fn is_standard(letter: u8) -> bool
-    ensures { λ r. ⌜ r ≡ standard letter ⌝ }
-{
-    (b'A' <= letter) & (letter <= b'L')
-}
-
-// U to Z: the base frame stands in the text.
-fn is_framed(letter: u8) -> bool
-    ensures { λ r. ⌜ r ≡ framed letter ⌝ }
-{
-    (b'U' <= letter) & (letter <= b'Z')
-}
-
-fn is_any_phase(letter: u8) -> bool
-    ensures { λ r. ⌜ r ≡ anyPhase letter ⌝ }
-{
-    ((b'E' <= letter) & (letter <= b'H')) | (letter == b'Y')
-}
-
-fn is_all_phase(letter: u8) -> bool
-    ensures { λ r. ⌜ r ≡ allPhase letter ⌝ }
-{
-    ((b'I' <= letter) & (letter <= b'L')) | (letter == b'Z')
-}
-
-// What is taken off the address before phase and base frame are counted (Table 25).
-fn offset_of(letter: u8) -> u64
-    ensures { λ r. ⌜ r ≡ offsetOf letter ⌝ }
-{
-    if is_standard(letter) {
-        ((letter - b'A') % 4) as u64
-    } else {
-        0
-    }
-}
-
-fn is_below_offset(c: Capcode) -> bool
-    ensures { λ r. ⌜ r ≡ ltb (c .address) (offsetOf (c .letter)) ⌝ }
-{
-    c.address < offset_of(c.letter)
-}
-
-fn is_accepted(address: u64) -> bool
-    ensures { λ r. ⌜ r ≡ accepted address ⌝ }
-{
-    match ranges::class_of(address) {
-        Classed::In(_) => true,
-        Classed::Refused(_) => false,
-    }
-}
-
-fn fields_fit(c: Capcode) -> bool
-    ensures { λ r. ⌜ r ≡ fieldsFit c ⌝ }
-{
-    if is_standard(c.letter) {
-        (c.collapse <= 5) & (c.frame == 0)
-    } else {
-        (c.collapse <= 5) & (c.frame <= 127)
-    }
-}
-
-// What is asked of every CAPCODE before it is used, in 01's order: the first refusal is the answer, and no more is asked.
-fn judge(c: Capcode) -> Judged
-    ensures { λ r. ⌜ ((rest : Told) → toldJudged r rest ≡ asked c rest) ⌝ }
-{
-    let lettered = is_standard(c.letter) | is_framed(c.letter);
-    if !lettered {
-        return Judged::Refused(Refusal::Text);
-    }
-    let all_phase = is_all_phase(c.letter);
-    if all_phase {
-        return Judged::Refused(Refusal::Type);
-    }
-    let accepted = is_accepted(c.address);
-    if !accepted {
-        return Judged::Refused(Refusal::Range);
-    }
-    let below = is_below_offset(c);
-    if below {
-        return Judged::Refused(Refusal::Offset);
-    }
-    let fit = fields_fit(c);
-    if !fit {
-        return Judged::Refused(Refusal::Packet);
-    }
-    Judged::Fine
-}
-
-// The phase of a CAPCODE that was judged fine.
-fn phase_of(c: Capcode) -> u8
-    requires { ⌜ Fine c ⌝ }
-    ensures { λ r. ⌜ r ≡ phaseOf c ⌝ }
-{
-    if is_any_phase(c.letter) {
-        return 4;
-    }
-    if is_standard(c.letter) {
-        ((c.address - offset_of(c.letter)) / 4 % 4) as u8
-    } else {
-        c.letter - b'U'
-    }
-}
-
-// The base frame of a CAPCODE that was judged fine.
-fn base_of(c: Capcode) -> u8
-    requires { ⌜ Fine c ⌝ }
-    ensures { λ r. ⌜ r ≡ baseOf c ⌝ }
-{
-    if is_standard(c.letter) {
-        ((c.address - offset_of(c.letter)) / 16 % 128) as u8
-    } else {
-        c.frame
-    }
-}
-
-// The phase and the base frame of a CAPCODE that was judged fine.
-fn placed(c: Capcode) -> Assignment
-    requires { ⌜ Fine c ⌝ }
-    ensures { λ r. ⌜ (r .phase ≡ phaseOf c) × (r .frame ≡ baseOf c) ⌝ }
-{
-    Assignment {
-        phase: phase_of(c),
-        frame: base_of(c),
-    }
-}
-
-// The phase and the base frame of a CAPCODE (S8.6.5), or the first refusal.
-pub fn assign(c: Capcode) -> AssignAnswer
-    ensures { λ r. ⌜ toldAssign r ≡ assigned c ⌝ }
-{
-    match judge(c) {
-        Judged::Fine => AssignAnswer::Assigned(placed(c)),
-        Judged::Refused(r) => AssignAnswer::Refused(r),
-    }
+// How many bytes were written, or the refusal.
+pub enum PrintAnswer {
+    Length(usize),
+    Refused(Refusal),
 }

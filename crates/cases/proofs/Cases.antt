@@ -4,9 +4,9 @@ use mathlib.Core.List.{map}
 use mathlib.Core.Path.{_≡_, refl}
 use Rattle.laws.specs.Lists.{placeIn, upFrom}
 use Rattle.laws.specs.Numerals.{number, digits}
-use Rattle.ranges.specs.Ranges.{rows, classIn, classOf}
+use Rattle.capcode.specs.Ranges.{rows, classIn, classOf}
 use Rattle.refusal.specs.Told.{Told}
-use Rattle.address.specs.Words.{wordsOf}
+use Rattle.capcode.specs.Words.{wordsOf}
 use Rattle.capcode.specs.Assigned.{asked}
 use Rattle.capcode.specs.Reads.{stepOf, follow, formOf}
 use Rattle.mirror.specs.Handshake.{runOf}

@@ -14,7 +14,7 @@ use Rattle.laws.specs.Texts.{bytesOf}
 use Rattle.refusal.specs.declared.Refusal.{Refusal}
 use Rattle.refusal.specs.Told.{Told, told, numberOf, refused}
 use Rattle.refusal.proofs.Laws.{number-positive, given-head, given-tells}
-use Rattle.ranges.specs.Ranges.{rows, classIn, classOf}
+use Rattle.capcode.specs.Ranges.{rows, classIn, classOf}
 use Rattle.frames.specs.declared.Listener.{Listener}
 use Rattle.frames.specs.Listening.{listens, heard, countFrom, countOf, maskFrom, masksOf, onesOf}
 use Rattle.message.specs.Fragments.{cellsOf, wordsOf, fragmentOf, withoutFill}

@@ -12,11 +12,11 @@ use Rattle.laws.proofs.Tests.{decided}
 use Rattle.refusal.specs.declared.Refusal.{Refusal}
 use Rattle.refusal.specs.declared.Refusal.the-variants as refusals
 use Rattle.refusal.specs.Told.{Told, numberOf, order, given, ask, numberTold}
-use Rattle.ranges.specs.declared.Classed.{Classed}
-use Rattle.ranges.specs.Ranges.{classOf, found}
-use Rattle.address.specs.Words.{layoutOf, wordsAs, wordsOf, addressOf}
-use Rattle.address.proofs.Fits.{known-class}
-use Rattle.address.proofs.Laws.{there-and-back}
+use Rattle.capcode.specs.declared.Classed.{Classed}
+use Rattle.capcode.specs.Ranges.{classOf, found}
+use Rattle.capcode.specs.Words.{layoutOf, wordsAs, wordsOf, addressOf}
+use Rattle.capcode.proofs.Fits.{known-class}
+use Rattle.capcode.proofs.WordLaws.{there-and-back}
 use Rattle.frames.specs.Listening.{heard, countOf}
 use Rattle.frames.proofs.Laws.{counted}
 use Rattle.sums.specs.Words.{undamaged}

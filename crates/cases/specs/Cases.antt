@@ -4,7 +4,7 @@ use mathlib.Core.Bool.{true, false}
 use mathlib.Core.List.{List, [], _∷_}
 use Rattle.laws.specs.Texts.{bytesOf}
 use Rattle.refusal.specs.Told.{Told, told, given, numberTold, valueTold}
-use Rattle.address.specs.Words.{wordsOf}
+use Rattle.capcode.specs.Words.{wordsOf}
 use Rattle.capcode.specs.Reads.{readOf}
 use Rattle.frames.specs.declared.Listener.{Listener}
 use Rattle.frames.specs.Listening.{heard, framesFrom}

@@ -10,7 +10,7 @@ use Rattle.laws.specs.Choice.{pick}
 use Rattle.refusal.specs.declared.Refusal.{Refusal}
 use Rattle.refusal.specs.declared.Refusal.the-variants as refusals
 use Rattle.refusal.specs.Told.{Told, given, numberOf, numberTold}
-use Rattle.ranges.specs.Ranges.{accepted}
+use Rattle.capcode.specs.Ranges.{accepted}
 use Rattle.frames.specs.declared.Listener.{Listener}
 use Rattle.frames.specs.Listening.{heard, masksOf, onesOf}
 use Rattle.sums.specs.Words.{undamaged}

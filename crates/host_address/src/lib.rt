@@ -3,12 +3,12 @@
 // of the refusal; every other field is then 0.
 ghost use mathlib.Core.Path.{_≡_};
 ghost use mathlib.Core.List.{[], _∷_};
-ghost use Rattle.ranges.specs.Ranges.{classOf, toldClassed};
-ghost use Rattle.address.specs.Words.{wordsOf, addressOf, toldWorded, toldAddressed};
+ghost use Rattle.capcode.specs.Ranges.{classOf, toldClassed};
+ghost use Rattle.capcode.specs.Words.{wordsOf, addressOf, toldWorded, toldAddressed};
 ghost use Rattle.host_address.specs.Flat.{classFrom, wordsFrom, addressFrom};
-use address::Addressed;
-use address::Worded;
-use ranges::Classed;
+use capcode::Addressed;
+use capcode::Classed;
+use capcode::Worded;
 
 // The class of an address, 1 to 9 by 01's rows.
 #[repr(C)]
@@ -56,7 +56,7 @@ fn class_told(answer: Classed) -> MortisevaneClass
 pub extern "C" fn mortisevane_address_class(address: u64) -> MortisevaneClass
     ensures { λ r. ⌜ r ≡ classFrom (toldClassed (classOf address)) ⌝ }
 {
-    class_told(ranges::class_of(address))
+    class_told(capcode::class_of(address))
 }
 
 fn words_told(answer: Worded) -> MortisevaneWords
@@ -92,7 +92,7 @@ fn words_told(answer: Worded) -> MortisevaneWords
 pub extern "C" fn mortisevane_address_words(address: u64) -> MortisevaneWords
     ensures { λ r. ⌜ r ≡ wordsFrom (wordsOf address) ⌝ }
 {
-    words_told(address::words_of(address))
+    words_told(capcode::words_of(address))
 }
 
 fn address_told(answer: Addressed) -> MortisevaneFound
@@ -115,7 +115,7 @@ fn address_told(answer: Addressed) -> MortisevaneFound
 pub extern "C" fn mortisevane_word_address(word: u32) -> MortisevaneFound
     ensures { λ r. ⌜ r ≡ addressFrom (addressOf (word ∷ [])) ⌝ }
 {
-    address_told(addressed::word_address(word))
+    address_told(capcode::word_address(word))
 }
 
 // The address that two words belong to.
@@ -126,5 +126,5 @@ pub extern "C" fn mortisevane_word_address(word: u32) -> MortisevaneFound
 pub extern "C" fn mortisevane_pair_address(first: u32, second: u32) -> MortisevaneFound
     ensures { λ r. ⌜ r ≡ addressFrom (addressOf (first ∷ second ∷ [])) ⌝ }
 {
-    address_told(addressed::pair_address(first, second))
+    address_told(capcode::pair_address(first, second))
 }

@@ -5,12 +5,12 @@ ghost use mathlib.Core.Path.{_≡_};
 ghost use lib.ListN.{length};
 ghost use Rattle.capcode.specs.Assigned.{assigned, toldAssign};
 ghost use Rattle.capcode.specs.Reads.{readOf, toldRead};
-ghost use Rattle.label.specs.Printed.{printOf, bufferAfter, toldPrint};
+ghost use Rattle.capcode.specs.Printed.{printOf, bufferAfter, toldPrint};
 ghost use Rattle.host_capcode.specs.Flat.{capcodeOf, capcodeFrom, assignmentFrom, lengthFrom};
 use capcode::AssignAnswer;
 use capcode::Capcode;
+use capcode::PrintAnswer;
 use capcode::ReadAnswer;
-use label::PrintAnswer;
 
 // A CAPCODE: its letter, the three frame digits of U to Y (0 with A to H), its collapse and address; and
 // the phase (0 to 3 for A to D, 4 for any-phase) and base frame that it assigns.
@@ -73,7 +73,7 @@ fn capcode_told(answer: ReadAnswer) -> MortisevaneCapcode
 pub extern "C" fn mortisevane_capcode_read(text: &[u8]) -> MortisevaneCapcode
     ensures { λ r. ⌜ r ≡ capcodeFrom (readOf (now (text .entry))) ⌝ }
 {
-    capcode_told(capcode_text::read(text))
+    capcode_told(capcode::read(text))
 }
 
 fn assignment_told(answer: AssignAnswer) -> MortisevaneAssignment
@@ -149,5 +149,5 @@ pub extern "C" fn mortisevane_capcode_print(
         collapse,
         address,
     };
-    length_told(label::print(c, out))
+    length_told(capcode::print(c, out))
 }

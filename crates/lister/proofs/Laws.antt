@@ -11,12 +11,12 @@ use Rattle.laws.specs.Choice.{pick}
 use Rattle.laws.specs.Texts.{bytesOf}
 use Rattle.refusal.specs.declared.Refusal.the-variants.{Text}
 use Rattle.refusal.specs.Told.{refused}
-use Rattle.ranges.specs.Ranges.{rows, classIn, classOf}
-use Rattle.address.specs.Words.{wordsOf}
+use Rattle.capcode.specs.Ranges.{rows, classIn, classOf}
+use Rattle.capcode.specs.Words.{wordsOf}
 use Rattle.capcode.specs.Assigned.{asked}
 use Rattle.capcode.specs.Text.{digits}
 use Rattle.capcode.specs.declared.Capcode.{Capcode}
-use Rattle.capcode.specs.declared.Form.{Form}
+use Rattle.capcode.specs.declared.reading.Form.{Form}
 use Rattle.capcode.specs.Reads.{stepOf, follow, formOf, readOf}
 use Rattle.opening.specs.Stands.{Stand, standOf, fresh}
 use Rattle.opening.specs.Texts.{header}

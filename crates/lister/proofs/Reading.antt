@@ -10,7 +10,7 @@ use lib.Seq.{take-all, length-take-le}
 use borrow.Author.Tests.{leb-true, leb-false}
 use Rattle.refusal.specs.declared.Refusal.the-variants.{Text}
 use Rattle.refusal.specs.Told.{Told, refused}
-use Rattle.capcode.specs.declared.Form.{Form}
+use Rattle.capcode.specs.declared.reading.Form.{Form}
 use Rattle.capcode.specs.Reads.{formOf, readBy, readOf}
 use Rattle.verdict.specs.Verdicts.{lineFeed, verdictBy, verdictOf}
 use Rattle.lister.specs.Portions.{kept}

@@ -11,7 +11,7 @@ use borrow.Author.Tests.{leb-true, ne-eqb, le-leb}
 use Rattle.laws.specs.Choice.{pick}
 use Rattle.laws.proofs.Tests.{first-of, second-of, either-of}
 use Rattle.capcode.specs.declared.Capcode.{Capcode}
-use Rattle.capcode.specs.declared.Form.{Form}
+use Rattle.capcode.specs.declared.reading.Form.{Form}
 use Rattle.capcode.specs.Assigned.{standard, framed}
 use Rattle.capcode.specs.Text.{digits, headWidth, widthOf, textOf, Sayable}
 use Rattle.capcode.specs.Reads.{formOf, readBy, readOf}

@@ -8,7 +8,7 @@ use lib.Dec.{eqb, ltb}
 use lib.ListN.{length, length-append, getD}
 use Rattle.laws.specs.Choice.{pick}
 use Rattle.refusal.specs.Told.{Told, told, numberTold}
-use Rattle.address.specs.Words.{wordsOf}
+use Rattle.capcode.specs.Words.{wordsOf}
 use Rattle.capcode.specs.Text.{digits}
 use Rattle.capcode.specs.Reads.{readOf}
 use Rattle.verdict.specs.Verdicts.{lineFeed, secondShown, wordsShown, acceptedEnd, plain, refusedEnd, verdictBy, verdictOf}

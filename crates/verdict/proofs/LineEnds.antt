@@ -10,7 +10,7 @@ use borrow.Author.Tests.{lt-ltb, le-ltb, ne-eqb}
 use Rattle.refusal.specs.declared.Refusal.{Refusal}
 use Rattle.refusal.specs.Told.{Told, numberOf, refused}
 use Rattle.refusal.proofs.Laws.{number-positive}
-use Rattle.address.specs.Words.{wordsOf}
+use Rattle.capcode.specs.Words.{wordsOf}
 use Rattle.capcode.specs.declared.Capcode.{Capcode}
 use Rattle.capcode.specs.declared.Assignment.{Assignment}
 use Rattle.capcode.specs.declared.ReadAnswer.{ReadAnswer}

@@ -8,7 +8,7 @@ use Rattle.refusal.proofs.Laws.{toldValues, given-not-refused}
 use Rattle.capcode.specs.declared.Capcode.{Capcode}
 use Rattle.capcode.specs.declared.Assignment.{Assignment}
 use Rattle.capcode.specs.declared.ReadAnswer.{ReadAnswer}
-use Rattle.capcode.specs.declared.Form.{Form}
+use Rattle.capcode.specs.declared.reading.Form.{Form}
 use Rattle.capcode.specs.Assigned.{phaseOf}
 use Rattle.capcode.specs.Reads.{formOf, readBy, readOf, toldRead}
 use Rattle.capcode.proofs.Judging.{given-fine}

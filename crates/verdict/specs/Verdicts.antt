@@ -7,7 +7,7 @@ use lib.ListN.{length, replicate, getD}
 use Rattle.laws.specs.Choice.{pick}
 use Rattle.laws.specs.Texts.{bytesOf}
 use Rattle.refusal.specs.Told.{Told, told, numberTold}
-use Rattle.address.specs.Words.{wordsOf}
+use Rattle.capcode.specs.Words.{wordsOf}
 use Rattle.capcode.specs.Text.{digits}
 use Rattle.capcode.specs.Reads.{readOf}
 use Rattle.verdict.specs.declared.Verdict.{Verdict}

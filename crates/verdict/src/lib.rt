@@ -6,10 +6,10 @@ ghost use Rattle.capcode.specs.Text.{digits};
 ghost use Rattle.refusal.specs.Told.{refused};
 ghost use Rattle.capcode.specs.Reads.{readOf, toldRead};
 ghost use Rattle.verdict.specs.Verdicts.{lineFeed, hexDigit, sixDigits, phaseShown, verdictBy, verdictAs};
-use address::Worded;
 use capcode::Assignment;
 use capcode::Capcode;
 use capcode::ReadAnswer;
+use capcode::Worded;
 use refusal::Refusal;
 
 // What stands behind a text, with the end of its line: whether the text is accepted, how many bytes, and these; behind
@@ -87,7 +87,7 @@ fn accepted_end(c: Capcode, a: Assignment) -> [u8; 23]
     requires { ⌜ a .phase ≤ 4 ⌝ }
     ensures { λ r. ⌜ r ≡ verdictBy (toldRead (ReadAnswer.Whole c a)) ++ lineFeed ∷ [] ⌝ }
 {
-    match address::words_of(c.address) {
+    match capcode::words_of(c.address) {
         Worded::One(word) => fields(six_digits(word), [b'-'; 6], c, a),
         Worded::Two(first, second) => fields(six_digits(first), six_digits(second), c, a),
         Worded::Refused(_) => fields([b'0'; 6], [b'-'; 6], c, a),
@@ -124,7 +124,7 @@ fn refused_end(refusal: Refusal) -> Verdict
 pub fn judge(text: &[u8]) -> Verdict
     ensures { λ r. ⌜ r ≡ verdictAs (readOf (now (text .entry))) ⌝ }
 {
-    match capcode_text::read(text) {
+    match capcode::read(text) {
         ReadAnswer::Whole(c, a) => Verdict {
             is_accepted: true,
             size: 23,

@@ -44,7 +44,7 @@ pub struct Library {
 /// The crate, the type, and what stands before the names.
 const GROUPS: [(&str, &str, &str, &str); 6] = [
     ("refusal", "Refusal", "REFUSED", "The refusals, by the paper's numbers. A `number` of 0 says that nothing was refused."),
-    ("ranges", "Class", "CLASS", "The classes of addresses."),
+    ("capcode", "Class", "CLASS", "The classes of addresses."),
     ("packet", "Packet", "PACKET", "The IDs of packets, the highest byte of their 32 bits. The same ID means one thing to the decoder and another from it."),
     ("packet", "Vector", "VECTOR", "The types of vectors."),
     ("packet", "ShortMessage", "SHORT_MESSAGE", "The types of short messages."),

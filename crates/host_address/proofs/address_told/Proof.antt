@@ -1,8 +1,8 @@
 -- `address_told` meets its contract: the answer is told, and its numbers stand in their fields.
 use Prim.Native.Nat.{ℕ}
 use mathlib.Core.Path.{ap, sym, _∙_}
-use Rattle.address.specs.declared.Addressed.{Addressed}
-use Rattle.address.specs.Words.{toldAddressed}
+use Rattle.capcode.specs.declared.Addressed.{Addressed}
+use Rattle.capcode.specs.Words.{toldAddressed}
 use Rattle.host_address.specs.declared.MortisevaneFound.{MortisevaneFound}
 use Rattle.host_address.specs.Flat.{addressFrom}
 use borrow.Author.Needs.{needs}

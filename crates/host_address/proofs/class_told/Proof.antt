@@ -1,8 +1,8 @@
 -- `class_told` meets its contract: the answer is told, and its numbers stand in their fields.
 use Prim.Native.Nat.{ℕ}
 use mathlib.Core.Path.{ap, sym, _∙_}
-use Rattle.ranges.specs.declared.Classed.{Classed}
-use Rattle.ranges.specs.Ranges.{toldClassed}
+use Rattle.capcode.specs.declared.Classed.{Classed}
+use Rattle.capcode.specs.Ranges.{toldClassed}
 use Rattle.host_address.specs.declared.MortisevaneClass.{MortisevaneClass}
 use Rattle.host_address.specs.Flat.{classFrom}
 use borrow.Author.Needs.{needs}

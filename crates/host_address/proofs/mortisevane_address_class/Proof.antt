@@ -1,7 +1,7 @@
 -- `mortisevane_address_class` meets its contract: what the core answers, told.
 use mathlib.Core.Path.{ap, _∙_}
-use Rattle.ranges.specs.declared.Classed.{Classed}
-use Rattle.ranges.specs.Ranges.{toldClassed}
+use Rattle.capcode.specs.declared.Classed.{Classed}
+use Rattle.capcode.specs.Ranges.{toldClassed}
 use Rattle.host_address.specs.Flat.{classFrom}
 use borrow.Author.Needs.{needs}
 use Rattle.host_address.proofs.mortisevane_address_class.Statement.{statement}

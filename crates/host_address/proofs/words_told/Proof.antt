@@ -1,8 +1,8 @@
 -- `words_told` meets its contract: the answer is told, and its numbers stand in their fields.
 use Prim.Native.Nat.{ℕ}
 use mathlib.Core.Path.{ap, sym, _∙_}
-use Rattle.address.specs.declared.Worded.{Worded}
-use Rattle.address.specs.Words.{toldWorded}
+use Rattle.capcode.specs.declared.Worded.{Worded}
+use Rattle.capcode.specs.Words.{toldWorded}
 use Rattle.host_address.specs.declared.MortisevaneWords.{MortisevaneWords}
 use Rattle.host_address.specs.Flat.{wordsFrom}
 use borrow.Author.Needs.{needs}

@@ -1,8 +1,8 @@
 -- `length_told` meets its contract: the answer is told, and its numbers stand in their fields.
 use Prim.Native.Nat.{ℕ}
 use mathlib.Core.Path.{ap, sym, _∙_}
-use Rattle.label.specs.declared.PrintAnswer.{PrintAnswer}
-use Rattle.label.specs.Printed.{toldPrint}
+use Rattle.capcode.specs.declared.PrintAnswer.{PrintAnswer}
+use Rattle.capcode.specs.Printed.{toldPrint}
 use Rattle.host_capcode.specs.declared.MortisevaneLength.{MortisevaneLength}
 use Rattle.host_capcode.specs.Flat.{lengthFrom}
 use borrow.Author.Needs.{needs}

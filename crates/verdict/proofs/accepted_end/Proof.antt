@@ -2,7 +2,7 @@
 use mathlib.Core.List.{[], _∷_}
 use mathlib.Core.Path.{refl, sym, ap, _∙_}
 use borrow.Author.Needs.{needs}
-use Rattle.address.specs.Words.{toldWorded}
+use Rattle.capcode.specs.Words.{toldWorded}
 use Rattle.verdict.specs.Verdicts.{noWord}
 use Rattle.verdict.proofs.LineEnds.{accepted-end}
 use Rattle.verdict.proofs.accepted_end.Statement.{statement}

@@ -1,0 +1,27 @@
+use borrow.Author.Needs.{needs}
+use Rattle.capcode.proofs.Judging.{offset-within}
+use Rattle.capcode.proofs.assigning.base_of.Statement.{statement}
+use Rattle.capcode.proofs.assigning.base_of.Tie as tie
+
+is-standard-requires : tie.Need-is-standard-requires
+is-standard-requires c κs = search needs
+
+offset-of-requires : tie.Need-offset-of-requires
+offset-of-requires c κs = search needs
+
+sub-result : tie.Need-sub-result
+sub-result c = rw (c .before .offset-of .ensures) (offset-within _ (c .before .before .before .before .pre))
+
+cast-result : tie.Need-cast-result
+cast-result c = search needs
+
+returns : tie.Need-returns
+returns c = rw (c .before .offset-of .ensures, ← c .before .before .before .is-standard .ensures, c .before .before .if1 .taken)
+
+returns-2 : tie.Need-returns-2
+returns-2 c = rw (← c .before .is-standard .ensures, c .if1 .left)
+
+pub base-of-spec : {M : Type 1} → statement M
+base-of-spec =
+    tie.close
+    (tie.spec is-standard-requires offset-of-requires sub-result cast-result returns returns-2)

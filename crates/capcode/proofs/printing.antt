@@ -1,0 +1,2 @@
+pub mod Prints
+pub mod Writes
