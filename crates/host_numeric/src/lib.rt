@@ -24,7 +24,7 @@ pub extern "C" fn mortisevane_numeric_write(
     ensures told { λ r. ⌜ r ≡ asWritten (writtenOf standardSet (length (now (words .entry))) kind numbering (now (text .entry))) ⌝ }
     ensures buffer { λ r. ⌜ now (words .exit) ≡ wordsAfter standardSet kind numbering (now (text .entry)) (now (words .entry)) ⌝ }
 {
-    paging::write(text, kind, numbering, words)
+    numeric::write(text, kind, numbering, words)
 }
 
 // The words of a numeric page as text, its zeros with it.
@@ -43,5 +43,5 @@ pub extern "C" fn mortisevane_numeric_read(
     ensures told { λ r. ⌜ r ≡ asRead (readOf standardSet (length (now (text .entry))) kind check (now (words .entry))) ⌝ }
     ensures buffer { λ r. ⌜ now (text .exit) ≡ textAfter standardSet kind check (now (words .entry)) (now (text .entry)) ⌝ }
 {
-    page::read(kind, check, words, text)
+    numeric::read(kind, check, words, text)
 }

@@ -1,11 +1,20 @@
-// Numeric pages (document 01, "Numeric pages"; S8.7.8.2, Tables 39, 41 and 42): what is said of a page beside its
-// characters. What the words of a page are, and when one is refused, is said in specs/, with the laws of it in proofs/;
-// `paging` writes pages and `page` reads them.
-ghost use mathlib.Core.Path.{_≡_};
-ghost use Rattle.laws.specs.Layouts.{size};
-ghost use Rattle.packet.specs.Vectors.{isNumeric};
-ghost use Rattle.numeric.specs.Pages.{headOf};
-use packet::Vector;
+// Numeric pages (document 01, "Numeric pages"; S8.7.8.2, Tables 39, 41 and 42): a text as message words, and the words of
+// one as text. A page is characters, and its zeros stay.
+//
+// What the words of a page are is said in specs/Pages, when one is refused and what is told of it in specs/Answers. The
+// round trip is in proofs/Laws; proofs/Bits says which bit of which character stands where, as the tables show it.
+
+// What writing and reading share: which vectors are numeric, the head of a page, its room.
+mod page;
+
+// A text as the message words of a page, with its K.
+mod writing;
+
+// The words of a page as text.
+mod reading;
+
+pub use reading::read;
+pub use writing::write;
 
 // 01: "w words (1 to 8)".
 pub const MOST_WORDS: usize = 8;
@@ -33,18 +42,4 @@ pub struct PageRead {
     pub number: u32,
     pub numbering: Numbering,
     pub characters: usize,
-}
-
-// Whether a vector's type is that of a numeric page (Table 32).
-pub fn is_numeric(kind: u32) -> bool
-    ensures { λ r. ⌜ r ≡ isNumeric kind ⌝ }
-{
-    (kind == Vector::STANDARD) | (kind == Vector::SPECIAL) | (kind == Vector::NUMBERED)
-}
-
-// How many bits stand before the first character (Tables 41 and 42).
-pub fn head_size(numbered: bool) -> usize
-    ensures { λ r. ⌜ r ≡ size (headOf numbered) ⌝ }
-{
-    if numbered { 10 } else { 2 }
 }

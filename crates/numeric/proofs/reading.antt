@@ -1,0 +1,2 @@
+pub mod Characters
+pub mod Readable

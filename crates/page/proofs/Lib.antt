@@ -1,2 +1,0 @@
-mod Readable
-mod Reading

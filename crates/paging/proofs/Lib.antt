@@ -1,2 +1,0 @@
-mod Writable
-mod Writing
