@@ -11,9 +11,9 @@ use Rattle.laws.specs.Lists.{firstThat, all, anyOf, upFrom, sumBy}
 use Rattle.laws.specs.Numerals.{number, digits}
 use Rattle.laws.specs.Texts.{bytesOf}
 use Rattle.refusal.specs.Told.{numberTold}
-use Rattle.message.specs.Fragments.{cellsOf, wordsOf, fragmentOf, withoutFill}
-use Rattle.message.specs.Answers.{headingOf}
-use Rattle.cutting.specs.Cutting.{sendable, messageOf, fragmentAt, fragmentsFrom, cut}
+use Rattle.fragment.specs.Fragments.{cellsOf, wordsOf, fragmentOf, withoutFill}
+use Rattle.fragment.specs.Answers.{headingOf}
+use Rattle.fragment.specs.Cutting.{sendable, messageOf, fragmentAt, fragmentsFrom, cut}
 use Rattle.slots.specs.Chains.{blank, sound, fresh}
 use Rattle.slots.specs.Steps.{fate}
 use Rattle.slots.specs.Answers.{stepOf, chainsAfter, bufferAfter, dropOf}

@@ -13,7 +13,7 @@ use Rattle.laws.specs.Choice.{pick, bitOf}
 use Rattle.laws.specs.Lists.{all}
 use Rattle.laws.proofs.Tests.{decided, not-both, first-of, second-of, other-of, neither}
 use Rattle.refusal.specs.Told.{Told}
-use Rattle.message.specs.Fragments.{mostCharacters}
+use Rattle.fragment.specs.Fragments.{mostCharacters}
 use Rattle.slots.specs.Chains.{sound, fresh, slotCount}
 use Rattle.slots.specs.Steps.{headingIn}
 use Rattle.slots.specs.Answers.{asAnswer}

@@ -12,13 +12,13 @@ use lib.ListN.{length, getD, length-append, length-take}
 use Rattle.laws.specs.Lists.{sumBy}
 use Rattle.laws.proofs.Tests.{decided, not-both, each-of-five}
 use Rattle.refusal.specs.Told.{numberTold}
-use Rattle.message.specs.Fragments.{mostCharacters, isSize, textIn}
-use Rattle.message.proofs.Laws.{Good, accepted, heading-told, size-limits}
+use Rattle.fragment.specs.Fragments.{mostCharacters, isSize, textIn}
+use Rattle.fragment.proofs.Laws.{Good, accepted, heading-told, size-limits}
 use Rattle.fragment.specs.declared.FragmentRead.{FragmentRead}
-use Rattle.fragment.specs.Answers.{asFragment}
-use Rattle.cutting.specs.Cutting.{marked, sendable, fragmentNumber, fragmentsFor, fragmentAt}
-use Rattle.cutting.proofs.Counts.{count, some-fragment}
-use Rattle.cutting.proofs.Laws.{Cuttable, at-place, first-number, headingWith, good, textSoFar, text-step, text-ends, sumSoFar, sum-step, sum-ends}
+use Rattle.fragment.specs.FlatAnswers.{asFragment}
+use Rattle.fragment.specs.Cutting.{marked, sendable, fragmentNumber, fragmentsFor, fragmentAt}
+use Rattle.fragment.proofs.CutCounts.{count, some-fragment}
+use Rattle.fragment.proofs.CutLaws.{Cuttable, at-place, first-number, headingWith, good, textSoFar, text-step, text-ends, sumSoFar, sum-step, sum-ends}
 use Rattle.slots.specs.declared.Chain.{Chain}
 use Rattle.slots.specs.Chains.{isAddress}
 use Rattle.slots.specs.Steps.{headingIn, isFirst, goesOn, nextNumber, sumAfter, charactersAfter, grown, unbegun}

@@ -12,11 +12,11 @@ use lib.Seq.{set-out}
 use Rattle.laws.proofs.Tests.{decided, not-both, first-of, second-of, other-of}
 use Rattle.refusal.specs.declared.Refusal.the-variants.{OutOfTurn}
 use Rattle.refusal.specs.Told.{Told, numberTold}
-use Rattle.message.specs.Fragments.{textIn}
-use Rattle.message.specs.Answers.{headingOf}
-use Rattle.message.proofs.Laws.{accepted}
-use Rattle.cutting.specs.Cutting.{fragmentNumber}
-use Rattle.cutting.proofs.Laws.{text-step}
+use Rattle.fragment.specs.Fragments.{textIn}
+use Rattle.fragment.specs.Answers.{headingOf}
+use Rattle.fragment.proofs.Laws.{accepted}
+use Rattle.fragment.specs.Cutting.{fragmentNumber}
+use Rattle.fragment.proofs.CutLaws.{text-step}
 use Rattle.slots.specs.declared.Chain.{Chain}
 use Rattle.slots.specs.Chains.{blank, find, holds, firstFree, sound}
 use Rattle.slots.specs.Steps.{headingIn, isFirst, goesOn, slotFor, chainBefore, charactersAfter, grown, unbegun, lost}

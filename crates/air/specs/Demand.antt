@@ -19,10 +19,10 @@ use lib.ListN.{length, getD, take, drop, replicate}
 use Rattle.laws.specs.Choice.{pick}
 use Rattle.laws.specs.Lists.{all, anyOf, upFrom}
 use Rattle.refusal.specs.Told.{Told, numberTold}
-use Rattle.message.specs.Fragments.{mostCharacters, isSize}
-use Rattle.message.specs.Answers.{headingOf}
-use Rattle.cutting.specs.declared.Marks.{Marks}
-use Rattle.cutting.specs.Cutting.{marked, sendable, cut}
+use Rattle.fragment.specs.Fragments.{mostCharacters, isSize}
+use Rattle.fragment.specs.Answers.{headingOf}
+use Rattle.fragment.specs.declared.Marks.{Marks}
+use Rattle.fragment.specs.Cutting.{marked, sendable, cut}
 use Rattle.slots.specs.Chains.{isAddress, holds, firstFree, sound}
 use Rattle.slots.specs.Steps.{headingIn}
 use Rattle.slots.specs.Answers.{asAnswer}

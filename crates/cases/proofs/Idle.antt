@@ -17,8 +17,8 @@ use Rattle.refusal.proofs.Laws.{number-positive, given-head, given-tells}
 use Rattle.capcode.specs.Ranges.{rows, classIn, classOf}
 use Rattle.frames.specs.declared.Listener.{Listener}
 use Rattle.frames.specs.Listening.{listens, heard, countFrom, countOf, maskFrom, masksOf, onesOf}
-use Rattle.message.specs.Fragments.{cellsOf, wordsOf, fragmentOf, withoutFill}
-use Rattle.cutting.specs.Cutting.{sendable, messageOf, fragmentAt, fragmentsFrom, cut}
+use Rattle.fragment.specs.Fragments.{cellsOf, wordsOf, fragmentOf, withoutFill}
+use Rattle.fragment.specs.Cutting.{sendable, messageOf, fragmentAt, fragmentsFrom, cut}
 use Rattle.slots.specs.Chains.{fresh, sound}
 use Rattle.slots.specs.Steps.{headingIn, isFirst, fate}
 use Rattle.slots.specs.Answers.{stepOf, chainsAfter, bufferAfter}

@@ -20,7 +20,7 @@ use Rattle.capcode.proofs.WordLaws.{there-and-back}
 use Rattle.frames.specs.Listening.{heard, countOf}
 use Rattle.frames.proofs.Laws.{counted}
 use Rattle.sums.specs.Words.{undamaged}
-use Rattle.message.specs.Fragments.{mostCharacters, isSize, checked}
+use Rattle.fragment.specs.Fragments.{mostCharacters, isSize, checked}
 use Rattle.fragment.specs.declared.FragmentRead.{FragmentRead}
 use Rattle.slots.specs.declared.Chain.{Chain}
 use Rattle.slots.specs.Chains.{isAddress, isMessage, holds, sound}

@@ -14,7 +14,7 @@ use Rattle.capcode.specs.Ranges.{accepted}
 use Rattle.frames.specs.declared.Listener.{Listener}
 use Rattle.frames.specs.Listening.{heard, masksOf, onesOf}
 use Rattle.sums.specs.Words.{undamaged}
-use Rattle.message.specs.Fragments.{mostCharacters, isSize, checked}
+use Rattle.fragment.specs.Fragments.{mostCharacters, isSize, checked}
 use Rattle.slots.specs.Chains.{isAddress, isMessage, blank, find, holds, sound}
 use Rattle.slots.specs.Steps.{headingIn, isFirst, goesOn, sumAfter, charactersAfter, slotFor, chainBefore}
 use Rattle.slots.specs.Runs.{Event, came, dropped, State}

@@ -9,8 +9,8 @@ use lib.ListN.{length}
 use Rattle.laws.specs.Choice.{pick}
 use Rattle.refusal.specs.declared.Refusal.the-variants.{NoChain}
 use Rattle.refusal.specs.Told.{Told, told, given, ask, numberTold}
-use Rattle.message.specs.Answers.{headingOf}
-use Rattle.message.proofs.Laws.{accepted, good-passes, bad-stops}
+use Rattle.fragment.specs.Answers.{headingOf}
+use Rattle.fragment.proofs.Laws.{accepted, good-passes, bad-stops}
 use Rattle.slots.specs.declared.Chain.{Chain}
 use Rattle.slots.specs.declared.ChainStep.{ChainStep}
 use Rattle.slots.specs.Chains.{sound}

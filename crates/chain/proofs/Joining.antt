@@ -15,7 +15,7 @@ use Rattle.laws.proofs.Searches.{first-most}
 use Rattle.laws.proofs.Tests.{decided, first-of, second-of}
 use Rattle.refusal.specs.declared.Refusal.the-variants.{Full}
 use Rattle.refusal.specs.Told.{Told, told, ask, numberTold}
-use Rattle.message.specs.Fragments.{textIn}
+use Rattle.fragment.specs.Fragments.{textIn}
 use Rattle.fragment.specs.declared.FragmentRead.{FragmentRead}
 use Rattle.slots.specs.declared.Chain.{Chain}
 use Rattle.slots.specs.declared.ChainStep.{ChainStep}

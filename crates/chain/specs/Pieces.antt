@@ -7,7 +7,7 @@ use Rattle.laws.specs.Choice.{pick, bitOf}
 use Rattle.laws.specs.Lists.{put}
 use Rattle.refusal.specs.declared.Refusal.the-variants.{NoChain}
 use Rattle.refusal.specs.Told.{Told, given, ask, numberTold}
-use Rattle.message.specs.Fragments.{mostCharacters, textIn}
+use Rattle.fragment.specs.Fragments.{mostCharacters, textIn}
 use Rattle.fragment.specs.declared.FragmentRead.{FragmentRead}
 use Rattle.slots.specs.declared.Chain.{Chain}
 use Rattle.slots.specs.Steps.{headingIn, isFirst, goesOn, charactersAfter, olderSlot, slotFor, chainBefore, fateOf, rowAfter, endPlace}

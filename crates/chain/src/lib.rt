@@ -10,13 +10,13 @@ ghost use lib.ListN.{length, set};
 ghost use Rattle.laws.specs.Choice.{pick, bitOf};
 ghost use Rattle.laws.specs.Lists.{put};
 ghost use Rattle.refusal.specs.Told.{told};
-ghost use Rattle.message.specs.Fragments.{mostCharacters, textIn};
+ghost use Rattle.fragment.specs.Fragments.{mostCharacters, textIn};
 ghost use Rattle.slots.specs.Chains.{sound, slotCount};
 ghost use Rattle.slots.specs.Steps.{headingIn};
 ghost use Rattle.slots.specs.Answers.{asAnswer, asStep, stepOf, chainsAfter, bufferAfter};
 ghost use Rattle.chain.specs.Pieces.{turnOf, takenOf, joinOf, joinedRow, joinedBytes};
 use fragment::FragmentRead;
-use message::MOST_CHARACTERS;
+use fragment::MOST_CHARACTERS;
 use refusal::Refusal;
 use slots::BLANK;
 use slots::Chain;
@@ -162,7 +162,7 @@ fn write_at(words: &[u32], buffer: &mut [u8], place: usize)
     requires { ⌜ place + length (textIn (now words)) ≤ length (now buffer) ⌝ }
     ensures { λ r. ⌜ now (buffer .exit) ≡ put (now (buffer .entry)) place (textIn (now (words .entry))) ⌝ }
 {
-    let _written = writing::write_text(words, &mut buffer[place..]);
+    let _written = fragment::write_text(words, &mut buffer[place..]);
 }
 
 // A good fragment joined: 13, 14, 15, 16 and 12 of 01's table, or its text written at its chain's end. A later fragment

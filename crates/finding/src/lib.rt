@@ -2,7 +2,7 @@
 // slot, and whether the records that were handed back are sound (its table, 2).
 ghost use mathlib.Core.Path.{_≡_};
 ghost use Rattle.slots.specs.Chains.{isOf, isSound, find, firstFree, sound};
-use message::MOST_CHARACTERS;
+use fragment::MOST_CHARACTERS;
 use slots::Chain;
 use slots::LAST_ADDRESS;
 use slots::LAST_FRAGMENT;

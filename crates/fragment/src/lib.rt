@@ -1,20 +1,43 @@
-// The heading of one fragment of a text (document 01, "Fragments"; S8.7.8.3, Tables 43, 44 and 45): what its first word
-// says, the signature of a first one, its sum and how many characters it has. ETX is fill: it is summed, and is no text.
-// U and V are not looked at. The text itself is written by `writing`; `reading` does both.
-ghost use mathlib.Core.Path.{_≡_};
-ghost use Prim.Native.Nat.{_≤_};
-ghost use lib.ListN.{length};
-ghost use Rattle.laws.specs.Lists.{sumBy};
-ghost use Rattle.sums.specs.Sums.{whole};
-ghost use Rattle.refusal.specs.Told.{refused};
-ghost use Rattle.message.specs.Fragments.{isSize, cellsIn, sumIn};
-ghost use Rattle.message.specs.Answers.{headingTold, headingOf};
-ghost use Rattle.fragment.specs.Answers.{asFragment};
-use message::CELL_LIMIT;
-use message::FEWEST_WORDS;
-use message::MOST_WORDS;
-use refusal::Refusal;
-use refusal::kept;
+// A text as it is sent in fragments (document 01, "Fragments"; S8.7.8.3, S8.8.5, S8.8.6): a text cut into them, and one
+// fragment read.
+//
+// What a fragment is stands in specs/Fragments, how a text is cut in specs/Cutting; what is told of each, with the
+// refusals in the table's order, in specs/Answers and specs/CutAnswers. proofs/Laws and proofs/CutLaws show that the two
+// agree: each fragment of a cut text reads as good, and their texts joined are the text.
+
+ghost use Rattle.laws.specs.Numerals.{number};
+ghost use Rattle.fragment.specs.Cutting.{continued};
+
+// The heading of one fragment: what its first word says, its sum, how long its text is.
+mod head;
+
+// The characters of one fragment: counted, and written into lent bytes.
+mod text;
+
+// One fragment read as a whole: its heading and its text.
+mod reading;
+
+// A text cut into fragments.
+mod cutting;
+
+pub use cutting::cut;
+pub use head::heading;
+pub use reading::read;
+pub use text::write_text;
+
+// 01: "a text of up to 1,008 characters", which is also the room of a chain's slot.
+pub const MOST_CHARACTERS: usize = 1008;
+
+// 01: "2 to 85 words".
+pub const FEWEST_WORDS: usize = 2;
+
+pub const MOST_WORDS: usize = 85;
+
+// The character that fills a word.
+pub const ETX: u32 = 0x03;
+
+// A character has seven bits: it is below this.
+pub const CELL_LIMIT: u32 = 128;
 
 // What is told of a fragment: 01's number; C, 1 where more follows; F, 3 in a first fragment; N; R, M and the
 // signature of a first fragment, 0 of others; the sum modulo 128 of all its characters, fill and signature with
@@ -32,84 +55,27 @@ pub struct FragmentRead {
     pub characters: usize,
 }
 
-// A refusal tells its number alone.
-fn refused(refusal: Refusal) -> FragmentRead
-    ensures { λ r. ⌜ r ≡ asFragment (refused refusal) ⌝ }
-{
-    FragmentRead {
-        number: refusal.number(),
-        continued: 0,
-        fragment_number: 0,
-        message_number: 0,
-        retrieval: 0,
-        mail_drop: 0,
-        signature: 0,
-        sum: 0,
-        characters: 0,
-    }
+// How many characters were written, or the refusal.
+#[repr(C)]
+pub struct TextRead {
+    pub number: u32,
+    pub characters: usize,
 }
 
-// A word's three cells added.
-fn sum_in(word: u32) -> u32
-    ensures sum { λ r. ⌜ r ≡ sumBy whole (cellsIn word) ⌝ }
-    ensures small { λ r. ⌜ r ≤ 381 ⌝ }
-{
-    word % CELL_LIMIT + (word >> 7) % CELL_LIMIT + (word >> 14) % CELL_LIMIT
+// What the first fragment says of its message: N, the message number, 0 to 63; R, whether the pager expects its messages
+// to be numbered; M, whether it is a mail drop.
+#[repr(C)]
+pub struct Marks {
+    pub message_number: u32,
+    pub retrieval: u32,
+    pub mail_drop: u32,
 }
 
-// The sum modulo 128 of all cells behind the first word. It is reduced behind the loop, since one that reduces at each
-// turn is not compiled to several words at a time; the loop's own sum wraps at a multiple of 128.
-fn sum(words: &[u32]) -> u32
-    ensures { λ r. ⌜ r ≡ sumIn (now (words .entry)) ⌝ }
-{
-    let mut sum: u32 = 0;
-    let mut i: usize = 1;
-    while i < words.len() {
-        sum = std::num::wrapping_add_u32(sum, sum_in(words[i]));
-        i += 1;
-    }
-    sum % CELL_LIMIT
-}
-
-// 01's table, 9: whether a fragment has so many words.
-fn is_size(words: usize) -> bool
-    ensures { λ r. ⌜ r ≡ isSize words ⌝ }
-{
-    (FEWEST_WORDS <= words) & (words <= MOST_WORDS)
-}
-
-// What the words of a fragment tell.
-fn heading_of(words: &[u32]) -> FragmentRead
-    requires { ⌜ 2 ≤ length (now words) ⌝ }
-    ensures { λ r. ⌜ r ≡ asFragment (headingTold (now (words .entry))) ⌝ }
-{
-    let head = words[0];
-    let first = cells::is_first(head);
-    FragmentRead {
-        number: 0,
-        continued: (head >> 10) % 2,
-        fragment_number: (head >> 11) % 4,
-        message_number: (head >> 13) % 64,
-        retrieval: kept(first, (head >> 19) % 2),
-        mail_drop: kept(first, (head >> 20) % 2),
-        signature: kept(first, words[1] % CELL_LIMIT),
-        sum: sum(words),
-        characters: cells::count(cells::unsigned(first, words[1]), words),
-    }
-}
-
-// The heading of a fragment, or the first refusal: 9, 10, 11 of 01's table.
-pub fn heading(words: &[u32]) -> FragmentRead
-    ensures { λ r. ⌜ r ≡ asFragment (headingOf (now (words .entry))) ⌝ }
-{
-    if !is_size(words.len()) {
-        return refused(Refusal::Size);
-    }
-    if !sums::undamaged(words) {
-        return refused(Refusal::Damaged);
-    }
-    if sums::ten_bit(words) != words[0] % 1024 {
-        return refused(Refusal::Checksum);
-    }
-    heading_of(words)
+// A text cut: how many fragments, and how many words they are together. Each but the last has the largest size. Both are 0
+// after a refusal.
+#[repr(C)]
+pub struct TextCut {
+    pub number: u32,
+    pub fragments: usize,
+    pub words: usize,
 }

@@ -2,12 +2,12 @@
 // it calls: `number` is 0, or 01's number of the refusal, and what was lent is then as it was.
 ghost use mathlib.Core.Path.{_≡_};
 ghost use lib.ListN.{length};
-ghost use Rattle.message.specs.Answers.{headingOf, readOf, readAfter};
-ghost use Rattle.fragment.specs.Answers.{asFragment};
-ghost use Rattle.cutting.specs.Answers.{cutOf, wordsAfter, asCut};
-use cutting::Marks;
-use cutting::TextCut;
+ghost use Rattle.fragment.specs.Answers.{headingOf, readOf, readAfter};
+ghost use Rattle.fragment.specs.FlatAnswers.{asFragment};
+ghost use Rattle.fragment.specs.CutAnswers.{cutOf, wordsAfter, asCut};
 use fragment::FragmentRead;
+use fragment::Marks;
+use fragment::TextCut;
 
 // What a fragment says of itself, without its text.
 // Takes the words of the fragment, 2 to 85.
@@ -30,7 +30,7 @@ pub extern "C" fn mortisevane_fragment_read(words: &[u32], text: &mut [u8]) -> F
     ensures told { λ r. ⌜ r ≡ asFragment (readOf (length (now (text .entry))) (now (words .entry))) ⌝ }
     ensures buffer { λ r. ⌜ now (text .exit) ≡ readAfter (now (words .entry)) (now (text .entry)) ⌝ }
 {
-    reading::read(words, text)
+    fragment::read(words, text)
 }
 
 // A text cut into fragments, one behind the other.
@@ -49,5 +49,5 @@ pub extern "C" fn mortisevane_text_cut(
     ensures told { λ r. ⌜ r ≡ asCut (cutOf (length (now (words .entry))) marks largest (now (text .entry))) ⌝ }
     ensures buffer { λ r. ⌜ now (words .exit) ≡ wordsAfter marks largest (now (text .entry)) (now (words .entry)) ⌝ }
 {
-    cutting::cut(text, marks, largest, words)
+    fragment::cut(text, marks, largest, words)
 }

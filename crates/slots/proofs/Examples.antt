@@ -10,8 +10,8 @@ use Rattle.laws.specs.Numerals.{number, digits}
 use Rattle.laws.specs.Texts.{bytesOf}
 use Rattle.refusal.specs.declared.Refusal.the-variants.{OutOfTurn}
 use Rattle.refusal.specs.Told.{Told, told, given, numberTold}
-use Rattle.message.specs.Fragments.{cellsOf, withoutFill, textIn}
-use Rattle.message.specs.Answers.{headingOf}
+use Rattle.fragment.specs.Fragments.{cellsOf, withoutFill, textIn}
+use Rattle.fragment.specs.Answers.{headingOf}
 use Rattle.slots.specs.declared.Chain.{Chain}
 use Rattle.slots.specs.Chains.{blank, isOf, find, holds, sound, fresh}
 use Rattle.slots.specs.Steps.{headingIn, lost, fate, slotFor, chainBefore, rowAfter, endPlace}

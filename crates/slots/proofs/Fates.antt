@@ -11,7 +11,7 @@ use Rattle.laws.specs.Choice.{pick}
 use Rattle.laws.proofs.Tests.{decided, not-both}
 use Rattle.refusal.specs.declared.Refusal.the-variants.{OutOfTurn, TooLong, Signature}
 use Rattle.refusal.specs.Told.{numberOf}
-use Rattle.message.specs.Fragments.{mostCharacters}
+use Rattle.fragment.specs.Fragments.{mostCharacters}
 use Rattle.fragment.specs.declared.FragmentRead.{FragmentRead}
 use Rattle.slots.specs.declared.Chain.{Chain}
 use Rattle.slots.specs.Chains.{isOpen}

@@ -17,8 +17,8 @@ use Rattle.refusal.specs.declared.Refusal.{Refusal}
 use Rattle.refusal.specs.declared.Refusal.the-variants as refusals
 use Rattle.refusal.specs.Told.{Told, told, numberOf, refused, given, ask, numberTold, valueTold}
 use Rattle.refusal.proofs.Laws.{passed}
-use Rattle.message.specs.Fragments.{isSize, checked}
-use Rattle.message.proofs.Laws.{Good}
+use Rattle.fragment.specs.Fragments.{isSize, checked}
+use Rattle.fragment.proofs.Laws.{Good}
 use Rattle.fragment.specs.declared.FragmentRead.{FragmentRead}
 use Rattle.slots.specs.declared.Chain.{Chain}
 use Rattle.slots.specs.Chains.{blank, isOpen, isAddress, isOf, find, sound}

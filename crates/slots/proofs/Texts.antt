@@ -14,7 +14,7 @@ use Rattle.laws.proofs.Tests.{decided}
 use Rattle.laws.proofs.Writing.{length-put, put-grows, put-keeps-before, put-keeps-behind}
 use Rattle.refusal.specs.declared.Refusal.the-variants as refusals
 use Rattle.refusal.specs.Told.{Told, given, ask, numberTold, valueTold}
-use Rattle.message.specs.Fragments.{textIn}
+use Rattle.fragment.specs.Fragments.{textIn}
 use Rattle.fragment.specs.declared.FragmentRead.{FragmentRead}
 use Rattle.slots.specs.declared.Chain.{Chain}
 use Rattle.slots.specs.Chains.{blank, isOf}

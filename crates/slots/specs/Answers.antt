@@ -8,8 +8,8 @@ use Rattle.laws.specs.Choice.{pick, bitOf}
 use Rattle.laws.specs.Lists.{put}
 use Rattle.refusal.specs.declared.Refusal.the-variants.{Room, State, Packet, Address, NoChain, Full}
 use Rattle.refusal.specs.Told.{Told, told, numberOf, given, ask, numberTold, valueTold}
-use Rattle.message.specs.Fragments.{mostCharacters, textIn}
-use Rattle.message.specs.Answers.{whenGood}
+use Rattle.fragment.specs.Fragments.{mostCharacters, textIn}
+use Rattle.fragment.specs.Answers.{whenGood}
 use Rattle.fragment.specs.declared.FragmentRead.{FragmentRead}
 use Rattle.slots.specs.declared.Chain.{Chain}
 use Rattle.slots.specs.declared.ChainAnswer.{ChainAnswer}

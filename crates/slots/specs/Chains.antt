@@ -6,7 +6,7 @@ use lib.Dec.{leb, ltb, eqb}
 use lib.ListN.{length, replicate}
 use Rattle.laws.specs.Choice.{pick}
 use Rattle.laws.specs.Lists.{firstThat}
-use Rattle.message.specs.Fragments.{mostCharacters}
+use Rattle.fragment.specs.Fragments.{mostCharacters}
 use Rattle.slots.specs.declared.Chain.{Chain}
 
 -- 01: "A closed slot's record is all zero"

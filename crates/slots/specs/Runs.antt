@@ -3,7 +3,7 @@ use Prim.Native.Nat.{ℕ, _*_}
 use mathlib.Core.List.{List, [], _∷_}
 use lib.ListN.{length, take, drop}
 use Rattle.refusal.specs.Told.{Told}
-use Rattle.message.specs.Fragments.{mostCharacters}
+use Rattle.fragment.specs.Fragments.{mostCharacters}
 use Rattle.slots.specs.declared.Chain.{Chain}
 use Rattle.slots.specs.Answers.{stepOf, chainsAfter, bufferAfter, dropOf, droppedFrom}
 

@@ -7,10 +7,10 @@ use lib.ListN.{getD, set}
 use Rattle.laws.specs.Choice.{pick}
 use Rattle.refusal.specs.declared.Refusal.{Refusal}
 use Rattle.refusal.specs.declared.Refusal.the-variants.{OutOfTurn, TooLong, Signature}
-use Rattle.message.specs.Fragments.{mostCharacters, firstNumber, cellBits}
-use Rattle.message.specs.Answers.{headingTold}
+use Rattle.fragment.specs.Fragments.{mostCharacters, firstNumber, cellBits}
+use Rattle.fragment.specs.Answers.{headingTold}
 use Rattle.fragment.specs.declared.FragmentRead.{FragmentRead}
-use Rattle.fragment.specs.Answers.{asFragment}
+use Rattle.fragment.specs.FlatAnswers.{asFragment}
 use Rattle.slots.specs.declared.Chain.{Chain}
 use Rattle.slots.specs.Chains.{blank, find, firstFree}
 

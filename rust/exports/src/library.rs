@@ -54,8 +54,8 @@ const GROUPS: [(&str, &str, &str, &str); 6] = [
 /// The name, what it is, and the crate and constant that it is.
 const LIMITS: [(&str, &str, &str, &str); 6] = [
     ("SLOTS", "Chains that can be open at a time.", "slots", "SLOTS"),
-    ("TEXT_CHARACTERS", "The longest text.", "message", "MOST_CHARACTERS"),
-    ("FRAGMENT_WORDS", "The most words of a fragment.", "message", "MOST_WORDS"),
+    ("TEXT_CHARACTERS", "The longest text.", "fragment", "MOST_CHARACTERS"),
+    ("FRAGMENT_WORDS", "The most words of a fragment.", "fragment", "MOST_WORDS"),
     ("PAGE_WORDS", "The most words of a numeric page.", "numeric", "MOST_WORDS"),
     ("CALLS", "Calls that can be open at a time.", "calls", "MOST_CALLS"),
     ("CALL_WORDS", "The memory that calls are lent, in words.", "calls", "MEMORY"),

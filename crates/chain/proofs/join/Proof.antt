@@ -11,7 +11,7 @@ use Rattle.laws.specs.Choice.{bitOf}
 use Rattle.laws.specs.Lists.{put}
 use Rattle.refusal.specs.declared.Refusal.the-variants.{NoChain, Full}
 use Rattle.refusal.specs.Told.{told, refused}
-use Rattle.message.specs.Fragments.{textIn}
+use Rattle.fragment.specs.Fragments.{textIn}
 use Rattle.fragment.specs.declared.FragmentRead.{FragmentRead}
 use Rattle.slots.specs.declared.Chain.{Chain}
 use Rattle.slots.specs.Chains.{blank}

@@ -7,10 +7,10 @@ use native.Mathlib.Omega.{arith}
 use borrow.Author.Tests.{not-true, not-false}
 use lib.ListN.{length, length-map}
 use Rattle.refusal.specs.Told.{told, numberTold}
-use Rattle.message.specs.Answers.{headingOf}
-use Rattle.message.proofs.Laws.{heading-told, accepted}
+use Rattle.fragment.specs.Answers.{headingOf}
+use Rattle.fragment.proofs.Laws.{heading-told, accepted}
 use Rattle.fragment.specs.declared.FragmentRead.{FragmentRead}
-use Rattle.fragment.specs.Answers.{asFragment}
+use Rattle.fragment.specs.FlatAnswers.{asFragment}
 use Rattle.slots.specs.Chains.{sound}
 use Rattle.slots.specs.Answers.{asStep}
 use Rattle.chain.proofs.Answering.{no-room, unsound, no-address, no-fragment, stops-early, goes-late}

@@ -6,9 +6,9 @@ use borrow.Rule.Slice.PartMut.{midOf, putMid, mid-len}
 use lib.ListN.{length}
 use Rattle.laws.proofs.Parts.{part-written}
 use Rattle.refusal.proofs.Laws.{given-writes}
-use Rattle.message.specs.Fragments.{textIn}
-use Rattle.message.specs.Answers.{textOf}
-use Rattle.message.proofs.Laws.{text-accepted}
+use Rattle.fragment.specs.Fragments.{textIn}
+use Rattle.fragment.specs.Answers.{textOf}
+use Rattle.fragment.proofs.Laws.{text-accepted}
 use borrow.Author.Needs.{needs}
 use Rattle.chain.proofs.write_at.Statement.{statement}
 use Rattle.chain.proofs.write_at.Tie as tie

@@ -1,0 +1,2 @@
+pub mod Message
+pub mod Writing

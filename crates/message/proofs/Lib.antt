@@ -1,4 +1,0 @@
-pub mod Cells
-pub mod Examples
-pub mod Heads
-pub mod Laws

@@ -1,3 +1,0 @@
-pub mod Full
-pub mod Telling
-pub mod Words
