@@ -14,11 +14,11 @@ use Rattle.refusal.specs.Told.{numberTold}
 use Rattle.fragment.specs.Fragments.{cellsOf, wordsOf, fragmentOf, withoutFill}
 use Rattle.fragment.specs.Answers.{headingOf}
 use Rattle.fragment.specs.Cutting.{sendable, messageOf, fragmentAt, fragmentsFrom, cut}
-use Rattle.slots.specs.Chains.{blank, sound, fresh}
-use Rattle.slots.specs.Steps.{fate}
-use Rattle.slots.specs.Answers.{stepOf, chainsAfter, bufferAfter, dropOf}
-use Rattle.slots.specs.Runs.{came, dropped, State, answers, afterAll}
-use Rattle.slots.proofs.Examples.{opened, one, two}
+use Rattle.chain.specs.Chains.{blank, sound, fresh}
+use Rattle.chain.specs.Steps.{fate}
+use Rattle.chain.specs.Answers.{stepOf, chainsAfter, bufferAfter, dropOf}
+use Rattle.chain.specs.Runs.{came, dropped, State, answers, afterAll}
+use Rattle.chain.proofs.Examples.{opened, one, two}
 use Rattle.air.specs.Demand.{Message, fragments, isCut, Arrival, copy, other, eventOf, places, neighbours, inOrder, losesFew, isOpen, isReady, undisturbed, Premises, textsOut, fromFirst, ArrivesWhole, Promised, ours}
 
 -- ---- the message

@@ -14,11 +14,11 @@ use Rattle.laws.specs.Lists.{all}
 use Rattle.laws.proofs.Tests.{decided, not-both, first-of, second-of, other-of, neither}
 use Rattle.refusal.specs.Told.{Told}
 use Rattle.fragment.specs.Fragments.{mostCharacters}
-use Rattle.slots.specs.Chains.{sound, fresh, slotCount}
-use Rattle.slots.specs.Steps.{headingIn}
-use Rattle.slots.specs.Answers.{asAnswer}
-use Rattle.slots.specs.Runs.{Event, came, dropped, State, answerTo, after, afterAll}
-use Rattle.slots.proofs.Runs.{run-length, fresh-run-sound}
+use Rattle.chain.specs.Chains.{sound, fresh, slotCount}
+use Rattle.chain.specs.Steps.{headingIn}
+use Rattle.chain.specs.Answers.{asAnswer}
+use Rattle.chain.specs.Runs.{Event, came, dropped, State, answerTo, after, afterAll}
+use Rattle.chain.proofs.Runs.{run-length, fresh-run-sound}
 use Rattle.air.specs.Demand.{Message, isCut, Arrival, copy, other, eventOf, isDamaged, places, neighbours, inOrder, losesFew, between, isKey, isOpen, isReady, findsSlot, mayCome, undisturbed, Premises, isFor, textBy, textsOut, Promised, Demand, ours}
 use Rattle.air.proofs.Parts.{countOf, part, count-cut, part-cut, other-number, some-part, says-message}
 use Rattle.air.proofs.Receiver.{isTaken, handsOut, joinedAfter, delivered, delivers}

@@ -19,10 +19,10 @@ use Rattle.fragment.specs.FlatAnswers.{asFragment}
 use Rattle.fragment.specs.Cutting.{marked, sendable, fragmentNumber, fragmentsFor, fragmentAt}
 use Rattle.fragment.proofs.CutCounts.{count, some-fragment}
 use Rattle.fragment.proofs.CutLaws.{Cuttable, at-place, first-number, headingWith, good, textSoFar, text-step, text-ends, sumSoFar, sum-step, sum-ends}
-use Rattle.slots.specs.declared.Chain.{Chain}
-use Rattle.slots.specs.Chains.{isAddress}
-use Rattle.slots.specs.Steps.{headingIn, isFirst, goesOn, nextNumber, sumAfter, charactersAfter, grown, unbegun}
-use Rattle.slots.proofs.Fates.{Taken}
+use Rattle.chain.specs.declared.Chain.{Chain}
+use Rattle.chain.specs.Chains.{isAddress}
+use Rattle.chain.specs.Steps.{headingIn, isFirst, goesOn, nextNumber, sumAfter, charactersAfter, grown, unbegun}
+use Rattle.chain.proofs.Fates.{Taken}
 use Rattle.air.specs.Demand.{Message, fragments, isCut}
 
 module _ (m : Message) where

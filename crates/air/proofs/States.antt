@@ -17,18 +17,18 @@ use Rattle.fragment.specs.Answers.{headingOf}
 use Rattle.fragment.proofs.Laws.{accepted}
 use Rattle.fragment.specs.Cutting.{fragmentNumber}
 use Rattle.fragment.proofs.CutLaws.{text-step}
-use Rattle.slots.specs.declared.Chain.{Chain}
-use Rattle.slots.specs.Chains.{blank, find, holds, firstFree, sound}
-use Rattle.slots.specs.Steps.{headingIn, isFirst, goesOn, slotFor, chainBefore, charactersAfter, grown, unbegun, lost}
-use Rattle.slots.specs.Answers.{known, toldOf, stepOf, chainsAfter, bufferAfter, asAnswer}
-use Rattle.slots.specs.Runs.{Event, came, dropped, State, answerTo, after, textAt}
-use Rattle.slots.proofs.Records.{held, not-found}
-use Rattle.slots.proofs.Fates.{out-of-turn}
-use Rattle.slots.proofs.Stores.{OtherKey}
-use Rattle.slots.proofs.Steps.{known-has-slot, before-first, before-later}
-use Rattle.slots.proofs.Laws as step
-use Rattle.slots.proofs.Texts.{refused-writes-nothing, text-grows, whole-accepted}
-use Rattle.slots.proofs.Runs.{drop-accepted, drop-refused, other-slot-of, event-sound, event-length, Others, event-others}
+use Rattle.chain.specs.declared.Chain.{Chain}
+use Rattle.chain.specs.Chains.{blank, find, holds, firstFree, sound}
+use Rattle.chain.specs.Steps.{headingIn, isFirst, goesOn, slotFor, chainBefore, charactersAfter, grown, unbegun, lost}
+use Rattle.chain.specs.Answers.{known, toldOf, stepOf, chainsAfter, bufferAfter, asAnswer}
+use Rattle.chain.specs.Runs.{Event, came, dropped, State, answerTo, after, textAt}
+use Rattle.chain.proofs.Records.{held, not-found}
+use Rattle.chain.proofs.Fates.{out-of-turn}
+use Rattle.chain.proofs.Stores.{OtherKey}
+use Rattle.chain.proofs.Steps.{known-has-slot, before-first, before-later}
+use Rattle.chain.proofs.Laws as step
+use Rattle.chain.proofs.Texts.{refused-writes-nothing, text-grows, whole-accepted}
+use Rattle.chain.proofs.Runs.{drop-accepted, drop-refused, other-slot-of, event-sound, event-length, Others, event-others}
 use Rattle.air.specs.Demand.{Message, isDamaged, isKey, isOpen, findsSlot, isCut, textBy, other}
 use Rattle.air.proofs.Parts.{countOf, part, textBefore, chainAt, none-before, begins, address-small, all-before, part-good, says-message, says-number, says-first, says-more, length-next, part-taken, part-grown, cuttable}
 

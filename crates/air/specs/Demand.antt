@@ -23,10 +23,10 @@ use Rattle.fragment.specs.Fragments.{mostCharacters, isSize}
 use Rattle.fragment.specs.Answers.{headingOf}
 use Rattle.fragment.specs.declared.Marks.{Marks}
 use Rattle.fragment.specs.Cutting.{marked, sendable, cut}
-use Rattle.slots.specs.Chains.{isAddress, holds, firstFree, sound}
-use Rattle.slots.specs.Steps.{headingIn}
-use Rattle.slots.specs.Answers.{asAnswer}
-use Rattle.slots.specs.Runs.{Event, came, dropped, State, answerTo, after}
+use Rattle.chain.specs.Chains.{isAddress, holds, firstFree, sound}
+use Rattle.chain.specs.Steps.{headingIn}
+use Rattle.chain.specs.Answers.{asAnswer}
+use Rattle.chain.specs.Runs.{Event, came, dropped, State, answerTo, after}
 
 -- ---- "A sender cuts a text of at most 1,008 characters by 01's rules."
 

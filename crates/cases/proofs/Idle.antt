@@ -19,11 +19,11 @@ use Rattle.frames.specs.declared.Listener.{Listener}
 use Rattle.frames.specs.Listening.{listens, heard, countFrom, countOf, maskFrom, masksOf, onesOf}
 use Rattle.fragment.specs.Fragments.{cellsOf, wordsOf, fragmentOf, withoutFill}
 use Rattle.fragment.specs.Cutting.{sendable, messageOf, fragmentAt, fragmentsFrom, cut}
-use Rattle.slots.specs.Chains.{fresh, sound}
-use Rattle.slots.specs.Steps.{headingIn, isFirst, fate}
-use Rattle.slots.specs.Answers.{stepOf, chainsAfter, bufferAfter}
-use Rattle.slots.specs.Runs.{Event, came, dropped, State, answerTo, after}
-use Rattle.slots.proofs.Examples.{one, two, three}
+use Rattle.chain.specs.Chains.{fresh, sound}
+use Rattle.chain.specs.Steps.{headingIn, isFirst, fate}
+use Rattle.chain.specs.Answers.{stepOf, chainsAfter, bufferAfter}
+use Rattle.chain.specs.Runs.{Event, came, dropped, State, answerTo, after}
+use Rattle.chain.proofs.Examples.{one, two, three}
 use Rattle.air.specs.Demand.{Message, fragments, Arrival, copy, places, neighbours, undisturbed, Host, Premises, textsOut, fromFirst, Demand, ours}
 use Rattle.cases.specs.Demands.{numberBy, AsTheTable, KeepsWhatItHas, WordsAndBack, FrameRule}
 

@@ -22,14 +22,14 @@ use Rattle.frames.proofs.Laws.{counted}
 use Rattle.sums.specs.Words.{undamaged}
 use Rattle.fragment.specs.Fragments.{mostCharacters, isSize, checked}
 use Rattle.fragment.specs.declared.FragmentRead.{FragmentRead}
-use Rattle.slots.specs.declared.Chain.{Chain}
-use Rattle.slots.specs.Chains.{isAddress, isMessage, holds, sound}
-use Rattle.slots.specs.Steps.{headingIn, isFirst, goesOn, grows, whole, losing, grown, sumAfter, charactersAfter, chainBefore, fate}
-use Rattle.slots.specs.Answers.{known, full, toldOf, stepOf, dropOf}
-use Rattle.slots.specs.Runs.{Event, came, dropped, State, answerTo}
-use Rattle.slots.proofs.Laws.{refused-stays, lost-closes}
-use Rattle.slots.proofs.Texts.{refused-writes-nothing}
-use Rattle.slots.proofs.Runs.{drop-refused}
+use Rattle.chain.specs.declared.Chain.{Chain}
+use Rattle.chain.specs.Chains.{isAddress, isMessage, holds, sound}
+use Rattle.chain.specs.Steps.{headingIn, isFirst, goesOn, grows, whole, losing, grown, sumAfter, charactersAfter, chainBefore, fate}
+use Rattle.chain.specs.Answers.{known, full, toldOf, stepOf, dropOf}
+use Rattle.chain.specs.Runs.{Event, came, dropped, State, answerTo}
+use Rattle.chain.proofs.Laws.{refused-stays, lost-closes}
+use Rattle.chain.proofs.Texts.{refused-writes-nothing}
+use Rattle.chain.proofs.Runs.{drop-refused}
 use Rattle.air.specs.Demand.{ours}
 use Rattle.cases.specs.Demands.{Line, numberBy, linesFor, AsTheTable, KeepsWhatItHas, WordsAndBack, FrameRule}
 

@@ -15,9 +15,9 @@ use Rattle.frames.specs.declared.Listener.{Listener}
 use Rattle.frames.specs.Listening.{heard, masksOf, onesOf}
 use Rattle.sums.specs.Words.{undamaged}
 use Rattle.fragment.specs.Fragments.{mostCharacters, isSize, checked}
-use Rattle.slots.specs.Chains.{isAddress, isMessage, blank, find, holds, sound}
-use Rattle.slots.specs.Steps.{headingIn, isFirst, goesOn, sumAfter, charactersAfter, slotFor, chainBefore}
-use Rattle.slots.specs.Runs.{Event, came, dropped, State}
+use Rattle.chain.specs.Chains.{isAddress, isMessage, blank, find, holds, sound}
+use Rattle.chain.specs.Steps.{headingIn, isFirst, goesOn, sumAfter, charactersAfter, slotFor, chainBefore}
+use Rattle.chain.specs.Runs.{Event, came, dropped, State}
 use Rattle.air.specs.Demand.{Host}
 
 -- ---- demand 1: "one of document 01's 18 refusals, exactly when its table says"

@@ -3,11 +3,11 @@
 // buffer of 8,064 bytes, where a text that is handed out is `characters` bytes from `place` on.
 ghost use mathlib.Core.Path.{_≡_};
 ghost use lib.ListN.{length};
-ghost use Rattle.slots.specs.Chains.{slotCount, fresh};
-ghost use Rattle.slots.specs.Answers.{stepOf, chainsAfter, bufferAfter, dropOf, droppedFrom, asStep, asDrop};
-use slots::ChainDrop;
-use slots::ChainStep;
-use slots::Chains;
+ghost use Rattle.chain.specs.Chains.{slotCount, fresh};
+ghost use Rattle.chain.specs.Answers.{stepOf, chainsAfter, bufferAfter, dropOf, droppedFrom, asStep, asDrop};
+use chain::ChainDrop;
+use chain::ChainStep;
+use chain::Chains;
 
 // The records after a reset: no chain is open. They are all zero.
 // Takes nothing.
@@ -17,7 +17,7 @@ use slots::Chains;
 pub extern "C" fn mortisevane_chains_fresh() -> Chains
     ensures { λ r. ⌜ r ≡ record { slots = fresh slotCount } ⌝ }
 {
-    lent::fresh()
+    chain::fresh()
 }
 
 // A fragment for an address number: it begins a chain, goes on with one, or hands out a text.
@@ -52,5 +52,5 @@ pub extern "C" fn mortisevane_chain_drop(
 ) -> ChainDrop
     ensures { λ r. ⌜ r ≡ asDrop (dropOf (chains .slots) address «message_number») (droppedFrom (chains .slots) address «message_number») ⌝ }
 {
-    dropping::drop_chain(chains, address, message_number)
+    chain::drop_chain(chains, address, message_number)
 }

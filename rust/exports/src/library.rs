@@ -53,7 +53,7 @@ const GROUPS: [(&str, &str, &str, &str); 6] = [
 
 /// The name, what it is, and the crate and constant that it is.
 const LIMITS: [(&str, &str, &str, &str); 6] = [
-    ("SLOTS", "Chains that can be open at a time.", "slots", "SLOTS"),
+    ("SLOTS", "Chains that can be open at a time.", "chain", "SLOTS"),
     ("TEXT_CHARACTERS", "The longest text.", "fragment", "MOST_CHARACTERS"),
     ("FRAGMENT_WORDS", "The most words of a fragment.", "fragment", "MOST_WORDS"),
     ("PAGE_WORDS", "The most words of a numeric page.", "numeric", "MOST_WORDS"),

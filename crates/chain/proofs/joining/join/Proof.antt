@@ -1,0 +1,214 @@
+-- `join` meets its contract: each return is one case of what becomes of the chain.
+use Prim.Native.Nat.{_+_, _*_, _<_, _≤_}
+use mathlib.Core.Logic.{⊎-elim}
+use mathlib.Core.Path.{refl, ap₂, _≡_, sym, ap, _∙_}
+use mathlib.Core.List.{List, [], _∷_}
+use mathlib.Core.Bool.{true, false, not, _&&_}
+use native.Mathlib.Nat.{eq-or-lt-of-le}
+use native.Mathlib.Omega.{arith}
+use lib.ListN.{set, length}
+use Rattle.laws.specs.Choice.{bitOf}
+use Rattle.laws.specs.Lists.{put}
+use Rattle.refusal.specs.declared.Refusal.the-variants.{NoChain, Full}
+use Rattle.refusal.specs.Told.{told, refused}
+use Rattle.fragment.specs.Fragments.{textIn}
+use Rattle.fragment.specs.declared.FragmentRead.{FragmentRead}
+use Rattle.chain.specs.declared.Chain.{Chain}
+use Rattle.chain.specs.Chains.{blank}
+use Rattle.chain.specs.Steps.{chainBefore, isFirst, fate, fateOf, recordAfter, rowAfter}
+use Rattle.chain.proofs.Steps.{slot-most}
+use Rattle.chain.specs.Answers.{known}
+use Rattle.chain.specs.declared.ChainFate.{ChainFate}
+use Rattle.chain.specs.FateAnswers.{fateNumber, asFate}
+use Rattle.chain.specs.JoiningPieces.{takenOf, turnOf, orphan}
+use Rattle.chain.proofs.joining.Turns.{settled, has-room, joins-none, joins-lost, joins-full, joins-taken, refused-joins, taken-joins}
+use Rattle.chain.specs.declared.joining.Turn.{Turn}
+use borrow.Author.Needs.{needs}
+use Rattle.chain.proofs.joining.join.Statement.{statement}
+use Rattle.chain.proofs.joining.join.Tie as tie
+
+long : (c : tie.Start) → length (c .args .slots) ≡ 8
+long c = search needs
+
+-- where the fragment goes
+there : (c : tie.After-turn-of) → let start = c .before .before .before in c .turn-of .result ≡ turnOf (start .args .slots) (start .args .address) (start .args .heading)
+there c = c .turn-of .ensures
+
+-- it is none of a key without a chain
+no-orphan : (c : tie.Else1) → let start = c .before .before .before .before .before .before .before .before .before in orphan (start .args .slots) (start .args .address) (start .args .heading) ≡ false
+no-orphan c =
+    let found = c .before .before .before .before .before .before in
+    let h = found .before .before .before .args .heading in
+    ap (λ (t : Turn). not (isFirst h) && not (t .known)) (sym (there found)) ∙ c .if1 .left
+
+-- what becomes of the chain
+fate-is : (c : tie.After-fate) → let start = c .before .before .before .before in c .fate .result ≡ asFate (fateOf (start .args .slots) (start .args .address) (start .args .heading))
+fate-is c =
+    let found = c .before in
+    let h = found .before .before .before .args .heading in
+    c .fate .ensures ∙ ap (λ (t : Turn). asFate (fate (t .chain) h)) (there found)
+
+-- the records then
+row-is : (c : tie.After-stored2) → let start = c .before .before .before .before .before .before in c .stored2 .result ≡ rowAfter (start .args .slots) (start .args .address) (start .args .heading)
+row-is c =
+    let found = c .before .before .before in
+    let start = found .before .before .before in
+    let row = start .args .slots in
+    let fated = c .before .before in
+    c .stored2 .ensures
+    ∙ ap (λ (after : List Chain). set after (found .turn-of .result .slot) (fated .fate .result .chain)) (c .before .stored .ensures)
+    ∙ ap₂ (λ (t : Turn) (f : ChainFate). set (set row (t .older) blank) (t .slot) (f .chain)) (there found) (fate-is fated)
+    ∙ settled row (start .args .address) (start .args .heading) (recordAfter (fateOf row (start .args .address) (start .args .heading)))
+
+-- the chain is not lost
+not-lost : (c : tie.Else2) → let start = c .before .before .before .before .before .before .before .before .before .before .before in fateNumber (fateOf (start .args .slots) (start .args .address) (start .args .heading)) ≡ 0
+not-lost c = sym (ap (λ (g : ChainFate). g .number) (fate-is (c .before .before .before .before .before .before .before))) ∙ c .if2 .left
+
+-- the slot is one of eight, and has room for the text
+bounds : (c : tie.Else3) → let found = c .before .before .before .before .before .before .before .before .before .before in
+    (found .turn-of .result .slot < 8) × (found .turn-of .result .chain .characters + found .before .before .before .args .heading .characters ≤ 1008)
+bounds c =
+    let found = c .before .before .before .before .before .before .before .before .before .before in
+    let start = found .before .before .before in
+    let most : found .turn-of .result .slot ≤ 8 = rw (there found, ← long start) (slot-most (start .args .slots) (start .args .address) (start .args .heading)) in
+    (⊎-elim (λ same. absurd (c .if3 .left same)) (λ less. less) (eq-or-lt-of-le most), rw (there found) (has-room (chainBefore (start .args .slots) (start .args .address) (start .args .heading)) (start .args .heading) (not-lost (c .before .before))))
+
+turn-of-requires : tie.Need-turn-of-requires
+turn-of-requires c κs = search needs
+
+fate-requires : tie.Need-fate-requires
+fate-requires c κs = search needs
+
+stored-requires : tie.Need-stored-requires
+stored-requires c κs = search needs
+
+stored-requires-2 : tie.Need-stored-requires-2
+stored-requires-2 c κs = search needs
+
+number-requires : tie.Need-number-requires
+number-requires c κs = search needs
+
+unchanged-requires : tie.Need-unchanged-requires
+unchanged-requires c κs = search needs
+
+returns : tie.Need-returns
+returns c =
+    let step = c .before .before .before .before .before in
+    let found = step .before .before .before in
+    let start = found .before .before .before in
+    let row = start .args .slots in
+    let h = start .args .heading in
+    let is : orphan row (start .args .address) h ≡ true = ap (λ (t : Turn). not (isFirst h) && not (t .known)) (sym (there found)) ∙ c .before .before .if1 .taken in
+    refused-joins row (start .args .address) (start .args .words .now) (start .args .buffer .now) h (start .pre .1 .1) (c .unchanged .result) (refused NoChain) (rowAfter row (start .args .address) h)
+    (joins-none row (start .args .address) h is)
+    (c .unchanged .ensures ∙ rw (c .before .number .ensures, row-is step))
+    (λ none. omega arith)
+
+refused-requires : tie.Need-refused-requires
+refused-requires c κs = search needs
+
+returns-2 : tie.Need-returns-2
+returns-2 c =
+    let found = c .before .before .before .before .before .before .before .before .before in
+    let start = found .before .before .before in
+    let row = start .args .slots in
+    let h = start .args .heading in
+    let step = c .before .before .before .before .before .before in
+    let fated = step .before .before in
+    let f = fateOf row (start .args .address) h in
+    refused-joins row (start .args .address) (start .args .words .now) (start .args .buffer .now) h (start .pre .1 .1) _ (told (fateNumber f) (bitOf (known row (start .args .address) h) ∷ [])) (rowAfter row (start .args .address) h)
+    (joins-lost row (start .args .address) h (no-orphan (c .before .before .before)) (λ none. c .before .if2 .taken (ap (λ (g : ChainFate). g .number) (fate-is fated) ∙ none)))
+    (rw (c .refused .ensures, row-is step, fate-is fated, there found))
+    (λ none. c .before .if2 .taken (ap (λ (g : ChainFate). g .number) (fate-is fated) ∙ none))
+
+number-requires-2 : tie.Need-number-requires-2
+number-requires-2 c κs = search needs
+
+unchanged-requires-2 : tie.Need-unchanged-requires-2
+unchanged-requires-2 c κs = search needs
+
+returns-3 : tie.Need-returns-3
+returns-3 c =
+    let found = c .before .before .before .before .before .before .before .before .before .before .before .before in
+    let start = found .before .before .before in
+    let row = start .args .slots in
+    let h = start .args .heading in
+    let step = c .before .before .before .before .before .before .before .before .before in
+    refused-joins row (start .args .address) (start .args .words .now) (start .args .buffer .now) h (start .pre .1 .1) (c .unchanged2 .result) (refused Full) (rowAfter row (start .args .address) h)
+    (joins-full row (start .args .address) h (no-orphan (c .before .before .before .before .before .before)) (not-lost (c .before .before .before .before)) (sym (ap (λ (t : Turn). t .slot) (there found)) ∙ c .before .before .if3 .taken ∙ sym (long start)))
+    (c .unchanged2 .ensures ∙ rw (c .before .number2 .ensures, row-is step))
+    (λ none. omega arith)
+
+mul-end : tie.Need-mul-end
+mul-end c =
+    let found = c .before .before .before .before .before .before .before .before .before .before .before in
+    let start = found .before .before .before in
+    let row = start .args .slots in
+    let h = start .args .heading in
+    omega (arith, bounds (c .before) .0)
+
+add-end : tie.Need-add-end
+add-end c =
+    let found = c .before .before .before .before .before .before .before .before .before .before .before .before in
+    let start = found .before .before .before in
+    let row = start .args .slots in
+    let h = start .args .heading in
+    omega (arith, bounds (c .before .before))
+
+write-at-requires : tie.Need-write-at-requires
+write-at-requires c κs =
+    let found = c .before .before .before .before .before .before .before .before .before .before .before .before .before in
+    let start = found .before .before .before in
+    let row = start .args .slots in
+    let h = start .args .heading in
+    let size : length (textIn (start .args .words .now)) ≡ h .characters = ap (λ (f : FragmentRead). f .characters) (sym (start .pre .1 .1)) in
+    omega (arith, bounds (c .before .before .before), start .pre .1 .0)
+
+taken-requires : tie.Need-taken-requires
+taken-requires c κs =
+    let found = c .before .before .before .before .before .before .before .before .before .before .before .before .before .before .before .before in
+    let start = found .before .before .before in
+    let row = start .args .slots in
+    let h = start .args .heading in
+    bounds (c .before .before .before .before .before .before)
+
+same-length : tie.Need-same-length
+same-length c = search needs
+
+returns-4 : tie.Need-returns-4
+returns-4 c =
+    let found = c .before .before .before .before .before .before .before .before .before .before .before .before .before .before .before .before .before in
+    let start = found .before .before .before in
+    let row = start .args .slots in
+    let h = start .args .heading in
+    let slot = c .before .before .before .before .before .before .before in
+    let step = slot .before .before .before .before .before .before .before in
+    taken-joins row (start .args .address) (start .args .words .now) (start .args .buffer .now) h (start .pre .1 .1) _ (takenOf (turnOf row (start .args .address) h) h) (rowAfter row (start .args .address) h)
+    (joins-taken row (start .args .address) h (no-orphan (slot .before .before .before .before)) (not-lost (slot .before .before)) (λ same. slot .if3 .left (ap (λ (t : Turn). t .slot) (there found) ∙ same ∙ long start)))
+    (rw (c .taken .ensures, row-is step, there found))
+    _
+    refl
+    (c .before .before .before .write-at .ensures ∙ ap (λ (t : Turn). put (start .args .buffer .now) (t .slot * 1008 + t .chain .characters) (textIn (start .args .words .now))) (there found))
+
+pub join-spec : {M : Type 1} → statement M
+join-spec =
+    tie.close
+    (tie.spec
+    turn-of-requires
+    fate-requires
+    stored-requires
+    stored-requires-2
+    number-requires
+    unchanged-requires
+    returns
+    refused-requires
+    returns-2
+    number-requires-2
+    unchanged-requires-2
+    returns-3
+    mul-end
+    add-end
+    write-at-requires
+    taken-requires
+    same-length
+    returns-4)

@@ -1,0 +1,134 @@
+-- `step` meets its contract: each return is one line of the definition.
+use Prim.Native.Nat.{ℕ, _*_, _≤_}
+use mathlib.Core.Bool.{true}
+use mathlib.Core.List.{[]}
+use mathlib.Core.Path.{_≡_, sym, ap, _∙_}
+use native.Mathlib.Omega.{arith}
+use borrow.Author.Tests.{not-true, not-false}
+use lib.ListN.{length, length-map}
+use Rattle.refusal.specs.Told.{told, numberTold}
+use Rattle.fragment.specs.Answers.{headingOf}
+use Rattle.fragment.proofs.Laws.{heading-told, accepted}
+use Rattle.fragment.specs.declared.FragmentRead.{FragmentRead}
+use Rattle.fragment.specs.FlatAnswers.{asFragment}
+use Rattle.chain.specs.Chains.{sound}
+use Rattle.chain.specs.Answers.{asStep}
+use Rattle.chain.proofs.joining.Answering.{no-room, unsound, no-address, no-fragment, stops-early, goes-late}
+use borrow.Author.Needs.{needs}
+use Rattle.chain.proofs.joining.step.Statement.{statement}
+use Rattle.chain.proofs.joining.step.Tie as tie
+
+long : (c : tie.Start) → length (c .args .chains .slots) ≡ 8
+long c = sym (length-map (c .args .chains .slots) _) ∙ c .good .0 .1 .1 .0 .1 .0 .1
+
+-- there is room for the texts
+room : (c : tie.Else1) → let start = c .before .before .before .before in length (start .args .chains .slots) * 1008 ≤ length (start .args .buffer .now)
+room c = omega (arith, long (c .before .before .before .before), c .if1 .left)
+
+-- the records are sound
+right : (c : tie.Else2) → sound (c .before .before .before .before .before .before .args .chains .slots) ≡ true
+right c = sym (c .before .sound .ensures) ∙ not-false (c .before .sound .result) (c .if2 .left)
+
+-- what the fragment tells
+told-of : (c : tie.After-heading) → c .heading .result .number ≡ numberTold (headingOf (c .before .before .before .before .before .before .before .before .args .words .now))
+told-of c = ap (λ (f : FragmentRead). f .number) (c .heading .ensures)
+
+mul-if1 : tie.Need-mul-if1
+mul-if1 c = search needs
+
+number-requires : tie.Need-number-requires
+number-requires c κs = search needs
+
+unchanged-requires : tie.Need-unchanged-requires
+unchanged-requires c κs = search needs
+
+returns : tie.Need-returns
+returns c =
+    let start = c .before .before .before .before .before .before in
+    stops-early (start .args .chains .slots) (start .args .address) (start .args .words .now) (start .args .buffer .now) (c .unchanged .result) 1 (λ none. omega arith)
+    (no-room (start .args .chains .slots) (start .args .address) (start .args .words .now) (length (start .args .buffer .now)) (omega (arith, long start, c .before .before .if1 .taken)))
+    (c .unchanged .ensures ∙ ap (λ (n : ℕ). asStep (told n []) (start .args .chains .slots)) (c .before .number .ensures))
+
+sound-requires : tie.Need-sound-requires
+sound-requires c κs = search needs
+
+number-requires-2 : tie.Need-number-requires-2
+number-requires-2 c κs = search needs
+
+unchanged-requires-2 : tie.Need-unchanged-requires-2
+unchanged-requires-2 c κs = search needs
+
+returns-2 : tie.Need-returns-2
+returns-2 c =
+    let start = c .before .before .before .before .before .before .before .before in
+    stops-early (start .args .chains .slots) (start .args .address) (start .args .words .now) (start .args .buffer .now) (c .unchanged2 .result) 2 (λ none. omega arith)
+    (unsound (start .args .chains .slots) (start .args .address) (start .args .words .now) (length (start .args .buffer .now)) (room (c .before .before .before .before)) (sym (c .before .before .before .sound .ensures) ∙ not-true (c .before .before .before .sound .result) (c .before .before .if2 .taken)))
+    (c .unchanged2 .ensures ∙ ap (λ (n : ℕ). asStep (told n []) (start .args .chains .slots)) (c .before .number2 .ensures))
+
+number-requires-3 : tie.Need-number-requires-3
+number-requires-3 c κs = search needs
+
+unchanged-requires-3 : tie.Need-unchanged-requires-3
+unchanged-requires-3 c κs = search needs
+
+returns-3 : tie.Need-returns-3
+returns-3 c =
+    let start = c .before .before .before .before .before .before .before .before .before in
+    stops-early (start .args .chains .slots) (start .args .address) (start .args .words .now) (start .args .buffer .now) (c .unchanged3 .result) 8 (λ none. omega arith)
+    (no-address (start .args .chains .slots) (start .args .address) (start .args .words .now) (length (start .args .buffer .now)) (room (c .before .before .before .before .before)) (right (c .before .before .before)) (c .before .before .if3 .taken))
+    (c .unchanged3 .ensures ∙ ap (λ (n : ℕ). asStep (told n []) (start .args .chains .slots)) (c .before .number3 .ensures))
+
+heading-requires : tie.Need-heading-requires
+heading-requires c κs = search needs
+
+unchanged-requires-4 : tie.Need-unchanged-requires-4
+unchanged-requires-4 c κs = search needs
+
+returns-4 : tie.Need-returns-4
+returns-4 c =
+    let headed = c .before .before .before in
+    let start = headed .before .before .before .before .before .before .before .before in
+    let some : numberTold (headingOf (start .args .words .now)) ≡ 0 → ⊥ = λ none. c .before .if4 .taken (told-of headed ∙ none) in
+    stops-early (start .args .chains .slots) (start .args .address) (start .args .words .now) (start .args .buffer .now) (c .unchanged4 .result) (numberTold (headingOf (start .args .words .now))) some
+    (no-fragment (start .args .chains .slots) (start .args .address) (start .args .words .now) (length (start .args .buffer .now)) (room (headed .before .before .before .before)) (right (headed .before .before)) (headed .before .if3 .left) some)
+    (c .unchanged4 .ensures ∙ ap (λ (n : ℕ). asStep (told n []) (start .args .chains .slots)) (told-of headed))
+
+join-requires : tie.Need-join-requires
+join-requires c κs =
+    let headed = c .before .before .before in
+    let start = headed .before .before .before .before .before .before .before .before in
+    let none = sym (told-of headed) ∙ c .before .if4 .left in
+    (right (headed .before .before), (omega (arith, long start, room (headed .before .before .before .before)), headed .heading .ensures ∙ ap asFragment (heading-told (start .args .words .now) (accepted (start .args .words .now) .0 none))))
+
+same-length : tie.Need-same-length
+same-length c = search needs
+
+returns-5 : tie.Need-returns-5
+returns-5 c =
+    let headed = c .before .before .before .before .before .before in
+    let start = headed .before .before .before .before .before .before .before .before in
+    goes-late (start .args .chains .slots) (start .args .address) (start .args .words .now) (start .args .buffer .now) (c .before .before .join .result) _ (room (headed .before .before .before .before)) (right (headed .before .before)) (headed .before .if3 .left) (sym (told-of headed) ∙ c .before .before .before .before .if4 .left)
+    (c .before .before .join .ensures .0)
+    (c .before .before .join .ensures .1)
+
+pub step-spec : {M : Type 1} → statement M
+step-spec =
+    tie.close
+    (tie.spec
+    mul-if1
+    number-requires
+    unchanged-requires
+    returns
+    sound-requires
+    number-requires-2
+    unchanged-requires-2
+    returns-2
+    number-requires-3
+    unchanged-requires-3
+    returns-3
+    heading-requires
+    unchanged-requires-4
+    returns-4
+    join-requires
+    same-length
+    returns-5)

@@ -1,4 +1,0 @@
-pub mod Answers
-pub mod Chains
-pub mod Runs
-pub mod Steps
