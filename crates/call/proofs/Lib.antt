@@ -1,1 +1,10 @@
-pub mod Opening
+pub mod Came
+pub mod Examples
+pub mod Laws
+pub mod MemoryLaws
+pub mod Premises
+pub mod Records
+pub mod Rows
+pub mod Runs
+pub mod Spans
+pub mod WordExamples

@@ -2,14 +2,14 @@
 // calls: `number` is 0, or 01's number of the refusal. The records go in and come back by value; the words lie in the
 // lent memory of 680 words, where those of a call are `words` of them from its place on.
 ghost use mathlib.Core.Path.{_≡_};
-ghost use Rattle.calls.specs.Calls.{mostCalls, fresh};
-ghost use Rattle.calls.specs.Words.{placeOf};
-ghost use Rattle.calls.specs.Answers.{openOf, openedIn, hearOf, heardIn, memoryAfter, endOf, endedWith, endedIn, asOpening, asHearing, asEnd};
-use calls::Call;
-use calls::CallHearing;
-use calls::CallOpening;
-use calls::Calls;
-use calls::FrameEnd;
+ghost use Rattle.call.specs.Calls.{mostCalls, fresh};
+ghost use Rattle.call.specs.Words.{placeOf};
+ghost use Rattle.call.specs.Answers.{openOf, openedIn, hearOf, heardIn, memoryAfter, endOf, endedWith, endedIn, asOpening, asHearing, asEnd};
+use call::Call;
+use call::CallHearing;
+use call::CallOpening;
+use call::Calls;
+use call::FrameEnd;
 use packet::Packet;
 
 // The records with no call open: after a reset, and after an end of frame. They are all zero.
@@ -20,7 +20,7 @@ use packet::Packet;
 pub extern "C" fn mortisevane_calls_fresh() -> Calls
     ensures { λ r. ⌜ r ≡ fresh mostCalls ⌝ }
 {
-    ending::fresh()
+    call::fresh()
 }
 
 // An address packet, which opens a call.
@@ -45,7 +45,7 @@ pub extern "C" fn mortisevane_call_hear(calls: Calls, memory: &mut [u32], bits: 
     ensures told { λ r. ⌜ r ≡ asHearing (hearOf calls (now (memory .entry)) bits) (heardIn calls (now (memory .entry)) bits) ⌝ }
     ensures memory { λ r. ⌜ now (memory .exit) ≡ memoryAfter calls (now (memory .entry)) bits ⌝ }
 {
-    hearing::hear(calls, memory, Packet { bits: bits })
+    call::hear(calls, memory, Packet { bits: bits })
 }
 
 // The end of a frame, which closes all calls.
@@ -56,7 +56,7 @@ pub extern "C" fn mortisevane_call_hear(calls: Calls, memory: &mut [u32], bits: 
 pub extern "C" fn mortisevane_call_end(calls: Calls, memory: &[u32]) -> FrameEnd
     ensures { λ r. ⌜ r ≡ asEnd (endOf calls (now (memory .entry))) (endedWith calls (now (memory .entry))) (endedIn calls (now (memory .entry))) ⌝ }
 {
-    ending::end_frame(calls, memory)
+    call::end_frame(calls, memory)
 }
 
 // Where the words of a call begin in the lent memory.
@@ -67,5 +67,5 @@ pub extern "C" fn mortisevane_call_end(calls: Calls, memory: &[u32]) -> FrameEnd
 pub extern "C" fn mortisevane_call_place(call: Call) -> usize
     ensures { λ r. ⌜ r ≡ placeOf call ⌝ }
 {
-    area::place(call)
+    call::place(call)
 }

@@ -57,8 +57,8 @@ const LIMITS: [(&str, &str, &str, &str); 6] = [
     ("TEXT_CHARACTERS", "The longest text.", "fragment", "MOST_CHARACTERS"),
     ("FRAGMENT_WORDS", "The most words of a fragment.", "fragment", "MOST_WORDS"),
     ("PAGE_WORDS", "The most words of a numeric page.", "numeric", "MOST_WORDS"),
-    ("CALLS", "Calls that can be open at a time.", "calls", "MOST_CALLS"),
-    ("CALL_WORDS", "The memory that calls are lent, in words.", "calls", "MEMORY"),
+    ("CALLS", "Calls that can be open at a time.", "call", "MOST_CALLS"),
+    ("CALL_WORDS", "The memory that calls are lent, in words.", "call", "MEMORY_WORDS"),
 ];
 
 /// What follows from the limits.

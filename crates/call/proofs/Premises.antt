@@ -1,0 +1,130 @@
+-- What each premise of the laws of calls is for: records for which a law fails without it. Worked by hand from Tables 31 and 40 and from 01.
+use Prim.Native.Nat.{ℕ}
+use mathlib.Core.Bool.{true, false}
+use mathlib.Core.List.{[], _∷_, _++_, map}
+use mathlib.Core.Path.{_≡_, refl}
+use lib.ListN.{length, getD, set, replicate}
+use Rattle.laws.specs.Lists.{firstThat, placeIn, all, anyOf, those, upFrom}
+use Rattle.refusal.specs.Told.{numberTold}
+use Rattle.call.specs.declared.Call.{Call}
+use Rattle.call.specs.declared.Calls.{Calls}
+use Rattle.call.specs.Calls.{blank, fresh, opens, isOf, find, sound}
+use Rattle.call.specs.Words.{lacking, givenTo, finished}
+use Rattle.call.specs.Steps.{nextArea, added, removed, listed}
+use Rattle.call.specs.Answers.{openOf, openedIn, hearOf, heardIn, memoryAfter, hearNumber, endOf, endedWith, endedIn}
+use Rattle.call.specs.Runs.{State, addressed, heard, ended, answers, after, afterAll}
+use Rattle.call.proofs.Rows.{left}
+
+-- a call of a key that awaits its vector
+abbrev pub waits : ℕ → ℕ → Call
+waits phase vector =
+    record { phase = phase; vector = vector; address = 0; priority = 0; «long_address» = 0; «has_vector» = 0; kind = 0; check = 0; start = 0; words = 0; area = 0 }
+
+-- .. and one whose vector has come, a standard numeric one (V 3): where its words begin, how many they are, and their area
+abbrev pub spans : ℕ → ℕ → ℕ → ℕ → ℕ → Call
+spans phase vector start words area =
+    record { phase = phase; vector = vector; address = 0; priority = 0; «long_address» = 0; «has_vector» = 1; kind = 3; check = 0; start = start; words = words; area = area }
+
+-- two records, so many of them open calls
+abbrev two : ℕ → Call → Call → Calls
+two size first second = record { size = size; calls = first ∷ second ∷ [] }
+
+-- a state of them, with the memory that is lent
+abbrev state : Calls → State
+state s = record { calls = s; memory = replicate 680 lacking }
+
+-- Table 31: word 2, phase A, V 3, K 0, one word, which is word 3
+abbrev pub good : ℕ
+good = 0x02030003
+
+-- .. which is word 2, the vector's own: a bad span
+abbrev pub bad : ℕ
+bad = 0x02030002
+
+-- ---- a sound row
+
+-- two calls of one key: the first is found, though the other is the key's too
+pub sound-needed : (find 0 2 (waits 0 2 ∷ spans 0 2 3 1 0 ∷ []) ≡ 0) × (isOf 0 2 (getD (waits 0 2 ∷ spans 0 2 3 1 0 ∷ []) 1 blank) ≡ true)
+unfolding firstThat
+sound-needed = (refl, refl)
+
+-- .. and with the first one's vector there are still two, so that the row is not sound
+pub sound-stays-not : sound (set (waits 0 2 ∷ spans 0 2 3 1 0 ∷ []) 0 (spans 0 2 3 1 1)) ≡ false
+unfolding sound firstThat
+sound-stays-not = refl
+
+-- .. but every packet and the end of the frame are refused, so that records that are not sound stay as they are
+pub unsound-stays : afterAll (state (two 2 (waits 0 2) (spans 0 2 3 1 0))) (heard good ∷ ended ∷ heard bad ∷ []) .calls ≡ two 2 (waits 0 2) (spans 0 2 3 1 0)
+unfolding afterAll hearOf heardIn memoryAfter endOf endedIn sound firstThat
+unsound-stays = refl
+
+-- a key's second call, or one outside the limits, put behind a row
+pub alone-needed : sound ((waits 0 2 ∷ []) ++ waits 0 2 ∷ []) ∷ sound ((waits 0 2 ∷ []) ++ waits 4 2 ∷ []) ∷ sound ((waits 0 2 ∷ []) ++ waits 0 88 ∷ []) ∷ [] ≡ false ∷ false ∷ false ∷ []
+unfolding sound firstThat
+alone-needed = refl
+
+-- a call changed that takes another's key, or a span outside the limits
+pub key-needed : sound (set (waits 0 2 ∷ waits 1 2 ∷ []) 0 (waits 1 2)) ∷ sound (set (waits 0 2 ∷ waits 1 2 ∷ []) 0 (spans 0 2 2 1 0)) ∷ [] ≡ false ∷ false ∷ []
+unfolding sound firstThat
+key-needed = refl
+
+-- ---- places
+
+-- no record is free: a call that is added is lost
+pub free-needed : opens (added (record { size = 1; calls = waits 0 2 ∷ [] }) (waits 1 2)) ≡ waits 0 2 ∷ []
+free-needed = refl
+
+-- the record is no open call: the last open one is lost
+pub open-needed : opens (removed (two 1 (waits 0 2) (waits 1 2)) 1) ≡ []
+open-needed = refl
+
+-- a list longer than the records
+pub room-needed : length (listed 1 (waits 0 2 ∷ waits 1 2 ∷ []) .calls) ≡ 2
+room-needed = refl
+
+-- ---- calls that stay
+
+-- the call of a vector changes, or is closed; the other stays, one place down behind the closed one
+pub other-needed : map opens (after (state (two 2 (waits 0 2) (waits 1 2))) (heard good) .calls ∷ after (state (two 2 (waits 0 2) (waits 1 2))) (heard bad) .calls ∷ [])
+    ≡ (spans 0 2 3 1 0 ∷ waits 1 2 ∷ []) ∷ (waits 1 2 ∷ []) ∷ []
+unfolding hearOf heardIn sound firstThat those
+other-needed = refl
+
+-- .. told 0 and 9: no other number changes a record
+pub number-needed : map (hearNumber (two 2 (waits 0 2) (waits 1 2)) (replicate 680 lacking)) (good ∷ bad ∷ []) ≡ 0 ∷ 9 ∷ []
+unfolding hearOf sound firstThat
+number-needed = refl
+
+-- the end of a frame closes a call that has its vector
+pub frame-needed : opens (after (state (two 1 (spans 0 2 3 1 0) blank)) ended .calls) ≡ []
+unfolding endOf endedIn sound firstThat
+frame-needed = refl
+
+-- ---- areas
+
+-- a call left out that has its vector: the other's area is then not below the number of those with one
+pub vector-needed : (nextArea (left 0 (spans 0 2 3 1 0 ∷ spans 1 2 3 1 1 ∷ [])) ≡ 1) × (getD (left 0 (spans 0 2 3 1 0 ∷ spans 1 2 3 1 1 ∷ [])) 0 blank .area ≡ 1)
+unfolding those
+vector-needed = (refl, refl)
+
+-- .. and a vector that comes then takes the same area
+pub area-again : nextArea (left 0 (spans 0 2 3 1 0 ∷ spans 1 2 3 1 1 ∷ waits 2 2 ∷ [])) ≡ 1
+unfolding those
+area-again = refl
+
+-- ---- records for which they hold
+
+-- an address packet (Table 30: phase A, address number 0, word 2), its vector, and word 3 with the bits 5: nothing is refused
+pub taken-run : map numberTold (answers (state (fresh 2)) (addressed 0x01000002 ∷ heard good ∷ heard 0x03000005 ∷ ended ∷ [])) ≡ 0 ∷ 0 ∷ 0 ∷ 0 ∷ []
+unfolding answers openOf openedIn hearOf heardIn memoryAfter endOf endedIn sound firstThat placeIn upFrom anyOf those givenTo finished all
+taken-run = refl
+
+-- .. the call has its vector then
+pub taken-calls : opens (afterAll (state (fresh 2)) (addressed 0x01000002 ∷ heard good ∷ heard 0x03000005 ∷ []) .calls) ≡ spans 0 2 3 1 0 ∷ []
+unfolding afterAll openOf openedIn hearOf heardIn memoryAfter sound firstThat placeIn upFrom anyOf those givenTo finished all
+taken-calls = refl
+
+-- .. and before its word has come the end of the frame lists it
+pub listed-calls : opens (endedWith (two 1 (spans 0 2 3 1 0) blank) (replicate 680 lacking)) ∷ opens (endedWith (two 1 (spans 0 2 3 1 0) blank) (5 ∷ replicate 679 lacking)) ∷ [] ≡ (spans 0 2 3 1 0 ∷ []) ∷ [] ∷ []
+unfolding endOf endedWith sound firstThat those all
+listed-calls = refl

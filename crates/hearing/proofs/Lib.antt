@@ -1,2 +1,0 @@
-pub mod Answering
-pub mod Turns
