@@ -9,8 +9,8 @@ use lib.ListN.{length, take, set}
 use borrow.Author.Tests.{leb-true, eq-eqb, ne-eqb}
 use Rattle.laws.proofs.Tests.{first-of, second-of}
 use Rattle.laws.proofs.Writing.{put-one}
-use Rattle.opening.specs.Stands.{stand}
-use Rattle.lister.specs.declared.Course.{Course}
+use Rattle.lister.specs.Stands.{stand}
+use Rattle.lister.specs.declared.feeding.Course.{Course}
 use Rattle.lister.specs.Portions.{kept, asItIs, writes, next, FedByte}
 use Rattle.lister.proofs.Writes.{shown-plain, writes-byte}
 use Rattle.lister.proofs.Keeping.{keep-none, next-kept}

@@ -10,7 +10,7 @@ use lib.ListN.{length, take, set, length-take, length-append}
 use lib.Seq.{take-all, take-append-le, take-suc-set, length-take-le}
 use borrow.Author.Tests.{ne-eqb}
 use Rattle.laws.proofs.Writing.{take-joined}
-use Rattle.opening.specs.Stands.{stand}
+use Rattle.lister.specs.Stands.{stand}
 use Rattle.lister.specs.Portions.{kept, heldBytes, next}
 
 module _ (line : List ℕ) (count : ℕ) (sixteen : length line ≡ 16) where

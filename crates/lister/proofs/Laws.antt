@@ -18,10 +18,10 @@ use Rattle.capcode.specs.Text.{digits}
 use Rattle.capcode.specs.declared.Capcode.{Capcode}
 use Rattle.capcode.specs.declared.reading.Form.{Form}
 use Rattle.capcode.specs.Reads.{stepOf, follow, formOf, readOf}
-use Rattle.opening.specs.Stands.{Stand, standOf, fresh}
-use Rattle.opening.specs.Texts.{header}
+use Rattle.lister.specs.Stands.{Stand, standOf, fresh}
+use Rattle.lister.specs.Texts.{header}
 use Rattle.lister.specs.declared.Fed.{Fed}
-use Rattle.verdict.specs.Verdicts.{verdictOf}
+use Rattle.lister.specs.Verdicts.{verdictOf}
 use Rattle.lister.specs.Lines.{shown, withoutReturn, listedFrom, listing}
 use Rattle.lister.specs.Portions.{kept, writes, next, writesAll, nextAll, mostWritten, takenOf, closes, FedAll}
 use Rattle.lister.proofs.Lengths.{writes-short}

@@ -6,9 +6,9 @@ use native.Mathlib.Omega.{arith}
 use lib.Dec.{eqb, leb}
 use lib.ListN.{length, length-append}
 use Rattle.laws.specs.Choice.{pick}
-use Rattle.opening.specs.Stands.{Stand, stand}
-use Rattle.verdict.specs.Verdicts.{lineFeed, verdictOf}
-use Rattle.verdict.proofs.Lengths.{pick-short, verdict-short}
+use Rattle.lister.specs.Stands.{Stand, stand}
+use Rattle.lister.specs.Verdicts.{lineFeed, verdictOf}
+use Rattle.lister.proofs.line_end.Lengths.{pick-short, verdict-short}
 use Rattle.lister.specs.Lines.{shownByte}
 use Rattle.lister.specs.Portions.{heldShown, writes, mostWritten}
 use Rattle.lister.proofs.Writes.{held-length}

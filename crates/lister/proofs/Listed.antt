@@ -8,8 +8,8 @@ use lib.ListN.{take}
 use borrow.Author.Tests.{eqb-true}
 use Rattle.laws.specs.Choice.{pick}
 use Rattle.laws.proofs.Writing.{take-joined}
-use Rattle.opening.specs.Stands.{Stand, stand, fresh}
-use Rattle.verdict.specs.Verdicts.{lineFeed, verdictOf}
+use Rattle.lister.specs.Stands.{Stand, stand, fresh}
+use Rattle.lister.specs.Verdicts.{lineFeed, verdictOf}
 use Rattle.lister.specs.Lines.{carriageReturn, shownByte, shown, lineOf, withoutReturn, listedFrom}
 use Rattle.lister.specs.Portions.{kept, heldBytes, heldShown, writes, next, writesAll, nextAll, closedText, closes}
 use Rattle.lister.proofs.Reading.{kept-verdict}

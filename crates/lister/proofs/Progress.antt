@@ -9,9 +9,9 @@ use native.Mathlib.Omega.{arith}
 use lib.ListN.{length, take, drop, getD, drop-of-length-le, length-append}
 use lib.Seq.{take-add, drop-cons}
 use borrow.Author.Tests.{le-leb, lt-leb}
-use Rattle.opening.specs.Stands.{Stand, stand}
-use Rattle.opening.specs.Texts.{Wrote}
-use Rattle.lister.specs.declared.Course.{Course}
+use Rattle.lister.specs.Stands.{Stand, stand}
+use Rattle.lister.specs.Texts.{Wrote}
+use Rattle.lister.specs.declared.feeding.Course.{Course}
 use Rattle.lister.specs.Portions.{standAt, writes, next, writesAll, nextAll, mostWritten, takenOf, FedByte, between, FedOn, FedAll}
 use Rattle.lister.proofs.Writes.{wrote-none, wrote-same, wrote-then}
 use Rattle.lister.proofs.Lengths.{writes-short}

@@ -12,7 +12,7 @@ use Rattle.refusal.specs.declared.Refusal.the-variants.{Text}
 use Rattle.refusal.specs.Told.{Told, refused}
 use Rattle.capcode.specs.declared.reading.Form.{Form}
 use Rattle.capcode.specs.Reads.{formOf, readBy, readOf}
-use Rattle.verdict.specs.Verdicts.{lineFeed, verdictBy, verdictOf}
+use Rattle.lister.specs.Verdicts.{lineFeed, verdictBy, verdictOf}
 use Rattle.lister.specs.Portions.{kept}
 use Rattle.lister.proofs.Said.{said-length}
 

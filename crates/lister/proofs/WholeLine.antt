@@ -12,16 +12,16 @@ use borrow.Author.Tests.{eqb-true, leb-true}
 use Rattle.laws.specs.Choice.{pick}
 use Rattle.laws.proofs.Tests.{first-of, second-of}
 use Rattle.laws.proofs.Writing.{take-joined}
-use Rattle.opening.specs.Stands.{stand, fresh}
-use Rattle.lister.specs.declared.Course.{Course}
-use Rattle.lister.specs.declared.Line.{Line}
-use Rattle.verdict.specs.Verdicts.{lineFeed, verdictOf}
+use Rattle.lister.specs.Stands.{stand, fresh}
+use Rattle.lister.specs.declared.feeding.Course.{Course}
+use Rattle.lister.specs.declared.feeding.Line.{Line}
+use Rattle.lister.specs.Verdicts.{lineFeed, verdictOf}
 use Rattle.lister.specs.Lines.{shownByte, shown}
 use Rattle.lister.specs.Portions.{standAt, kept, asItIs, next, writesAll, nextAll, mostWritten, takenOf, FedByte, Ahead, LineWritten, FedOn}
 use Rattle.lister.proofs.Writes.{wrote-same, writes-line}
 use Rattle.lister.proofs.Keeping.{next-line}
 use Rattle.lister.proofs.AsItIs.{is-not, writes-itself, stands-behind}
-use Rattle.verdict.proofs.Lengths.{verdict-short}
+use Rattle.lister.proofs.line_end.Lengths.{verdict-short}
 use Rattle.lister.proofs.Progress.{next-joined, writes-joined, taken-run, byte-on}
 use Rattle.lister.proofs.Reading.{kept-verdict}
 

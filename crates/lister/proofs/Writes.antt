@@ -8,11 +8,11 @@ use lib.Dec.{leb}
 use lib.ListN.{length, length-append}
 use borrow.Author.Tests.{eq-eqb, ne-eqb}
 use Rattle.laws.proofs.Writing.{put-nothing, put-behind}
-use Rattle.opening.specs.Stands.{stand}
-use Rattle.opening.specs.Texts.{Answered, Wrote}
-use Rattle.verdict.specs.Verdicts.{hexDigit, verdictOf}
+use Rattle.lister.specs.Stands.{stand}
+use Rattle.lister.specs.Texts.{Answered, Wrote}
+use Rattle.lister.specs.Verdicts.{hexDigit, verdictOf}
 use Rattle.lister.specs.Lines.{shownByte}
-use Rattle.opening.specs.declared.Written.{Written}
+use Rattle.lister.specs.declared.Written.{Written}
 use Rattle.lister.specs.Portions.{kept, heldBytes, heldShown, writes, closedText, closes}
 
 -- the same text by another name

@@ -1,2 +1,5 @@
 pub mod Lines
 pub mod Portions
+pub mod Stands
+pub mod Texts
+pub mod Verdicts

@@ -6,8 +6,8 @@ use mathlib.Core.List.{List, [], _∷_, _++_}
 use lib.Dec.{leb, eqb}
 use Rattle.laws.specs.Choice.{pick}
 use Rattle.laws.specs.Texts.{bytesOf}
-use Rattle.opening.specs.Texts.{header}
-use Rattle.verdict.specs.Verdicts.{lineFeed, hexDigit, verdictOf}
+use Rattle.lister.specs.Texts.{header}
+use Rattle.lister.specs.Verdicts.{lineFeed, hexDigit, verdictOf}
 
 -- the byte that is dropped before a line feed
 abbrev pub carriageReturn : ℕ

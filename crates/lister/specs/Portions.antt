@@ -7,12 +7,12 @@ use mathlib.Core.List.{List, [], _∷_, _++_}
 use lib.Dec.{leb, eqb}
 use lib.ListN.{length, take, drop, getD}
 use Rattle.laws.specs.Choice.{pick}
-use Rattle.opening.specs.Stands.{Stand, stand, standOf, fresh}
-use Rattle.opening.specs.Texts.{Wrote}
+use Rattle.lister.specs.Stands.{Stand, stand, standOf, fresh}
+use Rattle.lister.specs.Texts.{Wrote}
 use Rattle.lister.specs.declared.Fed.{Fed}
-use Rattle.lister.specs.declared.Course.{Course}
-use Rattle.lister.specs.declared.Line.{Line}
-use Rattle.verdict.specs.Verdicts.{lineFeed, verdictOf}
+use Rattle.lister.specs.declared.feeding.Course.{Course}
+use Rattle.lister.specs.declared.feeding.Line.{Line}
+use Rattle.lister.specs.Verdicts.{lineFeed, verdictOf}
 use Rattle.lister.specs.Lines.{carriageReturn, printable, shownByte, shown}
 
 -- a byte that the listing shows as it is

@@ -5,8 +5,8 @@ ghost use Prim.Native.Nat.{_≤_, _<_};
 ghost use lib.ListN.{length};
 use libc::STDIN_FILENO;
 use libc::STDOUT_FILENO;
-use opening::Lister;
-use opening::Written;
+use lister::Lister;
+use lister::Written;
 
 // What became of a part of the input: where the listing stands, how many bytes were taken, and whether
 // what they write was written.
@@ -134,14 +134,14 @@ fn write_put(answer: Written, out: &[u8]) -> bool {
 // Writes the listing's first line.
 fn write_title() -> bool {
     let mut out = io::buffer();
-    let answer = opening::title(&mut out);
+    let answer = lister::title(&mut out);
     write_put(answer, &out)
 }
 
 // Writes the end of the last line.
 fn write_close(lister: Lister) -> bool {
     let mut out = io::buffer();
-    let answer = closing::close(lister, &mut out);
+    let answer = lister::close(lister, &mut out);
     write_put(answer, &out)
 }
 
@@ -149,7 +149,7 @@ fn main() {
     if !write_title() {
         return;
     }
-    let turn = list_all(opening::start());
+    let turn = list_all(lister::start());
     if turn.is_well {
         let lister = turn.lister;
         write_close(lister);

@@ -1,0 +1,76 @@
+-- A verdict as it is told, and what it says of its text.
+use Prim.Native.Nat.{ℕ, _≤_, _<_, _/_, _%_, _+_, _-_}
+use mathlib.Core.Bool.{Bool, true, false}
+use mathlib.Core.Path.{_≡_, refl, sym, ap, _∙_}
+use mathlib.Core.List.{List, [], _∷_, _++_, append-nil}
+use native.Mathlib.Omega.{arith}
+use borrow.Author.Tests.{eqb-true}
+use lib.ListN.{length, take, replicate, length-append, length-replicate}
+use lib.Seq.{take-at}
+use Rattle.refusal.specs.declared.Refusal.{Refusal}
+use Rattle.refusal.specs.Told.{numberOf, refused, numberTold}
+use Rattle.capcode.specs.declared.Capcode.{Capcode}
+use Rattle.capcode.specs.declared.Assignment.{Assignment}
+use Rattle.capcode.specs.declared.ReadAnswer.{ReadAnswer}
+use Rattle.capcode.specs.Reads.{readOf, toldRead}
+use Rattle.lister.specs.declared.line_end.Verdict.{Verdict}
+use Rattle.lister.specs.Verdicts.{lineFeed, verdictBy, verdictOf, padded, verdictAs}
+use Rattle.lister.proofs.line_end.Lengths.{accepted-size, verdict-short}
+use Rattle.lister.proofs.line_end.LineEnds.{not-none, refused-one, refused-two}
+
+-- a verdict is told by its parts
+same-verdict : {a b : Bool} {n m : ℕ} {l k : List ℕ} → a ≡ b → n ≡ m → l ≡ k
+    → _≡_ {A = Verdict} (record { «is_accepted» = a; size = n; end = l }) (record { «is_accepted» = b; size = m; end = k })
+same-verdict e f g = rw (e, f, g)
+
+-- an end of 23 bytes fills its places
+full : (l : List ℕ) → length l ≡ 23 → l ≡ padded l
+full l long = rw long (sym (append-nil l))
+
+-- an accepted text
+pub accepted-told : (c : Capcode) (a : Assignment) (end : List ℕ) → end ≡ verdictBy (toldRead (ReadAnswer.Whole c a)) ++ lineFeed ∷ []
+    → _≡_ {A = Verdict} (record { «is_accepted» = true; size = 23; end = end }) (verdictAs (toldRead (ReadAnswer.Whole c a)))
+accepted-told c a end e =
+    let long = accepted-size (toldRead (ReadAnswer.Whole c a)) refl in
+    same-verdict refl (sym long) (e ∙ full _ long)
+
+module _ (r : Refusal) (n : ℕ) (number : n ≡ numberOf r) where
+  -- a refused text whose number has one digit
+  pub one-told : n < 10
+      → _≡_ {A = Verdict} (record { «is_accepted» = false; size = 11; end = padded (32 ∷ 82 ∷ 69 ∷ 70 ∷ 85 ∷ 83 ∷ 69 ∷ 68 ∷ 32 ∷ (48 + n % 10) ∷ 10 ∷ []) }) (verdictAs (refused r))
+  one-told few = let end = refused-one r n number few in same-verdict (sym (not-none r n number)) (ap length end) (ap padded end)
+
+  -- .. and of one whose number has two
+  pub two-told : 10 ≤ n
+      → _≡_ {A = Verdict} (record { «is_accepted» = false; size = 12; end = padded (32 ∷ 82 ∷ 69 ∷ 70 ∷ 85 ∷ 83 ∷ 69 ∷ 68 ∷ 32 ∷ (48 + n / 10 % 10) ∷ (48 + n % 10) ∷ 10 ∷ []) }) (verdictAs (refused r))
+  two-told many = let end = refused-two r n number many in same-verdict (sym (not-none r n number)) (ap length end) (ap padded end)
+
+module _ (text : List ℕ) (v : Verdict) (told : v ≡ verdictAs (readOf text)) where
+  -- so many bytes stand behind the text
+  pub size-of : v .size ≡ length (verdictOf text)
+  unfolding verdictOf
+  size-of = ap (λ (w : Verdict). w .size) told
+
+  -- .. and these
+  pub end-of : take (v .size) (v .end) ≡ verdictOf text
+  unfolding verdictOf
+  end-of = rw told (take-at (verdictOf text) (replicate (23 - length (verdictOf text)) 0) (length (verdictOf text)) refl)
+
+  -- of an accepted text all the places are filled
+  pub whole-of : v .«is_accepted» ≡ true → v .end ≡ verdictOf text
+  unfolding verdictOf
+  whole-of accepted =
+      let long = accepted-size (readOf text) (sym (ap (λ (w : Verdict). w .«is_accepted») told) ∙ accepted) in
+      ap (λ (w : Verdict). w .end) told ∙ sym (full _ long)
+
+  -- an end has 23 places
+  pub places-of : length (v .end) ≡ 23
+  unfolding verdictOf
+  places-of =
+      let end : List ℕ = verdictBy (readOf text) ++ lineFeed ∷ [] in
+      ap (λ (w : Verdict). length (w .end)) told
+      ∙ omega (arith, verdict-short text, length-append end (replicate (23 - length end) 0), length-replicate {A = ℕ} (23 - length end) 0)
+
+  -- an accepted text is one that is read
+  pub number-of : v .«is_accepted» ≡ true → numberTold (readOf text) ≡ 0
+  number-of accepted = eqb-true (numberTold (readOf text)) 0 (sym (ap (λ (w : Verdict). w .«is_accepted») told) ∙ accepted)

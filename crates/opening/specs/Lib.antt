@@ -1,2 +1,0 @@
-pub mod Stands
-pub mod Texts
