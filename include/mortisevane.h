@@ -165,9 +165,8 @@ enum mortisevane_limits {
 };
 
 /*
- * Addresses and their words, as C and Rust link them: numbers and structs by value over `ranges`
- * and `address`, and nothing but them behind them. Every function takes any input. `number` is 0,
- * or 01's number of the refusal; every other field is then 0.
+ * Addresses and their words, as C and Rust link them: numbers and structs by value. Every function
+ * takes any input. `number` is 0, or 01's number of the refusal; every other field is then 0.
  */
 
 /* The class of an address, 1 to 9 by 01's rows. */
@@ -223,9 +222,8 @@ struct mortisevane_found mortisevane_word_address(uint32_t word);
 struct mortisevane_found mortisevane_pair_address(uint32_t first, uint32_t second);
 
 /*
- * CAPCODEs, as C and Rust link them: numbers, slices and structs by value over `capcode` and
- * `label`, and nothing but these behind them. Every function takes any input. `number` is 0, or
- * 01's number of the refusal; every other field is then 0.
+ * CAPCODEs, as C and Rust link them: numbers, slices and structs by value. Every function takes any
+ * input. `number` is 0, or 01's number of the refusal; every other field is then 0.
  */
 
 /*
@@ -285,8 +283,8 @@ struct mortisevane_length mortisevane_capcode_print(uint8_t letter, uint8_t fram
 
 /*
  * Frames listened to and the wait for a temporary address, as C and Rust link them: numbers and
- * structs by value over `frames` and `waiting`, and nothing but these behind them. Every function
- * takes any input. `number` is 0, or 01's number of the refusal; every other field is then 0.
+ * structs by value. Every function takes any input. `number` is 0, or 01's number of the refusal;
+ * every other field is then 0.
  */
 
 /* A wait in frames. */

@@ -170,9 +170,8 @@ pub const PAGE_CHARACTERS: usize = (21 * PAGE_WORDS - 2) / 4;
 /// The longest CAPCODE: frame and collapse, the letter, ten digits.
 pub const CAPCODE_BYTES: usize = 3 + 1 + 1 + 10;
 
-// Addresses and their words, as C and Rust link them: numbers and structs by value over `ranges` and
-// `address`, and nothing but them behind them. Every function takes any input. `number` is 0, or 01's number
-// of the refusal; every other field is then 0.
+// Addresses and their words, as C and Rust link them: numbers and structs by value. Every function takes any input.
+// `number` is 0, or 01's number of the refusal; every other field is then 0.
 
 /// The class of an address, 1 to 9 by 01's rows.
 #[repr(C)]
@@ -238,9 +237,8 @@ extern "C" {
     pub fn mortisevane_pair_address(first: u32, second: u32) -> Found;
 }
 
-// CAPCODEs, as C and Rust link them: numbers, slices and structs by value over `capcode` and `label`, and
-// nothing but these behind them. Every function takes any input. `number` is 0, or 01's number of the refusal; every
-// other field is then 0.
+// CAPCODEs, as C and Rust link them: numbers, slices and structs by value. Every function takes any input. `number` is 0,
+// or 01's number of the refusal; every other field is then 0.
 
 /// A CAPCODE: its letter, the three frame digits of U to Y (0 with A to H), its collapse and address; and
 /// the phase (0 to 3 for A to D, 4 for any-phase) and base frame that it assigns.
@@ -303,9 +301,8 @@ extern "C" {
     pub fn mortisevane_capcode_print(letter: u8, frame: u8, collapse: u8, address: u64, out: *mut u8, out_length: usize) -> Length;
 }
 
-// Frames listened to and the wait for a temporary address, as C and Rust link them: numbers and structs
-// by value over `frames` and `waiting`, and nothing but these behind them. Every function takes any input. `number` is 0,
-// or 01's number of the refusal; every other field is then 0.
+// Frames listened to and the wait for a temporary address, as C and Rust link them: numbers and structs by value. Every
+// function takes any input. `number` is 0, or 01's number of the refusal; every other field is then 0.
 
 /// A wait in frames.
 #[repr(C)]
