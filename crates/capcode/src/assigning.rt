@@ -17,14 +17,14 @@ pub enum Judged {
 }
 
 // A to L: phase and base frame come from the address.
-fn is_standard(letter: u8) -> bool
+pub(crate) fn is_standard(letter: u8) -> bool
     ensures { λ r. ⌜ r ≡ standard letter ⌝ }
 {
     (b'A' <= letter) & (letter <= b'L')
 }
 
 // U to Z: the base frame stands in the text.
-fn is_framed(letter: u8) -> bool
+pub(crate) fn is_framed(letter: u8) -> bool
     ensures { λ r. ⌜ r ≡ framed letter ⌝ }
 {
     (b'U' <= letter) & (letter <= b'Z')

@@ -30,7 +30,7 @@ fn write_digits(out: &mut [u8], place: usize, count: usize, number: u64)
 fn head_width(c: Capcode) -> usize
     ensures { λ r. ⌜ (r ≡ headWidth c) × (r ≤ 4) ⌝ }
 {
-    if (b'A' <= c.letter) & (c.letter <= b'L') {
+    if crate::assigning::is_standard(c.letter) {
         if c.collapse == 4 {
             return 0;
         }

@@ -57,8 +57,9 @@ fn head_goes_on(count: u32, number: u32) -> bool
 fn letter_goes_on(count: u32, letter: u8) -> bool
     ensures { λ r. ⌜ r ≡ letterGoesOn count letter ⌝ }
 {
-    (((count == 0) | (count == 1)) & ((b'A' <= letter) & (letter <= b'L')))
-        | ((count == 4) & ((b'U' <= letter) & (letter <= b'Z')))
+    let standard = crate::assigning::is_standard(letter);
+    let framed = crate::assigning::is_framed(letter);
+    (((count == 0) | (count == 1)) & standard) | ((count == 4) & framed)
 }
 
 // Whether some address begins with so many digits of this number: ten digits are for the large ones only.
