@@ -30,13 +30,6 @@ fn marked(marks: Marks) -> bool
     (marks.mail_drop < 2) & (marks.retrieval < 2) & (marks.message_number < 64)
 }
 
-// 01's table, 9: whether a fragment has so many words.
-fn is_size(words: usize) -> bool
-    ensures { λ r. ⌜ r ≡ isSize words ⌝ }
-{
-    (FEWEST_WORDS <= words) & (words <= MOST_WORDS)
-}
-
 // Whether a character can stand in a text: it has seven bits, and is no fill.
 fn is_text(character: u8) -> bool
     ensures { λ r. ⌜ r ≡ isText character ⌝ }
@@ -83,7 +76,7 @@ fn judge(text: &[u8], marks: Marks, largest: usize, lent: usize) -> u32
     if !marked(marks) {
         return Refusal::Packet.number();
     }
-    if !is_size(largest) {
+    if !crate::head::is_size(largest) {
         return Refusal::Size.number();
     }
     if text.len() > MOST_CHARACTERS {

@@ -57,7 +57,7 @@ fn sum(words: &[u32]) -> u32
 }
 
 // 01's table, 9: whether a fragment has so many words.
-fn is_size(words: usize) -> bool
+pub(crate) fn is_size(words: usize) -> bool
     ensures { λ r. ⌜ r ≡ isSize words ⌝ }
 {
     (FEWEST_WORDS <= words) & (words <= MOST_WORDS)
