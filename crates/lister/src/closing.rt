@@ -11,20 +11,8 @@ ghost use Rattle.lister.specs.Portions.{kept, heldBytes, heldShown, clos
 use crate::Lister;
 use crate::Written;
 use crate::line_end::Verdict;
+use crate::writing::copy;
 use refusal::Refusal;
-
-// Puts a text into a buffer at a place, and gives the place behind it.
-fn copy(text: &[u8], out: &mut [u8], place: usize) -> usize
-    requires { ⌜ place + length (now text) ≤ length (now out) ⌝ }
-    ensures { λ r. ⌜ Wrote (now (out .entry)) place (now (text .entry)) r (now (out .exit)) ⌝ }
-{
-    let mut i = 0;
-    while i < text.len() {
-        out[place + i] = text[i];
-        i += 1;
-    }
-    place + i
-}
 
 // Where a listing stands once the carriage return that was held back is a byte of the line.
 fn with_return(lister: Lister) -> Lister

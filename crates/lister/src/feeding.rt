@@ -14,6 +14,8 @@ ghost use Rattle.lister.specs.Portions.{standAt, kept, heldBytes, heldSh
 use crate::Fed;
 use crate::Lister;
 use crate::Written;
+use crate::writing::copy;
+use crate::writing::hex_digit;
 
 // Where the listing of a portion stands: how many bytes of the present line are kept, whether a carriage
 // return is held back, how many bytes of the portion were taken and how many written.
@@ -28,27 +30,6 @@ struct Course {
 enum Line {
     Written(usize),
     Other,
-}
-
-// Puts a text into a buffer at a place, and gives the place behind it.
-fn copy(text: &[u8], out: &mut [u8], place: usize) -> usize
-    requires { ⌜ place + length (now text) ≤ length (now out) ⌝ }
-    ensures { λ r. ⌜ Wrote (now (out .entry)) place (now (text .entry)) r (now (out .exit)) ⌝ }
-{
-    let mut i = 0;
-    while i < text.len() {
-        out[place + i] = text[i];
-        i += 1;
-    }
-    place + i
-}
-
-// A hexadecimal digit, capitals: ten is `A`, which is 65.
-fn hex_digit(d: u32) -> u8
-    requires { ⌜ d < 16 ⌝ }
-    ensures { λ r. ⌜ r ≡ hexDigit d ⌝ }
-{
-    if d < 10 { b'0' + d as u8 } else { 55 + d as u8 }
 }
 
 // Writes what stands behind a text.

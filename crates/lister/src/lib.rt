@@ -9,6 +9,9 @@
 // The first line of a listing, and where it stands before the first byte.
 mod starting;
 
+// What every part of a listing is written with.
+mod writing;
+
 // What the listing shows after a text.
 mod line_end;
 

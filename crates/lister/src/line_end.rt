@@ -6,6 +6,7 @@ ghost use Rattle.capcode.specs.Text.{digits};
 ghost use Rattle.refusal.specs.Told.{refused};
 ghost use Rattle.capcode.specs.Reads.{readOf, toldRead};
 ghost use Rattle.lister.specs.Verdicts.{lineFeed, hexDigit, sixDigits, phaseShown, verdictBy, verdictAs};
+use crate::writing::hex_digit;
 use capcode::Assignment;
 use capcode::Capcode;
 use capcode::ReadAnswer;
@@ -18,14 +19,6 @@ pub struct Verdict {
     pub is_accepted: bool,
     pub size: usize,
     pub end: [u8; 23],
-}
-
-// A hexadecimal digit, capitals: ten is `A`, which is 65.
-fn hex_digit(d: u32) -> u8
-    requires { ⌜ d < 16 ⌝ }
-    ensures { λ r. ⌜ r ≡ hexDigit d ⌝ }
-{
-    if d < 10 { b'0' + d as u8 } else { 55 + d as u8 }
 }
 
 // A word as six hexadecimal digits.

@@ -6,7 +6,7 @@ use native.Mathlib.Omega.{arith}
 use lib.ListN.{length, length-take}
 use borrow.Author.Needs.{needs}
 use Rattle.lister.specs.Stands.{keptOf}
-use Rattle.lister.proofs.starting.Writes.{room-there}
+use Rattle.lister.proofs.writing.Copying.{room-there}
 use Rattle.lister.proofs.Writes.{wrote-none, answered-same, closes-none, closes-some}
 use Rattle.lister.proofs.closing.close.Statement.{statement}
 use Rattle.lister.proofs.closing.close.Tie as tie

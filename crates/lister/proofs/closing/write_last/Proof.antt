@@ -7,7 +7,7 @@ use lib.ListN.{length, length-append}
 use lib.Seq.{length-take-le}
 use borrow.Author.Needs.{needs}
 use Rattle.lister.specs.Stands.{keptOf}
-use Rattle.lister.proofs.starting.Writes.{room-lacks, room-there}
+use Rattle.lister.proofs.writing.Copying.{room-lacks, room-there}
 use Rattle.lister.specs.Verdicts.{verdictOf}
 use Rattle.lister.proofs.line_end.Lengths.{verdict-short}
 use Rattle.lister.proofs.line_end.Told.{size-of, end-of, places-of}

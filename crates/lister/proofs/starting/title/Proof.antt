@@ -1,7 +1,7 @@
 -- `title` meets its contract: the first line has 42 bytes.
 use borrow.Author.Needs.{needs}
 use Rattle.lister.specs.Texts.{header}
-use Rattle.lister.proofs.starting.Writes.{room-lacks, room-there}
+use Rattle.lister.proofs.writing.Copying.{room-lacks, room-there}
 use Rattle.lister.proofs.starting.title.Statement.{statement}
 use Rattle.lister.proofs.starting.title.Tie as tie
 

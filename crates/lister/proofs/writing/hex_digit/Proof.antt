@@ -1,8 +1,8 @@
 -- `hex_digit` meets its contract: the test decides which of the two sums.
 use borrow.Author.Tests.{lt-ltb, le-ltb}
 use borrow.Author.Needs.{needs}
-use Rattle.lister.proofs.line_end.hex_digit.Statement.{statement}
-use Rattle.lister.proofs.line_end.hex_digit.Tie as tie
+use Rattle.lister.proofs.writing.hex_digit.Statement.{statement}
+use Rattle.lister.proofs.writing.hex_digit.Tie as tie
 
 cast-result : tie.Need-cast-result
 cast-result c = search needs

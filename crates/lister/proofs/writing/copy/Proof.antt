@@ -2,10 +2,10 @@
 use Prim.Native.Nat.{_-_}
 use native.Mathlib.Omega.{arith}
 use lib.ListN.{length}
-use Rattle.lister.proofs.starting.Writes.{Copied, copied-none, copied-more, copied-all}
+use Rattle.lister.proofs.writing.Copying.{Copied, copied-none, copied-more, copied-all}
 use borrow.Author.Needs.{needs}
-use Rattle.lister.proofs.feeding.copy.Statement.{statement}
-use Rattle.lister.proofs.feeding.copy.Tie as tie
+use Rattle.lister.proofs.writing.copy.Statement.{statement}
+use Rattle.lister.proofs.writing.copy.Tie as tie
 
 abbrev Inv-loop : tie.InvT-loop
 Inv-loop text out₀ place i₀ out i = Copied out₀ text place out i
