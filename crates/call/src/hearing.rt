@@ -72,11 +72,7 @@ fn next_area(calls: Calls) -> u32
 fn brings_words(kind: u32) -> bool
     ensures { λ r. ⌜ r ≡ bringsWords kind ⌝ }
 {
-    let is_numeric = (kind == Vector::STANDARD)
-        | (kind == Vector::SPECIAL)
-        | (kind == Vector::NUMBERED);
-    let is_text = (kind == Vector::SECURE) | (kind == Vector::ALPHANUMERIC) | (kind == Vector::HEX);
-    is_numeric | is_text
+    Vector::is_numeric(kind) | Vector::is_text(kind)
 }
 
 // Whether a vector brings no words, or a span that is one for its call.
@@ -227,18 +223,6 @@ fn take_word(calls: Calls, memory: &mut [u32], message: Message) -> Turn
     }
 }
 
-// What stands in one place in vectors and message words: word number, error mark and phase; and the 21 bits.
-fn message_in(bits: u32) -> Message
-    ensures { λ r. ⌜ r ≡ messageIn bits ⌝ }
-{
-    Message {
-        word: (bits >> 24) % 0x80,
-        damaged: (bits >> 23) % 2,
-        phase: (bits >> 21) % 4,
-        bits: bits % 0x20_0000,
-    }
-}
-
 // The place among the open calls of the one whose vector a packet is, whichever spans hold its word number; the number of
 // open calls where it is none's.
 fn vector_place(calls: Calls, message: Message) -> usize
@@ -261,7 +245,7 @@ fn turn_of(calls: Calls, memory: &mut [u32], packet: Packet) -> Turn
     if !((Packet::FIRST_VECTOR <= id) & (id <= Packet::LAST_WORD)) {
         return unheard(Refusal::Packet.number(), 0);
     }
-    let message = message_in(packet.bits);
+    let message = packet::message_of(packet.bits);
     if message.damaged != 0 {
         return unheard(Refusal::Damaged.number(), 0);
     }

@@ -4,7 +4,7 @@
 // What the words of a page are is said in specs/Pages, when one is refused and what is told of it in specs/Answers. The
 // round trip is in proofs/Laws; proofs/Bits says which bit of which character stands where, as the tables show it.
 
-// What writing and reading share: which vectors are numeric, the head of a page, its room.
+// What writing and reading share: the head of a page, and its room.
 mod page;
 
 // A text as the message words of a page, with its K.

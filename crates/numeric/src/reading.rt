@@ -17,15 +17,6 @@ use crate::PageRead;
 use packet::Vector;
 use refusal::Refusal;
 
-// How many characters a page of so many words has room for.
-fn room_of(numbered: bool, words: usize) -> usize
-    requires { ⌜ 1 ≤ words ⌝ }
-    requires { ⌜ words ≤ 8 ⌝ }
-    ensures { λ r. ⌜ r ≡ roomOf numbered words ⌝ }
-{
-    (21 * words - crate::page::head_size(numbered)) / 4
-}
-
 // The character of a code.
 fn character_of(code: u32) -> u8
     requires { ⌜ code < 16 ⌝ }
@@ -46,7 +37,7 @@ fn character_of(code: u32) -> u8
 fn vector_fits(kind: u32, check: u32) -> bool
     ensures { λ r. ⌜ r ≡ vectorFits kind check ⌝ }
 {
-    crate::page::is_numeric(kind) & (check < 16)
+    Vector::is_numeric(kind) & (check < 16)
 }
 
 // 01's table, 9: whether a page has so many words.
@@ -81,7 +72,7 @@ fn judge_reading(kind: u32, check: u32, words: &[u32], lent: usize) -> u32
     if !checked(check, words) {
         return Refusal::Checksum.number();
     }
-    if lent < room_of(kind == Vector::NUMBERED, words.len()) {
+    if lent < crate::page::room_of(kind == Vector::NUMBERED, words.len()) {
         return Refusal::Room.number();
     }
     0
@@ -153,7 +144,7 @@ fn read_page(kind: u32, check: u32, words: &[u32], text: &mut [u8]) -> PageRead
     ensures buffer { λ r. ⌜ now (text .exit) ≡ textAfter standardSet kind check (now (words .entry)) (now (text .entry)) ⌝ }
 {
     let numbered = kind == Vector::NUMBERED;
-    let room = room_of(numbered, words.len());
+    let room = crate::page::room_of(numbered, words.len());
     write_characters(words, numbered, room, text);
     PageRead {
         number: 0,

@@ -19,15 +19,6 @@ use packet::Vector;
 use refusal::Refusal;
 use sums::WORD_LIMIT;
 
-// How many characters a page of so many words has room for.
-fn room_of(numbered: bool, words: usize) -> usize
-    requires { ⌜ 1 ≤ words ⌝ }
-    requires { ⌜ words ≤ 8 ⌝ }
-    ensures { λ r. ⌜ r ≡ roomOf numbered words ⌝ }
-{
-    (21 * words - crate::page::head_size(numbered)) / 4
-}
-
 // The code of a character of the set (Table 39), 16 where it is in none.
 fn code_of(character: u8) -> u32
     ensures { λ r. ⌜ r ≡ placeIn standardSet character ⌝ }
@@ -72,7 +63,7 @@ fn fits_head(numbered: bool, n: Numbering) -> bool
 fn headed(kind: u32, numbering: Numbering) -> bool
     ensures { λ r. ⌜ r ≡ headed kind (flagsOf numbering) ⌝ }
 {
-    crate::page::is_numeric(kind) & fits_head(kind == Vector::NUMBERED, numbering)
+    Vector::is_numeric(kind) & fits_head(kind == Vector::NUMBERED, numbering)
 }
 
 // How many words so many characters need.
@@ -91,7 +82,7 @@ fn judge_writing(text: &[u8], kind: u32, numbering: Numbering, lent: usize) -> u
         return Refusal::Packet.number();
     }
     let numbered = kind == Vector::NUMBERED;
-    if text.len() > room_of(numbered, MOST_WORDS) {
+    if text.len() > crate::page::room_of(numbered, MOST_WORDS) {
         return Refusal::TooLong.number();
     }
     if !in_set(text) {
@@ -176,7 +167,7 @@ fn write_words(text: &[u8], numbered: bool, head: u32, count: usize, words: &mut
     requires { ⌜ count ≤ length (now words) ⌝ }
     ensures { λ r. ⌜ now (words .exit) ≡ put (now (words .entry)) 0 (digits (2 ^ 21) count (head + 2 ^ size (headOf numbered) * codesOf standardSet (spaced (roomOf numbered count) (now (text .entry))))) ⌝ }
 {
-    let room = room_of(numbered, count);
+    let room = crate::page::room_of(numbered, count);
     words[0] = first_word(text, numbered, head, room);
     let mut start = 21 - crate::page::head_size(numbered);
     let mut i: usize = 1;

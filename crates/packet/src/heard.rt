@@ -124,7 +124,9 @@ pub fn read_address(packet: Packet) -> AddressRead
     }
 }
 
-fn message_of(bits: u32) -> Message
+// What any 32 bits say as a message packet: word number, error mark, phase and the 21 bits. In a vector the first three stand
+// at the same places.
+pub fn message_of(bits: u32) -> Message
     ensures { λ r. ⌜ r ≡ asMessage (fieldsOf message bits) ⌝ }
 {
     Message {

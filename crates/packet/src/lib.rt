@@ -31,6 +31,7 @@ pub use heard::MessageRead;
 pub use heard::PartIdRead;
 pub use heard::Status;
 pub use heard::StatusRead;
+pub use heard::message_of;
 pub use heard::read_address;
 pub use heard::read_message;
 pub use heard::read_part_id;

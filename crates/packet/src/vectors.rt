@@ -4,7 +4,7 @@
 ghost use mathlib.Core.Path.{_≡_};
 ghost use Rattle.laws.specs.Layouts.{fieldsOf};
 ghost use Rattle.packet.specs.VectorTables.{numericVector, textVector, shortVector, charactersVector, sourceVector, numberedVector, instructionVector, temporaryVector};
-ghost use Rattle.packet.specs.Vectors.{asNumericSpan, asTextSpan, spanOf, asCharacters, asSource, asNumbered, asSpare, shortOf, shortMessageOf, asTemporary, asReserved, instructionOf, vectorOf, vectorRead};
+ghost use Rattle.packet.specs.Vectors.{isNumeric, isText, asNumericSpan, asTextSpan, spanOf, asCharacters, asSource, asNumbered, asSpare, shortOf, shortMessageOf, asTemporary, asReserved, instructionOf, vectorOf, vectorRead};
 use crate::Packet;
 use refusal::Refusal;
 use refusal::kept;
@@ -79,6 +79,20 @@ impl Vector {
     pub const HEX: u32 = 6;
 
     pub const NUMBERED: u32 = 7;
+
+    // Whether a vector of this type has a numeric page (Table 32).
+    pub fn is_numeric(kind: u32) -> bool
+        ensures { λ r. ⌜ r ≡ isNumeric kind ⌝ }
+    {
+        (kind == Vector::STANDARD) | (kind == Vector::SPECIAL) | (kind == Vector::NUMBERED)
+    }
+
+    // Whether a vector of this type has a text, or words that are handed over unread.
+    pub fn is_text(kind: u32) -> bool
+        ensures { λ r. ⌜ r ≡ isText kind ⌝ }
+    {
+        (kind == Vector::SECURE) | (kind == Vector::ALPHANUMERIC) | (kind == Vector::HEX)
+    }
 }
 
 impl ShortMessage {
@@ -121,10 +135,10 @@ fn span_of(bits: u32) -> Span
     ensures { λ r. ⌜ r ≡ spanOf bits ⌝ }
 {
     let kind = (bits >> 16) % 8;
-    if (kind == Vector::STANDARD) | (kind == Vector::SPECIAL) | (kind == Vector::NUMBERED) {
+    if Vector::is_numeric(kind) {
         return numeric_span(bits);
     }
-    if (kind == Vector::SECURE) | (kind == Vector::ALPHANUMERIC) | (kind == Vector::HEX) {
+    if Vector::is_text(kind) {
         return text_span(bits);
     }
     Span {

@@ -27,12 +27,12 @@ kind c = not-false (isVector (c .before .before .before .before .before .args .p
 -- and not in error
 good : (c : tie.Else3) → eqb (messageIn (c .before .before .before .before .before .before .before .before .args .packet .bits) .damaged) 0 ≡ true
 good c =
-    eq-eqb (messageIn (c .before .before .before .before .before .before .before .before .args .packet .bits) .damaged) 0 (sym (ap (λ (m : Message). m .damaged) (c .before .before .message-in .ensures)) ∙ c .if3 .left)
+    eq-eqb (messageIn (c .before .before .before .before .before .before .before .before .args .packet .bits) .damaged) 0 (sym (ap (λ (m : Message). m .damaged) (c .before .before .message-of .ensures)) ∙ c .if3 .left)
 
 -- the place that is looked at is the vector's
 there : (c : tie.After-vector-place) → c .vector-place .result ≡ vectorPlace (c .before .before .before .before .before .before .before .before .before .args .calls) (c .before .before .before .before .before .before .before .before .before .args .packet .bits)
 there c =
-    c .vector-place .ensures ∙ ap (λ (m : Message). find (m .phase) (m .word) (opens (c .before .before .before .before .before .before .before .before .before .args .calls))) (c .before .before .before .message-in .ensures)
+    c .vector-place .ensures ∙ ap (λ (m : Message). find (m .phase) (m .word) (opens (c .before .before .before .before .before .before .before .before .before .args .calls))) (c .before .before .before .message-of .ensures)
 
 sound-requires : tie.Need-sound-requires
 sound-requires c κs = search needs
@@ -63,8 +63,8 @@ returns-2 c =
     let turn = refusal-turn (start .args .calls) (c .unheard2 .result) _ 7 (c .unheard2 .ensures ∙ ap (λ (n : ℕ). refusing n 0) (c .before .number2 .ensures)) refl (done .0) in
     (turn .0, (turn .1, done .1))
 
-message-in-requires : tie.Need-message-in-requires
-message-in-requires c κs = search needs
+message-of-requires : tie.Need-message-of-requires
+message-of-requires c κs = search needs
 
 number-requires-3 : tie.Need-number-requires-3
 number-requires-3 c κs = search needs
@@ -76,7 +76,7 @@ returns-3 : tie.Need-returns-3
 returns-3 c =
     let start = c .before .before .before .before .before .before .before .before .before .before in
     let done = hear-damaged (start .args .calls) (start .args .memory .now) (start .args .packet .bits) (right (c .before .before .before .before .before .before .before)) (kind (c .before .before .before .before .before))
-    (ne-eqb (messageIn (start .args .packet .bits) .damaged) 0 (λ none. c .before .before .if3 .taken (ap (λ (m : Message). m .damaged) (c .before .before .before .before .message-in .ensures) ∙ none))) in
+    (ne-eqb (messageIn (start .args .packet .bits) .damaged) 0 (λ none. c .before .before .if3 .taken (ap (λ (m : Message). m .damaged) (c .before .before .before .before .message-of .ensures) ∙ none))) in
     let turn = refusal-turn (start .args .calls) (c .unheard3 .result) _ 10 (c .unheard3 .ensures ∙ ap (λ (n : ℕ). refusing n 0) (c .before .number3 .ensures)) refl (done .0) in
     (turn .0, (turn .1, done .1))
 
@@ -120,7 +120,7 @@ returns-5 c =
     let s = start .args .calls in
     let memory = start .args .memory .now in
     let bits = start .args .packet .bits in
-    let message = c .before .before .before .before .before .before .before .before .before .message-in .ensures in
+    let message = c .before .before .before .before .before .before .before .before .before .message-of .ensures in
     let none : length (opens s) ≤ vectorPlace s bits = omega (arith, there (c .before .before .before .before .before .before), c .before .before .before .before .before .count .ensures .0, c .before .before .before .before .if4 .left) in
     let done = hear-word s memory bits (right (c .before .before .before .before .before .before .before .before .before .before .before .before)) (kind (c .before .before .before .before .before .before .before .before .before .before)) (good (c .before .before .before .before .before .before .before)) (le-ltb (vectorPlace s bits) (length (opens s)) none) in
     let turn = c .before .before .take-word .ensures in (
@@ -139,7 +139,7 @@ turn-of-spec =
     number-requires-2
     unheard-requires-2
     returns-2
-    message-in-requires
+    message-of-requires
     number-requires-3
     unheard-requires-3
     returns-3

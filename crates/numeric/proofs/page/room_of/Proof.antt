@@ -2,8 +2,8 @@
 use native.Mathlib.Omega.{arith}
 use Rattle.numeric.proofs.Heads.{head-small}
 use borrow.Author.Needs.{needs}
-use Rattle.numeric.proofs.writing.room_of.Statement.{statement}
-use Rattle.numeric.proofs.writing.room_of.Tie as tie
+use Rattle.numeric.proofs.page.room_of.Statement.{statement}
+use Rattle.numeric.proofs.page.room_of.Tie as tie
 
 mul-result : tie.Need-mul-result
 mul-result c = search needs
