@@ -6,9 +6,9 @@
 -- Rows: `[]` is empty, `a ∷ row` begins with a, `++` joins two; `length` is how many, `getD row k d` the one at place k (d where there is none), `take n` the first n and `drop n`
 -- the others; `all` and `anyOf` ask whether all, or one, pass a test; `upFrom 0 n` is 0, 1 and so on, n of them, and `replicate n a` n times a.
 --
--- The words of the code's own definitions: `cut` is 01's cutting (cutting/specs/Cutting); `came` and `dropped` are what a host is given, and `State` what it keeps, the records of
--- chains and the lent bytes (slots/specs/Runs); `holds`, `firstFree` and `sound` are asked of the records (slots/specs/Chains); `headingOf` is what is answered to a fragment by itself,
--- `headingIn` what its first word says (message/specs/Answers, slots/specs/Steps); `asAnswer` names the numbers of an answer (slots/specs/Answers).
+-- The words of the code's own definitions: `cut` is 01's cutting (fragment/specs/Cutting); `came` and `dropped` are what a host is given, and `State` what it keeps, the records of
+-- chains and the lent bytes (chain/specs/Runs); `holds`, `firstFree` and `sound` are asked of the records (chain/specs/Chains); `headingOf` is what is answered to a fragment by itself,
+-- `headingIn` what its first word says (fragment/specs/Answers, chain/specs/Steps); `asAnswer` names the numbers of an answer (chain/specs/Answers).
 use Prim.Native.Nat.{ℕ, _+_, _-_, _*_, _≤_, _<_}
 use mathlib.Core.Bool.{Bool, true, false, not, _&&_, _||_}
 use mathlib.Core.List.{List, [], _∷_, _++_}

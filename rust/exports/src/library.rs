@@ -1,6 +1,5 @@
-//! The library: the exports of the crate `host` and of every crate `host_*`, file by file in the order of crates.txt
-//! and of the `mod` lines, with the structs that they need, each once and after those that it holds, and the constants
-//! that a caller needs.
+//! The library: the exports of the crate `host`, file by file in the order of its `mod` lines, with the structs that
+//! they need, each once and after those that it holds, and the constants that a caller needs.
 
 use crate::names;
 use crate::source::{self, Constant, Function, Struct, Type};
@@ -197,7 +196,7 @@ pub fn parts(tree: &Tree) -> Result<Vec<Part>, String> {
     let host: Vec<&File> = tree.files.iter().filter(|file| file.is_host()).collect();
     let with_exports: Vec<&File> = host.iter().copied().filter(|file| !file.source.functions.is_empty()).collect();
     if host.is_empty() {
-        return Err("crates.txt has neither a crate host nor a crate host_*".to_string());
+        return Err("crates.txt has no crate host".to_string());
     }
     if with_exports.is_empty() {
         let paths: Vec<&str> = host.iter().map(|file| file.path.as_str()).collect();

@@ -1,7 +1,6 @@
 //! `exports header ROOT` writes the C header of the library to standard output, `exports rust ROOT` its Rust
-//! declarations. Both are made from the Rattle source of the crate `host` and the crates `host_*`, with what these
-//! use, and from nothing else, so that neither can say something other than what was proved. ROOT is the folder of
-//! crates.txt.
+//! declarations. Both are made from the Rattle source of the crate `host`, with what it uses, and from nothing else, so
+//! that neither can say something other than what was proved. ROOT is the folder of crates.txt.
 
 mod c;
 mod library;

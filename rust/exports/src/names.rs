@@ -16,7 +16,7 @@ pub fn snake(name: &str) -> String {
     written
 }
 
-/// A struct's name without the library's own, which only the thin crates put before theirs.
+/// A struct's name without the library's own, which only the crate `host` puts before its own.
 pub fn bare(name: &str) -> &str {
     name.strip_prefix("Mortisevane").filter(|rest| !rest.is_empty()).unwrap_or(name)
 }

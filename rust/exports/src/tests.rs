@@ -74,7 +74,7 @@ const CHAIN: &str = "\n// A chain.\n#[repr(C)]\npub struct Chain {\n    pub sum:
 const CHAINS: &str = "\n// All chains.\n#[repr(C)]\npub struct Chains {\n    pub slots: [Chain; SLOTS],\n}\n";
 
 #[test]
-fn a_merged_host_has_a_part_for_each_module_in_their_order() {
+fn the_host_has_a_part_for_each_module_in_their_order() {
     let addresses = module("Addresses.", "", "mortisevane_address(word: u32) -> u32");
     let capcodes = module("Capcodes.", "", "mortisevane_capcode(word: u32) -> u32");
     let files = [
@@ -97,14 +97,13 @@ fn a_merged_host_has_a_part_for_each_module_in_their_order() {
 }
 
 #[test]
-fn crates_of_one_part_stand_beside_a_merged_host() {
-    let sums = module("Sums.", "", "mortisevane_sum(word: u32) -> u32");
+fn the_root_of_the_host_can_be_a_part_too() {
     let root = format!("{}mod calls;\n", module("The root.", "", "mortisevane_root(word: u32) -> u32"));
     let calls = module("Calls.", "", "mortisevane_call(word: u32) -> u32");
-    let files = [("host_sums/src/lib.rt", &sums[..]), ("host/src/lib.rt", &root), ("host/src/calls.rt", &calls)];
-    let library = read("host_sums host", &files).unwrap();
+    let files = [("host/src/lib.rt", &root[..]), ("host/src/calls.rt", &calls)];
+    let library = read("host", &files).unwrap();
     let abouts: Vec<&str> = library.parts.iter().map(|part| &part.about[0][..]).collect();
-    assert_eq!(abouts, ["Sums.", "The root.", "Calls."]);
+    assert_eq!(abouts, ["The root.", "Calls."]);
 }
 
 #[test]
@@ -220,7 +219,7 @@ fn a_library_without_exports_is_refused() {
     assert_eq!(written("header", &folder.root).unwrap_err(), told);
     assert_eq!(written("rust", &folder.root).unwrap_err(), told);
     let told = fault("chain", &[("chain/src/lib.rt", "// Chains.\n")]);
-    assert_eq!(told, "crates.txt has neither a crate host nor a crate host_*");
+    assert_eq!(told, "crates.txt has no crate host");
 }
 
 #[test]
@@ -351,7 +350,7 @@ fn an_export_outside_of_the_host_is_refused() {
     let stray = module("Other sums.", "", "mortisevane_other(word: u32) -> u32");
     let files =
         [("host/src/lib.rt", &part[..]), ("sums/src/lib.rt", "// Sums.\nmod other;\n"), ("sums/src/other.rt", &stray)];
-    let why = "mortisevane_other is exported outside of the crates host and host_*";
+    let why = "mortisevane_other is exported outside of the crate host";
     assert_eq!(fault("sums host", &files), format!("crates/sums/src/other.rt: {why}"));
     let told = fault("hostess host", &[("host/src/lib.rt", &part), ("hostess/src/main.rt", &stray)]);
     assert_eq!(told, format!("crates/hostess/src/main.rt: {why}"));

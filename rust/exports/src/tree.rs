@@ -21,9 +21,9 @@ pub struct File {
 }
 
 impl File {
-    /// Whether the file is of a crate whose exports make the library.
+    /// Whether the file is of the crate whose exports make the library.
     pub fn is_host(&self) -> bool {
-        self.place[0] == "host" || self.place[0].starts_with("host_")
+        self.place[0] == "host"
     }
 
     /// Whether the header depends on what the file's `use` lines name.
@@ -138,7 +138,7 @@ impl Tree {
         for file in self.files.iter().filter(|file| !file.is_host()) {
             let mut names = file.source.functions.iter().map(|function| &function.name);
             if let Some(name) = names.find(|name| name.starts_with("mortisevane_")) {
-                return Err(format!("{}: {name} is exported outside of the crates host and host_*", file.path));
+                return Err(format!("{}: {name} is exported outside of the crate host", file.path));
             }
         }
         Ok(())

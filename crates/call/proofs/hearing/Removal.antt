@@ -1,4 +1,4 @@
--- The loop of the crate, turn by turn: what is moved so far, with what is still to move, is the whole.
+-- A record taken out of the row, turn by turn of the loop: what is moved so far, with what is still to move, is the whole.
 use Prim.Native.Nat.{ℕ, _+_, _≤_, _<_}
 use mathlib.Core.List.{List, [], _∷_, _++_}
 use mathlib.Core.Path.{_≡_, sym, ap, _∙_}

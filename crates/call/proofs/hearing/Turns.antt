@@ -1,4 +1,4 @@
--- The loops of the crate, turn by turn: what is done so far, with what is still to come, is the whole.
+-- The loops of vectors and words, turn by turn: what is done so far, with what is still to come, is the whole.
 use Prim.Native.Nat.{ℕ, suc, _+_, _-_, _≤_, _<_}
 use mathlib.Core.List.{List, _∷_}
 use mathlib.Core.Path.{_≡_, sym, ap, _∙_}
