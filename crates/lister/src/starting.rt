@@ -5,6 +5,7 @@ ghost use Rattle.lister.specs.Stands.{standOf, fresh};
 ghost use Rattle.lister.specs.Texts.{header, Answered};
 use crate::Lister;
 use crate::Written;
+use crate::writing::copy;
 use refusal::Refusal;
 
 // Where a listing stands before the first byte, and behind each line feed.
@@ -25,5 +26,5 @@ pub fn title(out: &mut [u8]) -> Written
     if out.len() < 42 {
         return Written::Refused(Refusal::Room);
     }
-    Written::Length(bytes::copy(b"ADDRESS FIRST SECOND PHASE FRAME COLLAPSE\n", out))
+    Written::Length(copy(b"ADDRESS FIRST SECOND PHASE FRAME COLLAPSE\n", out, 0))
 }

@@ -23,7 +23,7 @@ unfolding header
 returns-2 c =
     let k = c .before .before in
     let s = k .before .before .before in
-    room-there (s .before .before .args .out .now) header (k .copy .result) _ (s .if1 .left) (record { ends = k .copy .ensures .0; holds = k .copy .ensures .1 })
+    room-there (s .before .before .args .out .now) header (k .copy .result) _ (s .if1 .left) (k .copy .ensures)
 
 pub title-spec : {M : Type 1} → statement M
 title-spec = tie.close (tie.spec returns slice-aggregate-copy copy-requires same-length returns-2)
