@@ -2,7 +2,8 @@
 // one as text. A page is characters, and its zeros stay.
 //
 // What the words of a page are is said in specs/Pages, when one is refused and what is told of it in specs/Answers. The
-// round trip is in proofs/Laws; proofs/Bits says which bit of which character stands where, as the tables show it.
+// round trip is in proofs/Laws, and so is the law `cell`, which says as the tables do which bit of which character stands
+// where.
 
 // What writing and reading share: the head of a page, and its room.
 mod page;
