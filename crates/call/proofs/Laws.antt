@@ -13,10 +13,10 @@ use Rattle.laws.specs.Choice.{pick}
 use Rattle.laws.specs.Layouts.{shows, fieldsOf}
 use Rattle.laws.specs.Lists.{put, anyOf}
 use Rattle.laws.proofs.Searches.{first-passes}
-use Rattle.laws.proofs.Tests.{decided, not-both, first-of, second-of, other-of}
+use Rattle.laws.proofs.Tests.{decided, not-both, first-of, second-of, other-of, picks-first, picks-second}
 use Rattle.refusal.specs.declared.Refusal.{Refusal}
 use Rattle.refusal.specs.declared.Refusal.the-variants as refusals
-use Rattle.refusal.proofs.Laws.{number-positive}
+use Rattle.refusal.proofs.Laws.{number-positive, refused-by, passes, passed-to}
 use Rattle.refusal.specs.Told.{Told, refused, given, ask, numberTold, valueTold}
 use Rattle.packet.specs.HeardTables as tables
 use Rattle.packet.specs.Heard.{addressRight, addressNumbered}
@@ -32,27 +32,6 @@ use Rattle.call.specs.Answers.{addressIn, telling, openingOf, openOf, op
 use Rattle.call.specs.Runs.{Event, addressed, heard, ended, State, after}
 use Rattle.call.proofs.Records.{InSpan, fits-span, Limits, is-of, held, sound-row, fresh-sound}
 use Rattle.call.proofs.Rows.{opens-added, opens-size, opens-changed, opens-removed, opens-listed, left, placeThen, then-order, left-stays, added-sound, set-sound, left-sound}
-
--- an answer that tells another number than a question's refusal was not refused by it
-passed-to : (tells : Told → ℕ) (number : ℕ) (test : Bool) (r : Refusal) (rest : Told) → (tells (refused r) ≡ number → ⊥) → tells (ask test r rest) ≡ number → (test ≡ false) × (tells rest ≡ number)
-passed-to tells number true r rest other e = absurd (other e)
-passed-to tells number false r rest other e = (refl, e)
-
--- .. nor is an answer by a question whose test fails
-unasked : (test : Bool) (r : Refusal) (rest : Told) → test ≡ false → ask test r rest ≡ rest
-unasked test r rest none = rw none
-
--- .. and one whose test holds is refused
-asked : (test : Bool) (r : Refusal) (rest : Told) → test ≡ true → ask test r rest ≡ refused r
-asked test r rest is = rw is
-
--- what is picked by a test that holds
-picked : {A : Type 0} (test : Bool) (a b : A) → test ≡ true → pick test a b ≡ a
-picked test a b is = rw is
-
--- .. and by one that fails
-passed-over : {A : Type 0} (test : Bool) (a b : A) → test ≡ false → pick test a b ≡ b
-passed-over test a b none = rw none
 
 -- ---- an address packet
 
@@ -88,13 +67,13 @@ module _ (s : Calls) (n : ℕ) where
   pub told-opened : Opens → openOf s n ≡ given (telling 1 (length (opens s)) (addressIn n))
   told-opened o =
       address-passes (o .addressed)
-      ∙ passed-over (eqb (addressIn n .«tone_only») 1) _ (openingOf s (addressIn n)) (o .speaks)
-      ∙ unasked (holds (addressIn n .phase) (addressIn n .vector) (opens s)) refusals.OutOfTurn _ (o .alone)
-      ∙ unasked (leb (length (s .calls)) (length (opens s))) refusals.Full _ (lt-leb (length (s .calls)) (length (opens s)) (o .free))
+      ∙ picks-second (eqb (addressIn n .«tone_only») 1) _ (openingOf s (addressIn n)) (o .speaks)
+      ∙ passes (holds (addressIn n .phase) (addressIn n .vector) (opens s)) refusals.OutOfTurn _ (o .alone)
+      ∙ passes (leb (length (s .calls)) (length (opens s))) refusals.Full _ (lt-leb (length (s .calls)) (length (opens s)) (o .free))
 
   -- .. and of a tone-only address, which opens none
   pub told-tone : Addressed → eqb (addressIn n .«tone_only») 1 ≡ true → openOf s n ≡ given (telling 0 0 (addressIn n))
-  told-tone a tone = address-passes a ∙ picked (eqb (addressIn n .«tone_only») 1) _ (openingOf s (addressIn n)) tone
+  told-tone a tone = address-passes a ∙ picks-first (eqb (addressIn n .«tone_only») 1) _ (openingOf s (addressIn n)) tone
 
   -- an answer that tells what no refusal tells opens a call, or is one to a tone-only address
   open-says : (tells : Told → ℕ) (number : ℕ) → ((r : Refusal) → tells (refused r) ≡ number → ⊥) → tells (openOf s n) ≡ number → Opens ⊎ (Addressed × (eqb (addressIn n .«tone_only») 1 ≡ true))
@@ -103,7 +82,7 @@ module _ (s : Calls) (n : ℕ) where
       ⊎-elim
       (λ tone. inr (a, tone))
       (λ speaks.
-      let rest : tells (openingOf s (addressIn n)) ≡ number = sym (ap tells (address-passes a ∙ passed-over (eqb (addressIn n .«tone_only») 1) _ (openingOf s (addressIn n)) speaks)) ∙ e in
+      let rest : tells (openingOf s (addressIn n)) ≡ number = sym (ap tells (address-passes a ∙ picks-second (eqb (addressIn n .«tone_only») 1) _ (openingOf s (addressIn n)) speaks)) ∙ e in
       let turn = passed-to tells number (holds (addressIn n .phase) (addressIn n .vector) (opens s)) refusals.OutOfTurn _ (none refusals.OutOfTurn) rest in
       let full = passed-to tells number (leb (length (s .calls)) (length (opens s))) refusals.Full _ (none refusals.Full) (turn .1) in
       inl (record { addressed = a; speaks = speaks; alone = turn .0; free = leb-false (length (s .calls)) (length (opens s)) (full .0) }))
@@ -133,7 +112,7 @@ module _ (s : Calls) (n : ℕ) where
   -- .. or as they were
   pub not-opened : (valueTold (openOf s n) 0 ≡ 1 → ⊥) → openedIn s n ≡ s
   unfolding openedIn
-  not-opened other = passed-over (eqb (valueTold (openOf s n) 0) 1) _ s (ne-eqb (valueTold (openOf s n) 0) 1 other)
+  not-opened other = picks-second (eqb (valueTold (openOf s n) 0) 1) _ s (ne-eqb (valueTold (openOf s n) 0) 1 other)
 
   -- .. either
   pub opened-by : (P : Calls → Type 0) → (Opens → P (added s (callOf (addressIn n)))) → P s → P (openedIn s n)
@@ -262,9 +241,9 @@ module _ (s : Calls) (memory : List ℕ) (n : ℕ) where
   heard-passes : Heard s n → hearOf s memory n ≡ pick (isForVector s n) (vectorTold s memory (vectorPlace s n) (vectorCall s n) (vectorOf n)) (wordTold s memory (messageIn n))
   unfolding hearOf
   heard-passes h =
-      unasked (not (sound (opens s))) refusals.State _ (ap not (h .right))
-      ∙ unasked (not (isVector n)) refusals.Packet _ (ap not (h .packet))
-      ∙ unasked (not (eqb (messageIn n .damaged) 0)) refusals.Damaged _ (ap not (eq-eqb (messageIn n .damaged) 0 (h .whole)))
+      passes (not (sound (opens s))) refusals.State _ (ap not (h .right))
+      ∙ passes (not (isVector n)) refusals.Packet _ (ap not (h .packet))
+      ∙ passes (not (eqb (messageIn n .damaged) 0)) refusals.Damaged _ (ap not (eq-eqb (messageIn n .damaged) 0 (h .whole)))
 
   -- .. by every answer that is none of their refusals
   passed-heard : (number : ℕ) → (2 ≡ number → ⊥) → (7 ≡ number → ⊥) → (10 ≡ number → ⊥) → hearNumber s memory n ≡ number
@@ -283,7 +262,7 @@ module _ (s : Calls) (memory : List ℕ) (n : ℕ) where
       there : (hearNumber s memory n ≡ 0) × (isForVector s n ≡ true) → VectorTaken
       there e =
           let both = passed-heard 0 (λ x. omega arith) (λ x. omega arith) (λ x. omega arith) (e .0) in
-          let taken = vector-taken (hasVector (vectorCall s n)) (vectorFits (vectorCall s n) (vectorOf n)) (isShort memory) _ (sym (ap numberTold (picked (isForVector s n) _ (wordTold s memory (messageIn n)) (e .1))) ∙ both .1) in
+          let taken = vector-taken (hasVector (vectorCall s n)) (vectorFits (vectorCall s n) (vectorOf n)) (isShort memory) _ (sym (ap numberTold (picks-first (isForVector s n) _ (wordTold s memory (messageIn n)) (e .1))) ∙ both .1) in
           record {
             vectored = record { heard = both .0; is-vector = e .1; first = taken .0 };
             good = vector-fits (vectorCall s n) (vectorOf n) .0 (taken .1);
@@ -295,10 +274,10 @@ module _ (s : Calls) (memory : List ℕ) (n : ℕ) where
           let c = vectorCall s n in (
             ap numberTold
                 (heard-passes (v .vectored .heard)
-                ∙ picked (isForVector s n) _ (wordTold s memory (messageIn n)) (v .vectored .is-vector)
-                ∙ unasked (not (hasVector c) && not (vectorFits c (vectorOf n))) refusals.Size _ (rw (vector-fits c (vectorOf n) .1 (v .good)) (and-false (not (hasVector c))))
-                ∙ unasked (hasVector c) refusals.OutOfTurn _ (v .vectored .first)
-                ∙ unasked (isShort memory) refusals.Room _ (le-ltb (length memory) 680 (v .room))),
+                ∙ picks-first (isForVector s n) _ (wordTold s memory (messageIn n)) (v .vectored .is-vector)
+                ∙ passes (not (hasVector c) && not (vectorFits c (vectorOf n))) refusals.Size _ (rw (vector-fits c (vectorOf n) .1 (v .good)) (and-false (not (hasVector c))))
+                ∙ passes (hasVector c) refusals.OutOfTurn _ (v .vectored .first)
+                ∙ passes (isShort memory) refusals.Room _ (le-ltb (length memory) 680 (v .room))),
             v .vectored .is-vector,
           )
 
@@ -311,20 +290,20 @@ module _ (s : Calls) (memory : List ℕ) (n : ℕ) where
           let both = passed-heard 9 (λ x. omega arith) (λ x. omega arith) (λ x. omega arith) e in
           ⊎-elim
           (λ is.
-          let bad = vector-bad (hasVector (vectorCall s n)) (vectorFits (vectorCall s n) (vectorOf n)) (isShort memory) _ (sym (ap numberTold (picked (isForVector s n) _ (wordTold s memory (messageIn n)) is)) ∙ both .1) in
+          let bad = vector-bad (hasVector (vectorCall s n)) (vectorFits (vectorCall s n) (vectorOf n)) (isShort memory) _ (sym (ap numberTold (picks-first (isForVector s n) _ (wordTold s memory (messageIn n)) is)) ∙ both .1) in
           record { vectored = record { heard = both .0; is-vector = is; first = bad .0 }; bad = bad .1 })
           (λ none.
           absurd
           (word-not-bad (isHeld (opens s) (messageIn n)) (isLacked (opens s) (messageIn n) memory) (isShort memory) _
-          (sym (ap numberTold (passed-over (isForVector s n) (vectorTold s memory (vectorPlace s n) (vectorCall s n) (vectorOf n)) _ none)) ∙ both .1)))
+          (sym (ap numberTold (picks-second (isForVector s n) (vectorTold s memory (vectorPlace s n) (vectorCall s n) (vectorOf n)) _ none)) ∙ both .1)))
           (decided (isForVector s n))
 
       back : BadSpan → hearNumber s memory n ≡ 9
       back b =
           ap numberTold
           (heard-passes (b .vectored .heard)
-          ∙ picked (isForVector s n) _ (wordTold s memory (messageIn n)) (b .vectored .is-vector)
-          ∙ asked (not (hasVector (vectorCall s n)) && not (vectorFits (vectorCall s n) (vectorOf n))) refusals.Size _ (rw (b .vectored .first, b .bad)))
+          ∙ picks-first (isForVector s n) _ (wordTold s memory (messageIn n)) (b .vectored .is-vector)
+          ∙ refused-by (not (hasVector (vectorCall s n)) && not (vectorFits (vectorCall s n) (vectorOf n))) refusals.Size _ (rw (b .vectored .first, b .bad)))
 
   -- a message word is taken exactly then
   pub word-accepted : ((hearNumber s memory n ≡ 0) × (isForVector s n ≡ false)) ↔ WordTaken
@@ -333,7 +312,7 @@ module _ (s : Calls) (memory : List ℕ) (n : ℕ) where
       there : (hearNumber s memory n ≡ 0) × (isForVector s n ≡ false) → WordTaken
       there e =
           let both = passed-heard 0 (λ x. omega arith) (λ x. omega arith) (λ x. omega arith) (e .0) in
-          let taken = word-taken (isHeld (opens s) (messageIn n)) (isLacked (opens s) (messageIn n) memory) (isShort memory) _ (sym (ap numberTold (passed-over (isForVector s n) (vectorTold s memory (vectorPlace s n) (vectorCall s n) (vectorOf n)) _ (e .1))) ∙ both .1) in
+          let taken = word-taken (isHeld (opens s) (messageIn n)) (isLacked (opens s) (messageIn n) memory) (isShort memory) _ (sym (ap numberTold (picks-second (isForVector s n) (vectorTold s memory (vectorPlace s n) (vectorCall s n) (vectorOf n)) _ (e .1))) ∙ both .1) in
           record { heard = both .0; no-vector = e .1; lacked = taken .1; room = ltb-false (length memory) 680 (taken .2) }
 
       back : WordTaken → (hearNumber s memory n ≡ 0) × (isForVector s n ≡ false)
@@ -342,10 +321,10 @@ module _ (s : Calls) (memory : List ℕ) (n : ℕ) where
           let is-held = any-weaker (λ c. lacks c m memory) (λ c. holdsWord c m) (opens s) (λ c e. first-of (holdsWord c m) (leb lacking (getD memory (wordPlace c m) lacking)) e) (w .lacked) in (
             ap numberTold
                 (heard-passes (w .heard)
-                ∙ passed-over (isForVector s n) (vectorTold s memory (vectorPlace s n) (vectorCall s n) (vectorOf n)) _ (w .no-vector)
-                ∙ unasked (isHeld (opens s) m && not (isLacked (opens s) m memory)) refusals.OutOfTurn _ (rw (w .lacked) (and-false (isHeld (opens s) m)))
-                ∙ unasked (not (isHeld (opens s) m)) refusals.NoCall _ (ap not is-held)
-                ∙ unasked (isShort memory) refusals.Room _ (le-ltb (length memory) 680 (w .room))),
+                ∙ picks-second (isForVector s n) (vectorTold s memory (vectorPlace s n) (vectorCall s n) (vectorOf n)) _ (w .no-vector)
+                ∙ passes (isHeld (opens s) m && not (isLacked (opens s) m memory)) refusals.OutOfTurn _ (rw (w .lacked) (and-false (isHeld (opens s) m)))
+                ∙ passes (not (isHeld (opens s) m)) refusals.NoCall _ (ap not is-held)
+                ∙ passes (isShort memory) refusals.Room _ (le-ltb (length memory) 680 (w .room))),
             w .no-vector,
           )
 
@@ -376,15 +355,15 @@ module _ (s : Calls) (memory : List ℕ) (n : ℕ) where
   -- .. as equations: of a bad span
   pub closes : BadSpan → heardIn s memory n ≡ removed s (vectorPlace s n)
   unfolding heardIn
-  closes b = picked (eqb (hearNumber s memory n) 9) _ _ (eq-eqb (hearNumber s memory n) 9 (bad-span .1 b))
+  closes b = picks-first (eqb (hearNumber s memory n) 9) _ _ (eq-eqb (hearNumber s memory n) 9 (bad-span .1 b))
 
   -- .. of a vector that is taken
   pub gives-vector : VectorTaken → heardIn s memory n ≡ changed s (vectorPlace s n) (vectorGiven s n)
   unfolding heardIn
   gives-vector v =
       let none = vector-accepted .1 v .0 in
-      passed-over (eqb (hearNumber s memory n) 9) _ _ (ne-eqb (hearNumber s memory n) 9 (λ e. omega arith))
-      ∙ picked (eqb (hearNumber s memory n) 0 && isForVector s n) _ s (rw (none, v .vectored .is-vector))
+      picks-second (eqb (hearNumber s memory n) 9) _ _ (ne-eqb (hearNumber s memory n) 9 (λ e. omega arith))
+      ∙ picks-first (eqb (hearNumber s memory n) 0 && isForVector s n) _ s (rw (none, v .vectored .is-vector))
 
   -- .. of a word that is taken: no record changes
   pub word-stays : WordTaken → heardIn s memory n ≡ s
@@ -401,7 +380,7 @@ module _ (s : Calls) (memory : List ℕ) (n : ℕ) where
   -- .. of the memory, of any refusal
   pub refused-memory : (hearNumber s memory n ≡ 0 → ⊥) → memoryAfter s memory n ≡ memory
   unfolding memoryAfter
-  refused-memory some = passed-over (eqb (hearNumber s memory n) 0) _ memory (ne-eqb (hearNumber s memory n) 0 some)
+  refused-memory some = picks-second (eqb (hearNumber s memory n) 0) _ memory (ne-eqb (hearNumber s memory n) 0 some)
 
   -- the memory: a vector that is taken has its words lacking, a word that is taken is given to the calls, else it is as it was
   pub memory-by : (P : List ℕ → Type 0) → (VectorTaken → P (put memory (placeOf (vectorGiven s n)) (replicate (vectorGiven s n .words) lacking))) → (WordTaken → P (givenTo (opens s) (messageIn n) memory)) → P memory → P (memoryAfter s memory n)
@@ -485,7 +464,7 @@ opened-limits s n o =
         let tone = eqb (addressIn n .«tone_only») 1 in
         let right = second-of (shows tables.address n) (tone || leb (getD (fieldsOf tables.address n) 5 0) 87) (o .addressed .packet) in
         let small = leb-true (getD (fieldsOf tables.address n) 5 0) 87 (other-of tone (leb (getD (fieldsOf tables.address n) 5 0) 87) right (o .speaks)) in
-        rw (passed-over tone 0 (getD (fieldsOf tables.address n) 5 0) (o .speaks)) small
+        rw (picks-second tone 0 (getD (fieldsOf tables.address n) 5 0) (o .speaks)) small
 
 -- an address packet leaves sound records sound
 pub open-sound : (s : Calls) (n : ℕ) → sound (opens s) ≡ true → sound (opens (openedIn s n)) ≡ true
@@ -542,7 +521,7 @@ module _ (s : Calls) (memory : List ℕ) (n : ℕ) where
 
   -- where no call is closed it is where it was
   pub place-stays : (hearNumber s memory n ≡ 9 → ⊥) → (i : ℕ) → placeAfter i ≡ i
-  place-stays other i = passed-over (eqb (hearNumber s memory n) 9) _ i (ne-eqb (hearNumber s memory n) 9 other)
+  place-stays other i = picks-second (eqb (hearNumber s memory n) 9) _ i (ne-eqb (hearNumber s memory n) 9 other)
 
   -- a bad span closes its call: the others are left in their order, and the memory is as it was
   pub bad-span-closes : hearNumber s memory n ≡ 9 → (opens (heardIn s memory n) ≡ left (vectorPlace s n) (opens s)) × (memoryAfter s memory n ≡ memory)
@@ -565,9 +544,9 @@ module _ (s : Calls) (memory : List ℕ) (n : ℕ) where
         (λ bad.
         let e = eqb-true (hearNumber s memory n) 9 bad in
         let stays = left-stays (opens s) (vectorPlace s n) (vectored-within s n (bad-span s memory n .0 e .vectored)) i inside other in
-        rw (picked (eqb (hearNumber s memory n) 9) (placeThen (vectorPlace s n) i) i bad, bad-span-closes e .0) (record { within = stays .0; here = stays .1 }))
+        rw (picks-first (eqb (hearNumber s memory n) 9) (placeThen (vectorPlace s n) i) i bad, bad-span-closes e .0) (record { within = stays .0; here = stays .1 }))
         (λ good.
-        rw (passed-over (eqb (hearNumber s memory n) 9) (placeThen (vectorPlace s n) i) i good)
+        rw (picks-second (eqb (hearNumber s memory n) 9) (placeThen (vectorPlace s n) i) i good)
         (heard-rows s memory n (Stands (getD (opens s) i blank) i)
         (λ b. absurd (eqb-false (hearNumber s memory n) 9 good (bad-span s memory n .1 b)))
         (λ v. record { within = simp length-set inside; here = getD-set-other (opens s) (vectorPlace s n) i (vectorGiven s n) blank other })

@@ -9,7 +9,7 @@ use borrow.Author.Tests.{leb-true, ltb-false, not-false}
 use Rattle.refusal.specs.declared.Refusal.{Refusal}
 use Rattle.refusal.specs.declared.Refusal.the-variants.{Text, «Type», Range, Offset, Packet}
 use Rattle.refusal.specs.Told.{Told, refused, given, ask}
-use Rattle.refusal.proofs.Laws.{given-not-refused}
+use Rattle.refusal.proofs.Laws.{given-not-refused, passed-given}
 use Rattle.capcode.specs.Ranges.{accepted}
 use Rattle.capcode.specs.declared.Capcode.{Capcode}
 use Rattle.capcode.specs.declared.assigning.Judged.{Judged}
@@ -27,20 +27,15 @@ pub asked-by : (text type range offset packet : Bool) (c : Capcode) (rest : Told
 unfolding asked
 asked-by text type range offset packet c rest e₁ e₂ e₃ e₄ e₅ = rw (e₁, e₂, e₃, e₄, e₅)
 
--- an answer that is given was not refused by the question, and was given by what follows
-ask-none : (test : Bool) (r : Refusal) (rest : Told) (values : List ℕ) → ask test r rest ≡ given values → (test ≡ false) × (rest ≡ given values)
-ask-none true r rest values e = absurd (given-not-refused values r (sym e))
-ask-none false r rest values e = (refl, e)
-
 -- a CAPCODE of which something is given is fine, and what is given comes from what follows the questions
 pub given-fine : (c : Capcode) (rest : Told) (values : List ℕ) → asked c rest ≡ given values → Fine c × (rest ≡ given values)
 unfolding asked
 given-fine c rest values e =
-    let s = ask-none _ _ _ values e in
-    let t = ask-none _ _ _ values (s .1) in
-    let u = ask-none _ _ _ values (t .1) in
-    let v = ask-none _ _ _ values (u .1) in
-    let w = ask-none _ _ _ values (v .1) in
+    let s = passed-given _ _ _ values e in
+    let t = passed-given _ _ _ values (s .1) in
+    let u = passed-given _ _ _ values (t .1) in
+    let v = passed-given _ _ _ values (u .1) in
+    let w = passed-given _ _ _ values (v .1) in
     (record { text = s .0; type = t .0; range = u .0; offset = v .0; packet = w .0 }, w .1)
 
 -- where one of the questions refuses, what follows them is not looked at

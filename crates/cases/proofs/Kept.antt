@@ -12,6 +12,7 @@ use Rattle.laws.proofs.Tests.{decided}
 use Rattle.refusal.specs.declared.Refusal.{Refusal}
 use Rattle.refusal.specs.declared.Refusal.the-variants as refusals
 use Rattle.refusal.specs.Told.{Told, numberOf, order, given, ask, numberTold}
+use Rattle.refusal.proofs.Laws.{number-asked}
 use Rattle.capcode.specs.declared.Classed.{Classed}
 use Rattle.capcode.specs.Ranges.{classOf, found}
 use Rattle.capcode.specs.Words.{layoutOf, wordsAs, wordsOf, addressOf}
@@ -41,20 +42,15 @@ isPartOf [] all = true
 isPartOf (a ∷ row) [] = false
 isPartOf (a ∷ row) (b ∷ all) = pick (eqb a b) (isPartOf row all) (isPartOf (a ∷ row) all)
 
--- a question has its refusal's number, or that of what follows
-asked : (test : Bool) (r : Refusal) (rest : Told) (n : ℕ) → numberTold rest ≡ n → numberTold (ask test r rest) ≡ pick test (numberOf r) n
-asked true r rest n follows = refl
-asked false r rest n follows = follows
-
 -- what becomes of a chain has the number of the first of 14, 15, 16 and 12 that is given
 of-chain : (row : List Chain) (address : ℕ) (h : FragmentRead) (c : Chain) (late over on wrong : Bool)
     → numberTold (toldOf row address h (losing late refusals.OutOfTurn (losing over refusals.TooLong (pick on (grows c) (losing wrong refusals.Signature whole)))))
     ≡ pick late 14 (pick over 15 (pick (not on && wrong) 16 (pick (full row address h) 12 0)))
 of-chain row address h c true over on wrong = refl
 of-chain row address h c false true on wrong = refl
-of-chain row address h c false false true wrong = asked (full row address h) refusals.Full _ 0 refl
+of-chain row address h c false false true wrong = number-asked (full row address h) refusals.Full _ 0 refl
 of-chain row address h c false false false true = refl
-of-chain row address h c false false false false = asked (full row address h) refusals.Full _ 0 refl
+of-chain row address h c false false false false = number-asked (full row address h) refusals.Full _ 0 refl
 
 -- each answer is the table's
 pub table-kept : AsTheTable ours
@@ -63,19 +59,19 @@ table-kept s (came address words) =
     let row = s .chains in
     let h = headingIn words in
     let c = chainBefore row address h in
-    asked (ltb (length (s .bytes)) (length row * mostCharacters)) refusals.Room _ _
-    (asked (not (sound row)) refusals.State _ _
-    (asked (not (isAddress address)) refusals.Address _ _
-    (asked (not (isSize (length words))) refusals.Size _ _
-    (asked (not (undamaged words)) refusals.Damaged _ _
-    (asked (not (checked words)) refusals.Checksum _ _
-    (asked (not (isFirst h) && not (known row address h)) refusals.NoChain _ _
+    number-asked (ltb (length (s .bytes)) (length row * mostCharacters)) refusals.Room _ _
+    (number-asked (not (sound row)) refusals.State _ _
+    (number-asked (not (isAddress address)) refusals.Address _ _
+    (number-asked (not (isSize (length words))) refusals.Size _ _
+    (number-asked (not (undamaged words)) refusals.Damaged _ _
+    (number-asked (not (checked words)) refusals.Checksum _ _
+    (number-asked (not (isFirst h) && not (known row address h)) refusals.NoChain _ _
     (of-chain row address h (grown c h) (not (eqb (h .«fragment_number») (c .«next_fragment»))) (ltb mostCharacters (charactersAfter c h)) (goesOn h) (not (eqb (sumAfter c h) 127)))))))))
 table-kept s (dropped address n) =
-    asked (not (sound (s .chains))) refusals.State _ _
-    (asked (not (isMessage n)) refusals.Packet _ _
-    (asked (not (isAddress address)) refusals.Address _ _
-    (asked (not (holds address n (s .chains))) refusals.NoChain (given []) 0 refl)))
+    number-asked (not (sound (s .chains))) refusals.State _ _
+    (number-asked (not (isMessage n)) refusals.Packet _ _
+    (number-asked (not (isAddress address)) refusals.Address _ _
+    (number-asked (not (holds address n (s .chains))) refusals.NoChain (given []) 0 refl)))
 
 -- after a refusal all is as it was, but for a chain that 14, 15 or 16 closes
 pub state-kept : KeepsWhatItHas ours

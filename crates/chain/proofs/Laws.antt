@@ -16,7 +16,7 @@ use Rattle.sums.specs.Words.{undamaged}
 use Rattle.refusal.specs.declared.Refusal.{Refusal}
 use Rattle.refusal.specs.declared.Refusal.the-variants as refusals
 use Rattle.refusal.specs.Told.{Told, told, numberOf, refused, given, ask, numberTold, valueTold}
-use Rattle.refusal.proofs.Laws.{passed}
+use Rattle.refusal.proofs.Laws.{passed, passed-test}
 use Rattle.fragment.specs.Fragments.{isSize, checked}
 use Rattle.fragment.proofs.Laws.{Good}
 use Rattle.fragment.specs.declared.FragmentRead.{FragmentRead}
@@ -36,10 +36,9 @@ use Rattle.chain.proofs.Steps.{slot-most, known-has-slot, after-length,
 abbrev pub ofChain : ℕ → Bool
 ofChain n = leb 14 n || eqb n 0 || eqb n 12
 
--- an answer of a chain was not refused by a question before it
-passed-before : (test : Bool) (r : Refusal) (rest : Told) → ofChain (numberOf r) ≡ false → ofChain (numberTold (ask test r rest)) ≡ true → (test ≡ false) × (ofChain (numberTold rest) ≡ true)
-passed-before true r rest early late = absurd (not-both (ofChain (numberOf r)) late early)
-passed-before false r rest early late = (refl, late)
+-- whether an answer tells of a chain
+abbrev tellsOfChain : Told → Bool
+tellsOfChain t = ofChain (numberTold t)
 
 -- a first fragment, or one whose key is open
 has-chain : (first open-key : Bool) → (not first && not open-key) ≡ false → first ≡ false → open-key ≡ true
@@ -82,13 +81,13 @@ module _ (lent : ℕ) (row : List Chain) (address : ℕ) (words : List ℕ) wher
   -- .. and they are passed then only
   passed-heard : (rest : Told) → ofChain (numberTold (whenHeard lent row address words rest)) ≡ true → Heard
   passed-heard rest e =
-      let room = passed-before (ltb lent (length row * 1008)) refusals.Room _ refl e in
-      let state = passed-before (not (sound row)) refusals.State _ refl (room .1) in
-      let number = passed-before (not (isAddress address)) refusals.Address _ refl (state .1) in
-      let size = passed-before (not (isSize (length words))) refusals.Size _ refl (number .1) in
-      let damaged = passed-before (not (undamaged words)) refusals.Damaged _ refl (size .1) in
-      let sum = passed-before (not (checked words)) refusals.Checksum _ refl (damaged .1) in
-      let chain = passed-before (not (isFirst (headingIn words)) && not (known row address (headingIn words))) refusals.NoChain _ refl (sum .1) in
+      let room = passed-test tellsOfChain (ltb lent (length row * 1008)) refusals.Room _ refl e in
+      let state = passed-test tellsOfChain (not (sound row)) refusals.State _ refl (room .1) in
+      let number = passed-test tellsOfChain (not (isAddress address)) refusals.Address _ refl (state .1) in
+      let size = passed-test tellsOfChain (not (isSize (length words))) refusals.Size _ refl (number .1) in
+      let damaged = passed-test tellsOfChain (not (undamaged words)) refusals.Damaged _ refl (size .1) in
+      let sum = passed-test tellsOfChain (not (checked words)) refusals.Checksum _ refl (damaged .1) in
+      let chain = passed-test tellsOfChain (not (isFirst (headingIn words)) && not (known row address (headingIn words))) refusals.NoChain _ refl (sum .1) in
       record {
         room = ltb-false lent (length row * 1008) (room .0);
         right = not-false _ (state .0);

@@ -5,6 +5,7 @@ use mathlib.Core.Path.{_≡_, refl, sym, _∙_}
 use mathlib.Core.Logic.{_⊎_, inl, inr, ⊎-elim}
 use borrow.Author.Tests.{eqb-true, eqb-false, eq-eqb, ne-eqb}
 use lib.Dec.{eqb}
+use Rattle.laws.specs.Choice.{pick}
 
 -- a test holds or does not
 pub decided : (test : Bool) → (test ≡ true) ⊎ (test ≡ false)
@@ -14,6 +15,14 @@ decided false = inr refl
 -- no test does both
 pub not-both : (test : Bool) → test ≡ true → test ≡ false → ⊥
 not-both test holds fails = true≢false (sym holds ∙ fails)
+
+-- a test that holds picks the first of two values
+pub picks-first : {A : Type 0} (test : Bool) (a b : A) → test ≡ true → pick test a b ≡ a
+picks-first test a b holds = rw holds
+
+-- a test that fails picks the second
+pub picks-second : {A : Type 0} (test : Bool) (a b : A) → test ≡ false → pick test a b ≡ b
+picks-second test a b fails = rw fails
 
 -- of two tests that both hold, the first holds
 pub first-of : (a b : Bool) → (a && b) ≡ true → a ≡ true

@@ -7,7 +7,9 @@ use lib.ListN.{getD}
 use mathlib.Core.Logic.{_⊎_, inr}
 use native.Mathlib.Omega.{arith}
 use borrow.Author.Tests.{eq-eqb, ne-eqb}
+use Rattle.laws.specs.Choice.{pick}
 use Rattle.laws.specs.Lists.{put}
+use Rattle.laws.proofs.Tests.{not-both}
 use Rattle.refusal.specs.declared.Refusal.{Refusal}
 use Rattle.refusal.specs.declared.Refusal.the-variants.{Room, State, Text, «Type», Range, Offset, Packet, Address, Size, Damaged, Checksum, Full, NoChain, OutOfTurn, TooLong, Signature, NoCall, Character}
 use Rattle.refusal.specs.Told.{numberOf, numberUnless, Told, told, refused, given, ask, numberTold, writtenBy}
@@ -87,10 +89,41 @@ given-head a b e = cc
 pub given-tells : (xs ys : List ℕ) → given xs ≡ given ys → xs ≡ ys
 given-tells xs ys e = ap toldValues e
 
+-- ---- a question of a definition, refused or passed
+
+-- a question whose test holds is answered with its refusal
+pub refused-by : (test : Bool) (r : Refusal) (rest : Told) → test ≡ true → ask test r rest ≡ refused r
+refused-by test r rest holds = rw holds
+
+-- a question whose test fails is passed: the answer is what follows
+pub passes : (test : Bool) (r : Refusal) (rest : Told) → test ≡ false → ask test r rest ≡ rest
+passes test r rest fails = rw fails
+
+-- what is told of an answer, and would not be told of the question's refusal, is told of what follows the question
+pub passed-to : {A : Type 0} (tells : Told → A) (what : A) (test : Bool) (r : Refusal) (rest : Told)
+    → (tells (refused r) ≡ what → ⊥) → tells (ask test r rest) ≡ what → (test ≡ false) × (tells rest ≡ what)
+passed-to tells what true r rest other e = absurd (other e)
+passed-to tells what false r rest other e = (refl, e)
+
+-- an answer that meets a test which the question's refusal does not meet was not refused by the question
+pub passed-test : (meets : Told → Bool) (test : Bool) (r : Refusal) (rest : Told)
+    → meets (refused r) ≡ false → meets (ask test r rest) ≡ true → (test ≡ false) × (meets rest ≡ true)
+passed-test meets test r rest fails = passed-to meets true test r rest (λ holds. not-both (meets (refused r)) holds fails)
+
 -- an answer that is no refusal was not refused by the first question, nor by what follows
 pub passed : (test : Bool) (r : Refusal) (rest : Told) → numberTold (ask test r rest) ≡ 0 → (test ≡ false) × (numberTold rest ≡ 0)
-passed true r rest e = absurd (omega (arith, number-positive r))
-passed false r rest e = (refl, e)
+passed test r rest = passed-to numberTold 0 test r rest (λ e. omega (arith, number-positive r))
+
+-- an answer that gives values was not refused by the first question, and what follows gives them
+pub passed-given : (test : Bool) (r : Refusal) (rest : Told) (values : List ℕ)
+    → ask test r rest ≡ given values → (test ≡ false) × (rest ≡ given values)
+passed-given test r rest values = passed-to (λ t. t) (given values) test r rest (λ e. given-not-refused values r (sym e))
+
+-- the number that a question tells: its refusal's where the test holds, else that of what follows
+pub number-asked : (test : Bool) (r : Refusal) (rest : Told) (n : ℕ)
+    → numberTold rest ≡ n → numberTold (ask test r rest) ≡ pick test (numberOf r) n
+number-asked true r rest n follows = refl
+number-asked false r rest n follows = follows
 
 -- an answer that tells no values if it is a refusal
 abbrev pub Plain : Told → Type 0
