@@ -4,7 +4,7 @@ use mathlib.Core.Bool.{Bool, true, false, not, _||_}
 use mathlib.Core.Path.{_≡_, refl, sym, ap, _∙_}
 use mathlib.Core.List.{List, []}
 use native.Mathlib.Omega.{arith}
-use lib.Dec.{ltb}
+use lib.Dec.{leb, ltb}
 use borrow.Author.Tests.{leb-true, ltb-false, not-false}
 use Rattle.refusal.specs.declared.Refusal.{Refusal}
 use Rattle.refusal.specs.declared.Refusal.the-variants.{Text, «Type», Range, Offset, Packet}
@@ -14,7 +14,7 @@ use Rattle.capcode.specs.Ranges.{accepted}
 use Rattle.capcode.specs.declared.Capcode.{Capcode}
 use Rattle.capcode.specs.declared.assigning.Judged.{Judged}
 use Rattle.capcode.specs.Assigned.{Fine, standard, framed, allPhase, offsetOf, fieldsFit, asked, toldJudged}
-use Rattle.laws.proofs.Tests.{first-of, other-of}
+use Rattle.laws.proofs.Tests.{first-of, second-of, other-of}
 
 -- the answer, with each test's value in its place
 pub asked-by : (text type range offset packet : Bool) (c : Capcode) (rest : Told)
@@ -74,6 +74,10 @@ standard-from letter e = leb-true 65 letter (first-of _ _ e)
 -- a CAPCODE that is fine and whose letter is not A to L has a letter U to Z, which is 85 or more
 pub framed-from : (c : Capcode) → Fine c → standard (c .letter) ≡ false → 85 ≤ c .letter
 framed-from c f e = leb-true 85 (c .letter) (first-of _ _ (other-of _ _ (not-false _ (f .text)) e))
+
+-- a CAPCODE that is fine and whose letter is not A to L has a frame of 127 at most
+pub framed-upto : (c : Capcode) → Fine c → standard (c .letter) ≡ false → c .frame ≤ 127
+framed-upto c f e = leb-true (c .frame) 127 (rw e at (second-of (leb (c .collapse) 5) _ (not-false _ (f .packet))))
 
 -- the offset of a CAPCODE that is fine can be taken off its address
 pub offset-within : (c : Capcode) → Fine c → offsetOf (c .letter) ≤ c .address

@@ -128,7 +128,7 @@ fn base_of(c: Capcode) -> u8
     if is_standard(c.letter) {
         ((c.address - offset_of(c.letter)) / 16 % 128) as u8
     } else {
-        c.frame
+        c.frame as u8
     }
 }
 

@@ -86,11 +86,12 @@ pub enum Addressed {
 }
 
 // What a CAPCODE says. The letter is its byte. `frame` is the three frame digits of U to Z; A to L have
-// none, and there it is 0. A collapse of 4 is what A to L mean where they have no digit.
+// none, and there it is 0. A collapse of 4 is what A to L mean where they have no digit. Both are wider than any that is
+// accepted, so that one too large is refused and not cut.
 pub struct Capcode {
     pub letter: u8,
-    pub frame: u8,
-    pub collapse: u8,
+    pub frame: u32,
+    pub collapse: u32,
     pub address: u64,
 }
 

@@ -155,24 +155,24 @@ fn is_whole(s: Reading) -> bool
     !(s.letter == 0) & (((s.after == 7) & (s.address <= LAST_OF_SEVEN)) | (s.after == 10))
 }
 
-fn said_frame(s: Reading) -> u8
+fn said_frame(s: Reading) -> u32
     requires { ⌜ Bounded s ⌝ }
     ensures { λ r. ⌜ r ≡ saidBy s .frame ⌝ }
 {
     if s.before == 4 {
-        (s.number / 10) as u8
+        s.number / 10
     } else {
         0
     }
 }
 
-fn said_collapse(s: Reading) -> u8
+fn said_collapse(s: Reading) -> u32
     ensures { λ r. ⌜ r ≡ saidBy s .collapse ⌝ }
 {
     if s.before == 0 {
         4
     } else {
-        (s.number % 10) as u8
+        s.number % 10
     }
 }
 

@@ -14,11 +14,12 @@ pub use marking::listen;
 use refusal::Refusal;
 pub use waiting::wait;
 
-// One address as far as frames go: its base frame and its collapse.
+// One address as far as frames go: its base frame and its collapse, wider than any that is accepted, so that one too
+// large is refused and not cut.
 #[repr(C)]
 pub struct Listener {
-    pub frame: u8,
-    pub collapse: u8,
+    pub frame: u32,
+    pub collapse: u32,
 }
 
 // The addresses of a pager: of sixteen places the first `count` are looked at.

@@ -62,7 +62,7 @@ fn mask(listener: Listener) -> u32
     ensures { λ r. ⌜ r ≡ maskFrom (listens listener) 0 32 ⌝ }
 {
     let collapse = listener.collapse as usize;
-    let frame = listener.frame as u32;
+    let frame = listener.frame;
     comb(collapse) << (frame % (1 << collapse))
 }
 

@@ -5,7 +5,7 @@ use crate::Awaited;
 use refusal::Refusal;
 
 // How many frames it is from the present frame to a designated one.
-pub fn wait(from: u8, to: u8) -> Awaited
+pub fn wait(from: u32, to: u32) -> Awaited
     ensures { λ r. ⌜ toldAwaited r ≡ waited from to ⌝ }
 {
     if from > 127 {
@@ -14,5 +14,5 @@ pub fn wait(from: u8, to: u8) -> Awaited
     if to > 127 {
         return Awaited::Refused(Refusal::Packet);
     }
-    Awaited::Frames((to as u32 + 128 - from as u32) % 128)
+    Awaited::Frames((to + 128 - from) % 128)
 }

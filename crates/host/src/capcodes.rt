@@ -17,8 +17,8 @@ use capcode::ReadAnswer;
 pub struct MortisevaneCapcode {
     pub number: u32,
     pub letter: u8,
-    pub frame: u8,
-    pub collapse: u8,
+    pub frame: u32,
+    pub collapse: u32,
     pub phase: u8,
     pub base: u8,
     pub address: u64,
@@ -99,8 +99,8 @@ fn assignment_told(answer: AssignAnswer) -> MortisevaneAssignment
 #[no_mangle]
 pub extern "C" fn mortisevane_capcode_assign(
     letter: u8,
-    frame: u8,
-    collapse: u8,
+    frame: u32,
+    collapse: u32,
     address: u64,
 ) -> MortisevaneAssignment
     ensures { λ r. ⌜ r ≡ assignmentFrom (assigned (capcodeOf letter frame collapse address)) ⌝ }
@@ -134,8 +134,8 @@ fn length_told(answer: PrintAnswer) -> MortisevaneLength
 #[no_mangle]
 pub extern "C" fn mortisevane_capcode_print(
     letter: u8,
-    frame: u8,
-    collapse: u8,
+    frame: u32,
+    collapse: u32,
     address: u64,
     out: &mut [u8],
 ) -> MortisevaneLength

@@ -42,7 +42,7 @@ fn wait_told(answer: Awaited) -> MortisevaneWait
 // Answers the wait, 0 to 127 frames.
 // Refuses 7: a frame over 127.
 #[no_mangle]
-pub extern "C" fn mortisevane_frames_wait(from: u8, to: u8) -> MortisevaneWait
+pub extern "C" fn mortisevane_frames_wait(from: u32, to: u32) -> MortisevaneWait
     ensures { λ r. ⌜ r ≡ waitFrom (waited from to) ⌝ }
 {
     wait_told(frames::wait(from, to))

@@ -70,7 +70,7 @@ fn fields(first: [u8; 6], second: [u8; 6], c: Capcode, a: Assignment) -> [u8; 23
         b'0' + a.frame / 10 % 10,
         b'0' + a.frame % 10,
         b' ',
-        b'0' + c.collapse % 10,
+        b'0' + (c.collapse % 10) as u8,
         b'\n',
     ]
 }

@@ -1,4 +1,4 @@
--- `wait` meets its contract: each return stands behind the tests that the definition asks.
+-- `wait` meets its contract: each return comes after the tests that the definition asks.
 use borrow.Author.Needs.{needs}
 use borrow.Author.Tests.{le-leb, lt-leb}
 use Rattle.frames.specs.Waiting.{waited}
@@ -13,15 +13,15 @@ returns-2 : tie.Need-returns-2
 unfolding waited
 returns-2 c = simp (le-leb _ _ (c .before .if1 .left), lt-leb _ _ (c .if2 .taken))
 
-add-t7 : tie.Need-add-t7
-add-t7 c = search needs
+add-t6 : tie.Need-add-t6
+add-t6 c = search needs
 
-sub-t9 : tie.Need-sub-t9
-sub-t9 c = search needs
+sub-t7 : tie.Need-sub-t7
+sub-t7 c = search needs
 
 returns-3 : tie.Need-returns-3
 unfolding waited
 returns-3 c = simp (le-leb _ _ (c .before .if1 .left), le-leb _ _ (c .if2 .left))
 
 pub wait-spec : {M : Type 1} → statement M
-wait-spec = tie.close (tie.spec returns returns-2 add-t7 sub-t9 returns-3)
+wait-spec = tie.close (tie.spec returns returns-2 add-t6 sub-t7 returns-3)

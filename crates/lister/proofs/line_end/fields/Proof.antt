@@ -55,8 +55,11 @@ add-t50 c = search needs
 add-t52 : tie.Need-add-t52
 add-t52 c = search needs
 
-add-t54 : tie.Need-add-t54
-add-t54 c = search needs
+cast-t54 : tie.Need-cast-t54
+cast-t54 c = search needs
+
+add-t55 : tie.Need-add-t55
+add-t55 c = search needs
 
 returns : tie.Need-returns
 unfolding digits
@@ -89,5 +92,6 @@ fields-spec =
     add-t47
     add-t50
     add-t52
-    add-t54
+    cast-t54
+    add-t55
     returns)
