@@ -23,7 +23,7 @@ row-fits Set14 address low high = omega arith
 row-fits Set23Country address low high = omega arith
 row-fits Set23InformationService address low high = omega arith
 
--- .. where its words can be built
+-- an address of a class is one whose words can be built
 pub class-fits : (address : ℕ) (class : Class) → classOf address ≡ Classed.In class → FitsAs (layoutOf class) address
 class-fits address class e = let h = class-bounds address class e in row-fits class address (h .0) (h .1)
 

@@ -28,7 +28,7 @@ use Rattle.laws.proofs.Tests.{first-of, second-of}
 abbrev bytes : Reading → List ℕ
 bytes s = digits (s .before) (s .number) ++ pick (eqb (s .letter) 0) [] (s .letter ∷ digits (s .after) (s .address))
 
--- a digit's byte stands behind those of the number before it
+-- a digit's byte stands after those of the number before it
 digits-byte : (n number byte : ℕ) → 48 ≤ byte → byte ≤ 57 → digits (n + 1) (number * 10 + (byte - 48)) ≡ digits n number ++ byte ∷ []
 unfolding digits
 digits-byte n number byte low high =
@@ -36,7 +36,7 @@ digits-byte n number byte low high =
     let first : (number * 10 + (byte - 48)) / 10 ≡ number = omega arith in
     rw (add-one n, first, last)
 
--- one byte more, whatever it is, stands behind those that were taken
+-- one byte more, whatever it is, stands after those that were taken
 bytes-by : (s t : Reading) (byte : ℕ) → Stepped s byte t → bytes t ≡ bytes s ++ byte ∷ []
 unfolding digits
 bytes-by s t byte (by-head digit none goes-on same) =

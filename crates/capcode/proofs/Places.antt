@@ -35,7 +35,7 @@ step-completes : (s t : Reading) (byte : ℕ) → stepOf s byte ≡ Step.On t �
 unfolding follow
 step-completes s t byte step rest = (byte ∷ rest .0, rest .1, λ i. rw step (rest .2 (suc i)))
 
--- ---- behind the letter
+-- ---- after the letter
 
 -- one digit more
 address-more : (s : Reading) (digit : ℕ) → digit ≤ 9 → (s .letter ≡ 0 → ⊥) → addressGoesOn (s .after + 1) (s .address * 10 + digit) ≡ true → Completes (withAddress s digit) → Completes s
@@ -66,9 +66,9 @@ complete-upto zero s some e = complete-seven-by s (leb (s .address) 2031614) ref
 complete-upto (suc n) s some e =
     address-more s 0 (omega arith) some (rw (le-leb (s .after + 1) 7 (omega arith))) (complete-upto n (withAddress s 0) some (omega arith))
 
-complete-behind : (s : Reading) (after : ℕ) → (s .letter ≡ 0 → ⊥) → s .after ≡ after → Digits addressGoesOn after (s .address) → Completes s
-complete-behind s zero some e digits = complete-upto 7 s some (omega arith)
-complete-behind s (suc n) some e digits = by-count (one-of _ _ _ _ (digits .0))
+complete-after : (s : Reading) (after : ℕ) → (s .letter ≡ 0 → ⊥) → s .after ≡ after → Digits addressGoesOn after (s .address) → Completes s
+complete-after s zero some e digits = complete-upto 7 s some (omega arith)
+complete-after s (suc n) some e digits = by-count (one-of _ _ _ _ (digits .0))
   where
     by-count : (leb (suc n) 7 ≡ true) ⊎ (((eqb (suc n) 8 && leb 20316 (s .address)) ≡ true) ⊎ (((eqb (suc n) 9 && leb 203161 (s .address)) ≡ true) ⊎ ((eqb (suc n) 10 && leb 2031615 (s .address)) ≡ true))) → Completes s
     by-count (inl few) = complete-upto (7 - suc n) s some (omega (arith, leb-true (suc n) 7 few))
@@ -114,11 +114,11 @@ complete-before s (suc n) none e digits = by-count (one-of _ _ _ _ (digits .0))
 -- every reading under way can be ended in the form
 sound-completes : (s : Reading) (none : Bool) → eqb (s .letter) 0 ≡ none → Sound s → Completes s
 sound-completes s true e sound = complete-before s (s .before) (eqb-true (s .letter) 0 e) refl (sound .head)
-sound-completes s false e sound = complete-behind s (s .after) (eqb-false (s .letter) 0 e) refl (sound .address)
+sound-completes s false e sound = complete-after s (s .after) (eqb-false (s .letter) 0 e) refl (sound .address)
 
 -- ---- the place
 
--- a text that could go on: some bytes behind it make it a text in the form
+-- a text that could go on: some bytes after it make it a text in the form
 abbrev pub CouldGoOn : List ℕ → Type 0
 CouldGoOn text = (rest : List ℕ) × (c : Capcode) × (formOf (text ++ rest) ≡ Form.Says c)
 

@@ -44,7 +44,7 @@ module _ (goesOn : ℕ → ℕ → Bool) (at : ℕ → ℕ → Reading)
 abbrev headAt : ℕ → ℕ → Reading
 headAt n number = record { before = n; number = number; letter = 0; after = 0; address = 0 }
 
--- and after so many behind it
+-- and after so many after it
 abbrev addressAt : Reading → ℕ → ℕ → Reading
 addressAt s n number = record { before = s .before; number = s .number; letter = s .letter; after = n; address = number }
 
@@ -54,7 +54,7 @@ head-steps n number digit small e =
     let back : 48 + digit - 48 ≡ digit = omega arith in
     sym (step-head (headAt n number) (48 + digit) (digit-byte digit small) refl) ∙ rw (back, add-one, e)
 
--- and one behind it
+-- and one after it
 address-steps : (s : Reading) → (s .letter ≡ 0 → ⊥) → (n number digit : ℕ) → digit ≤ 9 → addressGoesOn (suc n) (number * 10 + digit) ≡ true → stepOf (addressAt s n number) (48 + digit) ≡ Step.On (addressAt s (suc n) (number * 10 + digit))
 address-steps s some n number digit small e =
     let back : 48 + digit - 48 ≡ digit = omega arith in

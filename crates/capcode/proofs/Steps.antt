@@ -56,9 +56,9 @@ stepped-by s t byte true true digit none e =
     let went = went-on (headGoesOn (s .before + 1) (s .number * 10 + (byte - 48))) (withHead s (byte - 48)) t (step-head s byte digit before ∙ e) in
     by-head digit before (went .0) (went .1)
 stepped-by s t byte true false digit none e =
-    let behind = eqb-false (s .letter) 0 none in
-    let went = went-on (addressGoesOn (s .after + 1) (s .address * 10 + (byte - 48))) (withAddress s (byte - 48)) t (step-address s byte digit behind ∙ e) in
-    by-address digit behind (went .0) (went .1)
+    let lettered = eqb-false (s .letter) 0 none in
+    let went = went-on (addressGoesOn (s .after + 1) (s .address * 10 + (byte - 48))) (withAddress s (byte - 48)) t (step-address s byte digit lettered ∙ e) in
+    by-address digit lettered (went .0) (went .1)
 stepped-by s t byte false true digit none e =
     let before = eqb-true (s .letter) 0 none in
     let went = went-on (letterGoesOn (s .before) byte) (withLetter s byte) t (step-letter s byte digit before ∙ e) in
@@ -70,14 +70,14 @@ pub stepped : (s t : Reading) (byte : ℕ) → stepOf s byte ≡ Step.On t → S
 stepped s t byte = stepped-by s t byte _ _ refl refl
 
 -- each way to go on keeps the letter of a reading that has one
-behind-by : (s t : Reading) (byte : ℕ) → (s .letter ≡ 0 → ⊥) → Stepped s byte t → t .letter ≡ 0 → ⊥
-behind-by s t byte some (by-head digit none goes-on same) zero = some none
-behind-by s t byte some (by-letter none goes-on same) zero = some none
-behind-by s t byte some (by-address digit behind goes-on same) zero = some (ap (λ (u : Reading). u .letter) same ∙ zero)
+after-by : (s t : Reading) (byte : ℕ) → (s .letter ≡ 0 → ⊥) → Stepped s byte t → t .letter ≡ 0 → ⊥
+after-by s t byte some (by-head digit none goes-on same) zero = some none
+after-by s t byte some (by-letter none goes-on same) zero = some none
+after-by s t byte some (by-address digit lettered goes-on same) zero = some (ap (λ (u : Reading). u .letter) same ∙ zero)
 
--- a reading behind its letter stays there
-pub step-behind : (s t : Reading) (byte : ℕ) → (s .letter ≡ 0 → ⊥) → stepOf s byte ≡ Step.On t → t .letter ≡ 0 → ⊥
-step-behind s t byte some e = behind-by s t byte some (stepped s t byte e)
+-- a reading after its letter stays there
+pub step-after : (s t : Reading) (byte : ℕ) → (s .letter ≡ 0 → ⊥) → stepOf s byte ≡ Step.On t → t .letter ≡ 0 → ⊥
+step-after s t byte some e = after-by s t byte some (stepped s t byte e)
 
 -- the number of a digit's byte
 pub digit-small : (byte : ℕ) → isDigit byte ≡ true → byte - 48 ≤ 9

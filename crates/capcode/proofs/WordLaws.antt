@@ -43,7 +43,7 @@ same-equal (x ∷ xs) (y ∷ ys) e =
 gives-told : (answer : Told) (words : List ℕ) → answer ≡ given words → gives answer words ≡ true
 gives-told answer words e = rw e (same-self words)
 
--- .. and no others
+-- an answer gives no other words than those that it tells
 told-gives : (answer : Told) (words : List ℕ) → gives answer words ≡ true → answer ≡ given words
 told-gives (told n values) words e =
     let both = and-eq-true-iff (eqb n 0) (same values words) .0 e in

@@ -159,21 +159,13 @@ fn said_frame(s: Reading) -> u32
     requires { ⌜ Bounded s ⌝ }
     ensures { λ r. ⌜ r ≡ saidBy s .frame ⌝ }
 {
-    if s.before == 4 {
-        s.number / 10
-    } else {
-        0
-    }
+    if s.before == 4 { s.number / 10 } else { 0 }
 }
 
 fn said_collapse(s: Reading) -> u32
     ensures { λ r. ⌜ r ≡ saidBy s .collapse ⌝ }
 {
-    if s.before == 0 {
-        4
-    } else {
-        s.number % 10
-    }
+    if s.before == 0 { 4 } else { s.number % 10 }
 }
 
 // The form of a text that was read to its end, `place`.
@@ -192,8 +184,8 @@ fn form_at_end(s: Reading, place: usize) -> Form
     Form::Wrong(place)
 }
 
-// One byte more behind the letter: a digit, or no correct text goes on so.
-fn step_behind_letter(s: Reading, byte: u8) -> Step
+// One byte more after the letter: a digit, or no correct text goes on so.
+fn step_after_letter(s: Reading, byte: u8) -> Step
     requires { ⌜ Bounded s × (s .letter ≡ 0 → ⊥) ⌝ }
     ensures { λ r. ⌜ r ≡ stepOf s byte ⌝ }
 {
@@ -204,14 +196,14 @@ fn step_behind_letter(s: Reading, byte: u8) -> Step
 }
 
 // What a text says of which the letter came before `from`, where the reading stands at `start`.
-fn form_behind_letter(start: Reading, text: &[u8], from: usize) -> Form
+fn form_after_letter(start: Reading, text: &[u8], from: usize) -> Form
     requires { ⌜ Sound start × (start .letter ≡ 0 → ⊥) ⌝ }
     ensures { λ r. ⌜ r ≡ endOf (follow (going from start) (drop from (now (text .entry)))) ⌝ }
 {
     let mut s = start;
     let mut i = from;
     while i < text.len() {
-        let Step::On(next) = step_behind_letter(s, text[i]) else {
+        let Step::On(next) = step_after_letter(s, text[i]) else {
             return Form::Wrong(i);
         };
         s = next;
@@ -220,7 +212,7 @@ fn form_behind_letter(start: Reading, text: &[u8], from: usize) -> Form
     form_at_end(s, i)
 }
 
-// What a text says, or the first place at which no correct text goes on as it does. The digits behind the
+// What a text says, or the first place at which no correct text goes on as it does. The digits after the
 // letter have a loop of their own, since they are most of a text.
 fn form_of(text: &[u8]) -> Form
     ensures { λ r. ⌜ r ≡ formOf (now (text .entry)) ⌝ }
@@ -246,7 +238,7 @@ fn form_of(text: &[u8]) -> Form
     if s.letter == 0 {
         return Form::Wrong(i);
     }
-    form_behind_letter(s, text, i)
+    form_after_letter(s, text, i)
 }
 
 // What is answered for a text that says `c`.

@@ -38,12 +38,12 @@ combed : ℕ → ℕ → Bool
 combed collapse base =
     eqb (getD combs collapse 0 * 2 ^ base % 2 ^ 32) (maskFrom (λ f. eqb (f % 2 ^ collapse) base) 0 32)
 
--- .. computed at each collapse and each base frame within its period
+-- the combs, computed at each collapse and each base frame within its period
 all-combed : T (allBelow (λ collapse. allBelow (combed collapse) (2 ^ collapse)) 6)
 unfolding combed maskFrom
 all-combed = tt
 
--- .. so that it is the mask of any listener
+-- the comb of a collapse, moved to the base frame, is the mask of any listener
 pub comb-of : (l : Listener) → l .collapse ≤ 5
     → getD combs (l .collapse) 0 * 2 ^ (l .frame % 2 ^ (l .collapse)) % 2 ^ 32 ≡ maskFrom (listens l) 0 32
 unfolding combed
@@ -60,7 +60,7 @@ fit-parts l ls fit =
     let parts = and-eq-true-iff (leb (l .frame) 127 && leb (l .collapse) 5) (allFit ls) .0 fit in
     (leb-true (l .collapse) 5 (and-eq-true-iff (leb (l .frame) 127) (leb (l .collapse) 5) .0 (parts .0) .1), parts .1)
 
--- .. and of each
+-- what is asked of a row is asked of each of its listeners
 fit-at : (ls : List Listener) → allFit ls ≡ true → (k : ℕ) → k < length ls → getD ls k blank .collapse ≤ 5
 fit-at [] fit k h = absurd (omega arith)
 fit-at (l ∷ ls) fit zero h = fit-parts l ls fit .0
@@ -83,15 +83,15 @@ module _ (ls : List Listener) (size i : ℕ) (here : i < size) (fits : size ≤ 
       let inside : i < length (take size ls) = omega (arith, long) in
       rw (add-one, drop-cons (take size ls) i blank inside, getD-take)
 
-  -- .. a frame over 127 is refused
+  -- a listener with a frame over 127 is refused
   pub ask-frame : 127 < getD ls i blank .frame → allFit (drop i (take size ls)) ≡ false
   ask-frame over = next ∙ simp (lt-leb _ _ over)
 
-  -- .. and a collapse over 5
+  -- a listener with a collapse over 5 is refused
   pub ask-collapse : getD ls i blank .frame ≤ 127 → 5 < getD ls i blank .collapse → allFit (drop i (take size ls)) ≡ false
   ask-collapse f over = next ∙ simp (le-leb _ _ f, lt-leb _ _ over)
 
-  -- .. else the others decide
+  -- after a listener that fits the others decide
   pub ask-others : getD ls i blank .frame ≤ 127 → getD ls i blank .collapse ≤ 5 → allFit (drop i (take size ls)) ≡ allFit (drop (i + 1) (take size ls))
   ask-others f c = next ∙ simp (le-leb _ _ f, le-leb _ _ c)
 
@@ -120,7 +120,7 @@ unfolding heard
 heard-more [] l f = or-false (listens l f)
 heard-more (k ∷ ls) l f = rw (heard-more ls l f) (sym (or-assoc (listens k f) (heard ls f) (listens l f)))
 
--- .. is merged by "or"
+-- one listener more is merged by "or"
 pub merge-more : (ls : List Listener) (i first n : ℕ) → i < length ls
     → bitOr (maskFrom (heard (take i ls)) first n) (maskFrom (listens (getD ls i blank)) first n) ≡ maskFrom (heard (take (suc i) ls)) first n
 merge-more ls i first n h =
@@ -140,7 +140,7 @@ heard-by (l ∷ ls) past f h =
     (suc (rest .0), omega (arith, rest .1), rest .2))
     (either-of (listens l f) (heard ls f) h)
 
--- .. and what some listener listens to is heard
+-- what some listener listens to is heard
 pub by-heard : (ls : List Listener) (past : Listener) (f k : ℕ) → k < length ls → listens (getD ls k past) f ≡ true → heard ls f ≡ true
 unfolding heard
 by-heard [] past f k h e = absurd (omega arith)

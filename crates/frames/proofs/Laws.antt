@@ -32,7 +32,7 @@ pub marked-by : (ls : List Listener) (past : Listener) (i j : ℕ) → i < 8 →
     → (k : ℕ) × (k < length ls) × (listens (getD ls k past) (16 * (7 - i) + j) ≡ true)
 marked-by ls past i j hi hj bit = heard-by ls past (16 * (7 - i) + j) (set-bit _ (sym (marked (heard ls) i j hi hj) ∙ bit))
 
--- .. and a listener has its bits marked
+-- a listener has its bits marked
 pub by-marked : (ls : List Listener) (past : Listener) (i j k : ℕ) → i < 8 → j < 16 → k < length ls
     → listens (getD ls k past) (16 * (7 - i) + j) ≡ true → getD (masksOf (heard ls)) i 0 / 2 ^ j % 2 ≡ 1
 by-marked ls past i j k hi hj hk e = marked (heard ls) i j hi hj ∙ ap bitOf (by-heard ls past (16 * (7 - i) + j) k hk e)

@@ -65,13 +65,13 @@ abbrev pub ranges : Frameset → ℕ → List ℕ
 ranges frames zero = []
 ranges frames (suc n) = maskFrom frames (16 * n) 16 ∷ ranges frames n
 
--- .. the i-th of them
+-- the i-th of these masks
 pub range-at : (frames : Frameset) (n i : ℕ) → i < n → getD (ranges frames n) i 0 ≡ maskFrom frames (16 * (n - suc i)) 16
 range-at frames zero i h = absurd (omega arith)
 range-at frames (suc n) zero h = ap (λ (k : ℕ). maskFrom frames (16 * k) 16) (omega arith)
 range-at frames (suc n) (suc i) h = range-at frames n i (omega arith) ∙ ap (λ (k : ℕ). maskFrom frames (16 * k) 16) (omega arith)
 
--- .. and their bits, counted
+-- the bits of these masks, counted
 pub range-ones : (frames : Frameset) (n : ℕ) → onesOf (ranges frames n) ≡ countFrom frames 0 (16 * n)
 unfolding onesOf
 range-ones frames zero = sym (count-none frames 0)
@@ -100,13 +100,13 @@ module _ (frames : Frameset) (repeats : Repeats frames) where
   again zero f = ap frames (omega arith)
   again (suc n) f = ap frames (omega arith) ∙ repeats (32 * n + f) ∙ again n f
 
-  -- .. and so are its masks
+  -- the masks of frames that repeat are as they were after any number of 32 frames
   mask-again : (k first n : ℕ) → maskFrom frames (32 * k + first) n ≡ maskFrom frames first n
   unfolding maskFrom
   mask-again k first zero = refl
   mask-again k first (suc n) = rw (again k first, ← add-suc, mask-again k (suc first) n)
 
-  -- .. two ranges after the other
+  -- the masks of frames that repeat are two ranges in turn
   range-again : (n : ℕ) → ranges frames (2 * n) ≡ alternating (maskFrom frames 16 16) (maskFrom frames 0 16) n
   range-again zero = refl
   range-again (suc n) =

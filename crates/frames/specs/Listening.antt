@@ -80,6 +80,6 @@ abbrev pub tellListened : Listened → List ℕ → Told
 tellListened (Listened.Frames n) masks = given (n ∷ masks)
 tellListened (Listened.Refused r) masks = told (numberOf r) (0 ∷ masks)
 
--- .. and the whole answer, its masks with it
+-- how the whole answer is told, its masks with it
 abbrev pub toldListening : Listening → Told
 toldListening a = tellListened (a .answer) (a .masks)

@@ -129,7 +129,7 @@ fn length_told(answer: PrintAnswer) -> MortisevaneLength
 // The text of a CAPCODE, written at the start of a lent buffer.
 // Takes the letter as a character, the frame (0 with A to H), the collapse, the address and the buffer, for which
 // MORTISEVANE_CAPCODE_BYTES are always enough.
-// Answers how many bytes were written; no zero byte stands behind them.
+// Answers how many bytes were written; no zero byte stands after them.
 // Refuses 3, 4, 5, 6, 7, the first that applies, and last 1; the buffer is then as it was.
 #[no_mangle]
 pub extern "C" fn mortisevane_capcode_print(

@@ -33,7 +33,7 @@ pub extern "C" fn mortisevane_fragment_read(words: &[u32], text: &mut [u8]) -> F
     fragment::read(words, text)
 }
 
-// A text cut into fragments, one behind the other.
+// A text cut into fragments, one after the other.
 // Takes the text, up to 1,008 characters; N, R and M of the message; how many words the largest fragment may have, 2 to
 // 85; and memory for the words, for which MORTISEVANE_CUT_WORDS are always enough.
 // Answers how many fragments there are and how many words they have together. Each but the last has the largest size, so

@@ -19,7 +19,7 @@ status-example = refl
 pub address-example : addressRead 0x01C0830E ≡ record { number = 0; fields = record { priority = 1; phase = 2; «long_address» = 0; address = 19; «tone_only» = 0; vector = 14 } }
 address-example = refl
 
--- .. the same address as tone-only: its word number is not looked at
+-- Table 30: the same address as tone-only, whose word number is not looked at
 pub tone-only-example : addressRead 0x01C083FF ≡ record { number = 0; fields = record { priority = 1; phase = 2; «long_address» = 0; address = 19; «tone_only» = 1; vector = 0 } }
 tone-only-example = refl
 
@@ -31,7 +31,7 @@ address-numbers = refl
 pub message-example : messageRead 0x57FFFFFF ≡ record { number = 0; fields = record { word = 87; damaged = 1; phase = 3; bits = 0x1FFFFF } }
 message-example = refl
 
--- .. words 2 and 88 hold no message
+-- Table 40: words 2 and 88 hold no message
 pub word-numbers : map (λ (n : ℕ). messageRead n .number) (0x02000000 ∷ 0x03000000 ∷ 0x57000000 ∷ 0x58000000 ∷ []) ≡ 7 ∷ 0 ∷ 0 ∷ 7 ∷ []
 word-numbers = refl
 
@@ -39,10 +39,10 @@ word-numbers = refl
 pub status-again : packed status (ofStatus (statusRead 0x7FCDB52E .fields)) ≡ 0x7FCD8504
 status-again = refl
 
--- .. a tone-only address loses the word number that was not looked at, so the law leaves it out
+-- Laid out again: a tone-only address loses the word number that was not looked at, so the law leaves it out
 pub tone-only-again : packed address (ofAddress (addressRead 0x01C083FF .fields)) ≡ 0x01C08380
 tone-only-again = refl
 
--- .. an index that is no address number is not told, so the law asks for one
+-- Laid out again: an index that is no address number is not told, so the law asks for one
 pub no-index-again : packed address (ofAddress (addressRead 0x01C0100E .fields)) ≡ 0x01000000
 no-index-again = refl

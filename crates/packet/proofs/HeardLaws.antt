@@ -143,7 +143,7 @@ address-back-and-there n right numbered spoken =
 abbrev addressTold : Bool → Bool → Layout → ℕ → AddressRead
 addressTold right numbered row n = record { number = addressRefusal right numbered; fields = asAddress (fieldsOf row (kept (right && numbered) n)) }
 
--- .. told as 0 and its fields where both hold
+-- an address packet is told as 0 and its fields where both tests hold
 told-address : (row : Layout) (n : ℕ) (v : List ℕ) → shows row n ≡ true → fieldsOf row n ≡ v → (eqb (getD v 4 0) 1 || leb (getD v 5 0) 87) ≡ true → isIndex (getD v 3 0) ≡ true
     → _≡_ {A = AddressRead} (addressTold (shows row n && (eqb (getD (fieldsOf row n) 4 0) 1 || leb (getD (fieldsOf row n) 5 0) 87)) (isIndex (getD (fieldsOf row n) 3 0)) row n) (record { number = 0; fields = asAddress v })
 told-address row n v shown found right numbered = rw (shown, found, right, numbered, found)

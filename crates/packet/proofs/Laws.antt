@@ -42,7 +42,7 @@ no-bits : (place wide : ℕ) → bitsAt place wide 0 ≡ 0
 no-bits zero wide = zero-mod (2 ^ wide)
 no-bits (suc place) wide = rw (zero-div (2 ^ suc place)) (zero-mod (2 ^ wide))
 
--- .. so that every field of it is 0
+-- every field of 0 is 0
 no-fields : (row : Layout) → fieldsOf row 0 ≡ replicate (length (fieldsOf row 0)) 0
 no-fields [] = refl
 no-fields (printed w v ∷ row) = no-fields row

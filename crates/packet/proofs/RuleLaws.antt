@@ -15,7 +15,7 @@ use Rattle.laws.proofs.Counting.{allBelow, of-all-below}
 use Rattle.laws.proofs.Layouts.{laid, shown-bits, shows-each, shows-packed}
 use Rattle.laws.proofs.Tests.{either-of}
 use Rattle.packet.proofs.Laws.{fitting-built}
-use Rattle.packet.specs.Names.{idOf, among, checksumID, configurationID, controlID, allFrameModeID, receiverLinesID, firstSettingID, lastSettingID, shutDown1ID, shutDown2ID, firstSpecialID, lastSpecialID, firstFramesID, lastFramesID, addressEnableID, firstUserAddressID, lastUserAddressID}
+use Rattle.packet.specs.Names.{idOf, among, checksumID, configurationID, controlID, allFrameModeID, receiverLinesID, receiverOffID, data1600ID, shutDown1ID, shutDown2ID, firstSpecialID, lastSpecialID, firstFramesID, lastFramesID, addressEnableID, firstUserAddressID, lastUserAddressID}
 use Rattle.packet.specs.Tables.{checksum, configuration, control, allFrameMode, receiverLines, shutDown, frameAssignment, userAddress, addressEnable}
 use Rattle.packet.specs.Fields.{builtBy}
 use Rattle.refusal.specs.Told.{numberUnless}
@@ -127,8 +127,8 @@ sent-by-id test asked t n passes m = by-size (ltb (idOf n) 256) refl
     by-size false e = sent-where n noTable (beyond (idOf n) (ltb-false (idOf n) 256 e)) refl
 
 -- 01: "10H to 19H are sent with any data bits"
-pub settings-sent : (n : ℕ) → among firstSettingID lastSettingID (idOf n) ≡ true → maySend n ≡ true
-settings-sent n e = sent-by-id (among firstSettingID lastSettingID) noTable tt n (λ h. e) refl
+pub settings-sent : (n : ℕ) → among receiverOffID data1600ID (idOf n) ≡ true → maySend n ≡ true
+settings-sent n e = sent-by-id (among receiverOffID data1600ID) noTable tt n (λ h. e) refl
 
 -- 01: "The host refuses to send IDs 04H to 0EH, .."
 pub named-never : (n : ℕ) → neverSent (idOf n) ≡ true → sendOf n ≡ 7
@@ -282,3 +282,17 @@ sent-as-shown k first last t n small from to = by-shown (shows (tableOf k) n) re
         (refused-not-sent
         (maySend n)
         (⊎-elim (named-never n) (λ is. zero-bit-refused k n is e) (either-of (neverSent (idOf n)) (isOf k (idOf n)) only)))
+
+-- whether each ID of 8 bits from the first to the last of a row is never sent
+abbrev pub onlyNever : ℕ → ℕ → Bool
+onlyNever first last = allBelow (λ id. implies (among first last id) (neverSent id)) 256
+
+-- a packet with an ID of a row of IDs that are never sent may not be sent
+pub not-sent : (first last : ℕ) → T (onlyNever first last) → (n : ℕ) → n < 2 ^ 32 → first ≤ idOf n → idOf n ≤ last → maySend n ≡ false
+not-sent first last t n small from to = refused-not-sent (maySend n) (named-never n never)
+  where
+    never : neverSent (idOf n) ≡ true
+    never =
+        holds
+        (neverSent (idOf n))
+        (rw (between first last (idOf n) from to) at (of-all-below (λ id. implies (among first last id) (neverSent id)) 256 t (idOf n) (omega arith)))

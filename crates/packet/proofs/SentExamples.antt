@@ -12,7 +12,7 @@ checksum-example = refl
 pub configuration-example : configurationRead 0x01000010 ≡ record { number = 0; fields = record { oscillator = 0; polarity = 0; «synchronous_mode» = 0; «maximum_off_time» = 0; «clock_output_disable» = 0; «minute_timer» = 1; «low_battery_polarity» = 0 } }
 configuration-example = refl
 
--- .. and OFD, SP, SME and LBP
+-- Table 5: OFD, SP, SME and LBP
 pub configuration-fields-example : configurationRead 0x01020188 ≡ record { number = 0; fields = record { oscillator = 2; polarity = 1; «synchronous_mode» = 1; «maximum_off_time» = 0; «clock_output_disable» = 0; «minute_timer» = 0; «low_battery_polarity» = 1 } }
 configuration-fields-example = refl
 
@@ -20,16 +20,16 @@ configuration-fields-example = refl
 pub control-example : controlRead 0x02006001 ≡ record { number = 0; fields = record { «forced_frames» = 0; «single_phase» = 1; phase = 2; «block_information» = 0; «minute_timer_clear» = 0; on = 1 } }
 control-example = refl
 
--- .. with bit 15 set, which the table prints as 0
+-- Table 11: bit 15 set, which the table prints as 0
 pub control-zero-bit-example : controlRead 0x0200E001 ≡ record { number = 7; fields = record { «forced_frames» = 0; «single_phase» = 0; phase = 0; «block_information» = 0; «minute_timer_clear» = 0; on = 0 } }
 control-zero-bit-example = refl
 
--- .. with a phase too large for its place
+-- Table 11: a phase too large for its place
 pub control-too-large-example : builtBy control (ofControl (record { «forced_frames» = 0; «single_phase» = 1; phase = 4; «block_information» = 0; «minute_timer_clear» = 0; on = 1 })) ≡ record { number = 7; packet = record { bits = 0 } }
 unfolding builtOf
 control-too-large-example = refl
 
--- .. and another kind's ID
+-- Table 11: another kind's ID
 pub other-kind-example : controlRead 0x01000010 ≡ record { number = 7; fields = record { «forced_frames» = 0; «single_phase» = 0; phase = 0; «block_information» = 0; «minute_timer_clear» = 0; on = 0 } }
 other-kind-example = refl
 

@@ -41,7 +41,7 @@ alphanumeric-example = refl
 pub short-examples : map (λ (n : ℕ). vectorRead n .fields .«short_message») (0x05020500 ∷ 0x05023FD5 ∷ 0x05023C36 ∷ 0x05022AAB ∷ []) ≡ shortMessage 0 0 4 1 0 0 0 0 ∷ shortMessage 1 0 0 0 5 0 0 0 ∷ shortMessage 2 0 0 0 5 1 33 0 ∷ shortMessage 3 0 0 0 0 0 0 0xAAA ∷ []
 short-examples = refl
 
--- .. none of which has message words
+-- a short message/tone-only vector has no message words
 pub short-spans : map (λ (n : ℕ). vectorRead n .fields .span) (0x05020500 ∷ 0x05010E68 ∷ []) ≡ noSpan ∷ noSpan ∷ []
 short-spans = refl
 

@@ -43,7 +43,7 @@ text-not-numeric v e = ⊎-elim (λ first. ⊎-elim (λ z. of-type secureType z 
     of-type : (kind : ℕ) → eqb v kind ≡ true → isNumeric kind ≡ false → isNumeric v ≡ false
     of-type kind same none = ap isNumeric (eqb-true v kind same) ∙ none
 
--- .. and so is a secure, alphanumeric or hex/binary one
+-- a secure, alphanumeric or hex/binary vector read and laid out again is as it was, up to x bits
 pub text-back-and-there : (n : ℕ) → isVector n ≡ true → isText (vectorType n) ≡ true → packed textVector (ofText (vectorRead n .fields)) ≡ bitAnd n (maskOf isRead textVector)
 text-back-and-there n e text =
     let shown : shows textVector n ≡ true = shows-each textVector n tt ∙ rw (eq-eqb (bitsAt 31 1 n) 0 (vector-clear n e)) refl in
@@ -53,15 +53,15 @@ text-back-and-there n e text =
 abbrev pub ofCharacters : Vector → List ℕ
 ofCharacters v = v .word ∷ v .damaged ∷ v .phase ∷ v .«short_message» .third ∷ v .«short_message» .second ∷ v .«short_message» .first ∷ []
 
--- .. t 01
+-- Table 34, t 01
 abbrev pub ofSource : Vector → List ℕ
 ofSource v = v .word ∷ v .damaged ∷ v .phase ∷ v .«short_message» .source ∷ []
 
--- .. t 10
+-- Table 34, t 10
 abbrev pub ofNumbered : Vector → List ℕ
 ofNumbered v = v .word ∷ v .damaged ∷ v .phase ∷ v .«short_message» .retrieval ∷ v .«short_message» .message ∷ v .«short_message» .source ∷ []
 
--- .. t 11, the spare type, by Table 33
+-- Table 34, t 11, the spare type, by Table 33
 abbrev pub ofSpare : Vector → List ℕ
 ofSpare v = v .word ∷ v .damaged ∷ v .phase ∷ v .kind ∷ v .«short_message» .unread ∷ v .«short_message» .kind ∷ []
 
@@ -93,7 +93,7 @@ spare-back-and-there n e short t =
 abbrev pub ofTemporary : Vector → List ℕ
 ofTemporary v = v .word ∷ v .damaged ∷ v .phase ∷ (v .instruction .address - 16) ∷ v .instruction .frame ∷ []
 
--- .. a reserved type, by Table 37
+-- a reserved type, by Table 37
 abbrev pub ofReserved : Vector → List ℕ
 ofReserved v = v .word ∷ v .damaged ∷ v .phase ∷ v .kind ∷ v .instruction .unread ∷ v .instruction .kind ∷ []
 

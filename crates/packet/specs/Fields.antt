@@ -39,20 +39,20 @@ numberBy row n = numberUnless refusals.Packet (shows row n)
 abbrev pub fieldsBy : Layout → ℕ → List ℕ
 fieldsBy row n = fieldsOf row (kept (shows row n) n)
 
--- Table 9
+-- Table 9: a packet's fields as numbers
 abbrev pub ofChecksum : Checksum → List ℕ
 ofChecksum f = f .value ∷ []
 
--- .. and back
+-- Table 9: numbers as a packet's fields
 abbrev pub asChecksum : List ℕ → Checksum
 asChecksum v = record { value = getD v 0 0 }
 
--- Table 5
+-- Table 5: a packet's fields as numbers
 abbrev pub ofConfiguration : Configuration → List ℕ
 ofConfiguration f =
     f .oscillator ∷ f .polarity ∷ f .«synchronous_mode» ∷ f .«maximum_off_time» ∷ f .«clock_output_disable» ∷ f .«minute_timer» ∷ f .«low_battery_polarity» ∷ []
 
--- .. and back
+-- Table 5: numbers as a packet's fields
 abbrev pub asConfiguration : List ℕ → Configuration
 asConfiguration v =
     record {
@@ -65,11 +65,11 @@ asConfiguration v =
       «low_battery_polarity» = getD v 6 0;
     }
 
--- Table 11
+-- Table 11: a packet's fields as numbers
 abbrev pub ofControl : Control → List ℕ
 ofControl f = f .«forced_frames» ∷ f .«single_phase» ∷ f .phase ∷ f .«block_information» ∷ f .«minute_timer_clear» ∷ f .on ∷ []
 
--- .. and back
+-- Table 11: numbers as a packet's fields
 abbrev pub asControl : List ℕ → Control
 asControl v =
     record {
@@ -81,58 +81,58 @@ asControl v =
       on = getD v 5 0;
     }
 
--- Table 56
+-- Table 56: a packet's fields as numbers
 abbrev pub ofAllFrameMode : AllFrameMode → List ℕ
 ofAllFrameMode f = f .decrement ∷ f .force ∷ f .«decrement_temporary» ∷ []
 
--- .. and back
+-- Table 56: numbers as a packet's fields
 abbrev pub asAllFrameMode : List ℕ → AllFrameMode
 asAllFrameMode v = record { decrement = getD v 0 0; force = getD v 1 0; «decrement_temporary» = getD v 2 0 }
 
--- Table 19
+-- Table 19: a packet's fields as numbers
 abbrev pub ofReceiverLines : ReceiverLines → List ℕ
 ofReceiverLines f = f .forced ∷ f .settings ∷ []
 
--- .. and back
+-- Table 19: numbers as a packet's fields
 abbrev pub asReceiverLines : List ℕ → ReceiverLines
 asReceiverLines v = record { forced = getD v 0 0; settings = getD v 1 0 }
 
--- Table 21
+-- Table 21: a packet's fields as numbers
 abbrev pub ofShutDown : ShutDown → List ℕ
 ofShutDown f = f .setting ∷ f .enable ∷ f .«low_battery_check» ∷ f .lines ∷ f .time ∷ []
 
--- .. and back
+-- Table 21: numbers as a packet's fields
 abbrev pub asShutDown : List ℕ → ShutDown
 asShutDown v = record { setting = getD v 0 0; enable = getD v 1 0; «low_battery_check» = getD v 2 0; lines = getD v 3 0; time = getD v 4 0 }
 
--- Table 29
+-- Table 29: a packet's fields as numbers
 abbrev pub ofFrameAssignment : FrameAssignment → List ℕ
 ofFrameAssignment f = f .range ∷ f .frames ∷ []
 
--- .. and back
+-- Table 29: numbers as a packet's fields
 abbrev pub asFrameAssignment : List ℕ → FrameAssignment
 asFrameAssignment v = record { range = getD v 0 0; frames = getD v 1 0 }
 
--- Table 26
+-- Table 26: a packet's fields as numbers
 abbrev pub ofUserAddress : UserAddress → List ℕ
 ofUserAddress f = f .location ∷ f .«long_address» ∷ f .«tone_only» ∷ f .word ∷ []
 
--- .. and back
+-- Table 26: numbers as a packet's fields
 abbrev pub asUserAddress : List ℕ → UserAddress
 asUserAddress v = record { location = getD v 0 0; «long_address» = getD v 1 0; «tone_only» = getD v 2 0; word = getD v 3 0 }
 
--- Table 27
+-- Table 27: a packet's fields as numbers
 abbrev pub ofAddressEnable : AddressEnable → List ℕ
 ofAddressEnable f = f .enabled ∷ []
 
--- .. and back
+-- Table 27: numbers as a packet's fields
 abbrev pub asAddressEnable : List ℕ → AddressEnable
 asAddressEnable v = record { enabled = getD v 0 0 }
 
--- Table 8
+-- Table 8: a packet's fields as numbers
 abbrev pub ofPartId : PartId → List ℕ
 ofPartId f = f .model ∷ f .compatibility ∷ f .revision ∷ []
 
--- .. and back
+-- Table 8: numbers as a packet's fields
 abbrev pub asPartId : List ℕ → PartId
 asPartId v = record { model = getD v 0 0; compatibility = getD v 1 0; revision = getD v 2 0 }

@@ -40,7 +40,7 @@ asStatus v =
       overflow = getD v 9 0;
     }
 
--- .. 7 for another ID
+-- a status packet's fields; 7 for another ID
 abbrev pub statusRead : ℕ → StatusRead
 statusRead n = record { number = numberBy status n; fields = asStatus (fieldsBy status n) }
 
@@ -66,7 +66,7 @@ asAddress v =
 
 -- the kind is right, and the vector's word number no "field too large": S8.7.2, "2 to 87 decimal"
 abbrev pub addressRight : ℕ → Bool
-addressRight n = shows address n && (eqb (getD (fieldsOf address n) 4 0) 1 || leb (getD (fieldsOf address n) 5 0) 87)
+addressRight n = shows address n && (eqb (getD (fieldsOf address n) 4 0) 1 || leb (getD (fieldsOf address n) 5 0) lastWordID)
 
 -- the index is one of an address
 abbrev pub addressNumbered : ℕ → Bool
@@ -92,6 +92,6 @@ asMessage v = record { word = getD v 0 0; damaged = getD v 1 0; phase = getD v 2
 abbrev pub isMessage : ℕ → Bool
 isMessage n = among firstMessageID lastWordID (idOf n)
 
--- .. 7 for another ID
+-- a message packet's fields; 7 for another ID
 abbrev pub messageRead : ℕ → MessageRead
 messageRead n = record { number = numberUnless refusals.Packet (isMessage n); fields = asMessage (fieldsOf message (kept (isMessage n) n)) }

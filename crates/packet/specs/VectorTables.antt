@@ -27,7 +27,7 @@ shortVector =
     ∷ unused 2 ∷ field 12 ∷ field 2
     ∷ []
 
--- .. Table 34, t 00, the first three numeric characters: WN; e, p; c, b, a
+-- Table 34, t 00, the first three numeric characters: WN; e, p; c, b, a
 abbrev pub charactersVector : Layout
 charactersVector =
     zeros 1 ∷ field 7
@@ -35,7 +35,7 @@ charactersVector =
     ∷ unused 2 ∷ field 4 ∷ field 4 ∷ field 4 ∷ printed 2 0
     ∷ []
 
--- .. t 01, a source: WN; e, p; S (s unused)
+-- Table 34, t 01, a source: WN; e, p; S (s unused)
 abbrev pub sourceVector : Layout
 sourceVector =
     zeros 1 ∷ field 7
@@ -43,7 +43,7 @@ sourceVector =
     ∷ unused 2 ∷ unused 9 ∷ field 3 ∷ printed 2 1
     ∷ []
 
--- .. t 10, a source and a message number: WN; e, p; R, N, S (s unused)
+-- Table 34, t 10, a source and a message number: WN; e, p; R, N, S (s unused)
 abbrev pub numberedVector : Layout
 numberedVector =
     zeros 1 ∷ field 7
@@ -59,7 +59,7 @@ instructionVector =
     ∷ unused 2 ∷ field 11 ∷ field 3
     ∷ []
 
--- .. Table 38, i 000, a temporary address: WN; e, p; a, f
+-- Table 38, i 000, a temporary address: WN; e, p; a, f
 abbrev pub temporaryVector : Layout
 temporaryVector =
     zeros 1 ∷ field 7
@@ -83,7 +83,7 @@ shortType = 2
 abbrev pub standardType : ℕ
 standardType = 3
 
--- .. special format numeric
+-- Table 32: special format numeric
 abbrev pub specialType : ℕ
 specialType = 4
 
@@ -91,7 +91,7 @@ specialType = 4
 abbrev pub alphanumericType : ℕ
 alphanumericType = 5
 
--- .. hex/binary
+-- Table 35: hex/binary
 abbrev pub hexType : ℕ
 hexType = 6
 

@@ -56,15 +56,15 @@ shortMessage t a b c s r m d =
 abbrev pub asCharacters : List ℕ → ShortMessage
 asCharacters v = shortMessage 0 (getD v 5 0) (getD v 4 0) (getD v 3 0) 0 0 0 0
 
--- .. t 01
+-- Table 34, t 01
 abbrev pub asSource : List ℕ → ShortMessage
 asSource v = shortMessage 1 0 0 0 (getD v 3 0) 0 0 0
 
--- .. t 10
+-- Table 34, t 10
 abbrev pub asNumbered : List ℕ → ShortMessage
 asNumbered v = shortMessage 2 0 0 0 (getD v 5 0) (getD v 3 0) (getD v 4 0) 0
 
--- .. t 11, the spare type: the d bits are handed over unread
+-- Table 34, t 11, the spare type: the d bits are handed over unread
 abbrev pub asSpare : List ℕ → ShortMessage
 asSpare v = shortMessage 3 0 0 0 0 0 0 (getD v 4 0)
 
@@ -76,7 +76,7 @@ shortOf n =
     (pick (eqb (messageType n) 2) (asNumbered (fieldsOf numberedVector n))
     (asSpare (fieldsOf shortVector n))))
 
--- .. and 0 in any other
+-- the short message of any vector: 0 in one of another type
 abbrev pub shortMessageOf : ℕ → ShortMessage
 shortMessageOf n = pick (eqb (vectorType n) shortType) (shortOf n) (shortMessage 0 0 0 0 0 0 0 0)
 
@@ -88,7 +88,7 @@ instructionKind n = getD (fieldsOf instructionVector n) 5 0
 abbrev pub asTemporary : List ℕ → Instruction
 asTemporary v = record { kind = 0; address = getD v 3 0 + 16; frame = getD v 4 0; unread = 0 }
 
--- .. a reserved type: the d bits are handed over unread
+-- Table 37, a reserved type: the d bits are handed over unread
 abbrev pub asReserved : List ℕ → Instruction
 asReserved v = record { kind = getD v 5 0; address = 0; frame = 0; unread = getD v 4 0 }
 
@@ -116,6 +116,6 @@ vectorOf n =
 abbrev pub isVector : ℕ → Bool
 isVector n = among firstVectorID lastWordID (idOf n)
 
--- .. 7 for another ID. A vector marked in error is read like any other
+-- a vector's fields; 7 for another ID. A vector marked in error is read like any other
 abbrev pub vectorRead : ℕ → VectorRead
 vectorRead n = record { number = numberUnless refusals.Packet (isVector n); fields = vectorOf (kept (isVector n) n) }

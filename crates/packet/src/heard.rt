@@ -10,6 +10,13 @@ use crate::PartId;
 use refusal::Refusal;
 use refusal::kept;
 
+// The bits that the table of each packet prints: its ID. Those of what the host sends are in `sent`.
+const PART_ID_PRINTED: u32 = 0xFF00_0000; // Table 8
+
+const STATUS_PRINTED: u32 = 0xFF00_0000; // Table 12
+
+const ADDRESS_PRINTED: u32 = 0xFF00_0000; // Table 30
+
 // The fields of the part ID packet (Table 8), or its refusal.
 #[repr(C)]
 pub struct PartIdRead {
@@ -89,7 +96,7 @@ fn address_of(bits: u32) -> Address
         priority: (bits >> 23) % 2,
         phase: (bits >> 21) % 4,
         long_address: (bits >> 20) % 2,
-        // A temporary address stands behind the sixteen of the pager.
+        // The temporary addresses come after the sixteen of the pager.
         address: index % 16 + 16 * (index / 0x80),
         tone_only: (bits >> 7) % 2,
         vector: vector_of_address(bits),
@@ -113,7 +120,7 @@ pub fn read_address(packet: Packet) -> AddressRead
 {
     let bits = packet.bits;
     // Whether it is an address packet, and its vector's word number one of a frame.
-    let right = (bits & 0xFF00_0000 == Packet::ADDRESS << 24)
+    let right = (bits & ADDRESS_PRINTED == Packet::ADDRESS << 24)
         & (((bits >> 7) % 2 == 1) | (bits % 0x80 <= Packet::LAST_WORD));
     // Whether the address index stands for an address.
     let index = (bits >> 8) % 0x100;
@@ -162,7 +169,7 @@ pub fn read_part_id(packet: Packet) -> PartIdRead
     ensures { λ r. ⌜ r ≡ partIdRead (packet .bits) ⌝ }
 {
     let bits = packet.bits;
-    let good = bits & 0xFF00_0000 == Packet::PART_ID << 24;
+    let good = bits & PART_ID_PRINTED == Packet::PART_ID << 24;
     let bits = kept(good, bits);
     PartIdRead {
         number: Refusal::Packet.unless(good),
@@ -196,7 +203,7 @@ pub fn read_status(packet: Packet) -> StatusRead
     ensures { λ r. ⌜ r ≡ statusRead (packet .bits) ⌝ }
 {
     let bits = packet.bits;
-    let good = bits & 0xFF00_0000 == Packet::STATUS << 24;
+    let good = bits & STATUS_PRINTED == Packet::STATUS << 24;
     if good {
         StatusRead {
             number: 0,

@@ -64,7 +64,7 @@ pub use vectors::Vector;
 pub use vectors::VectorRead;
 pub use vectors::read_vector;
 
-// 32 bits: the ID in the highest byte, 24 data bits behind it (Table 1).
+// 32 bits: the ID in the highest byte, 24 data bits after it (Table 1).
 #[repr(C)]
 pub struct Packet {
     pub bits: u32,
@@ -193,9 +193,25 @@ impl Packet {
 
     pub const RECEIVER_LINES: u32 = 0x0F;
 
-    pub const FIRST_SETTING: u32 = 0x10;
+    pub const RECEIVER_OFF: u32 = 0x10;
 
-    pub const LAST_SETTING: u32 = 0x19;
+    pub const WARM_UP_1: u32 = 0x11;
+
+    pub const WARM_UP_2: u32 = 0x12;
+
+    pub const WARM_UP_3: u32 = 0x13;
+
+    pub const WARM_UP_4: u32 = 0x14;
+
+    pub const WARM_UP_5: u32 = 0x15;
+
+    pub const SYNC_3200: u32 = 0x16;
+
+    pub const SYNC_1600: u32 = 0x17;
+
+    pub const DATA_3200: u32 = 0x18;
+
+    pub const DATA_1600: u32 = 0x19;
 
     pub const SHUT_DOWN_1: u32 = 0x1A;
 
@@ -214,6 +230,7 @@ impl Packet {
     pub const FIRST_USER_ADDRESS: u32 = 0x80;
 
     pub const LAST_USER_ADDRESS: u32 = 0x8F;
+
     // What the decoder sends (Table 3). A vector's or message word's ID is its word number.
     pub const ADDRESS: u32 = 0x01;
 
@@ -221,14 +238,14 @@ impl Packet {
 
     pub const FIRST_MESSAGE: u32 = 0x03;
 
-    pub const LAST_WORD: u32 = 0x57;
+    pub const LAST_WORD: u32 = 87;
 
     pub const STATUS: u32 = 0x7F;
 
     pub const PART_ID: u32 = 0xFF;
 
     // Every name, tied to the definitions' number.
-    pub fn names() -> [u32; 22]
+    pub fn names() -> [u32; 30]
         ensures { λ r. ⌜ r ≡ allIDs ⌝ }
     {
         [
@@ -237,8 +254,16 @@ impl Packet {
             Packet::CONTROL,
             Packet::ALL_FRAME_MODE,
             Packet::RECEIVER_LINES,
-            Packet::FIRST_SETTING,
-            Packet::LAST_SETTING,
+            Packet::RECEIVER_OFF,
+            Packet::WARM_UP_1,
+            Packet::WARM_UP_2,
+            Packet::WARM_UP_3,
+            Packet::WARM_UP_4,
+            Packet::WARM_UP_5,
+            Packet::SYNC_3200,
+            Packet::SYNC_1600,
+            Packet::DATA_3200,
+            Packet::DATA_1600,
             Packet::SHUT_DOWN_1,
             Packet::SHUT_DOWN_2,
             Packet::FIRST_SPECIAL,

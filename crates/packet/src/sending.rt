@@ -2,7 +2,7 @@
 // with a bit set that its table prints as 0.
 ghost use Prim.Native.Nat.{_≤_, _<_};
 ghost use mathlib.Core.Path.{_≡_};
-ghost use Rattle.packet.specs.Names.{idOf};
+ghost use Rattle.packet.specs.Names.{idOf, receiverOffID, shutDown1ID};
 ghost use Rattle.packet.specs.Rule.{maySend, sendOf};
 use crate::Packet;
 use crate::sent::ADDRESS_ENABLE_PRINTED;
@@ -15,44 +15,48 @@ use crate::sent::SHUT_DOWN_PRINTED;
 use crate::sent::USER_ADDRESS_PRINTED;
 use refusal::Refusal;
 
-// Whether a packet with an ID below the receiver's settings may be sent. A table prints its packet's ID, so that behind
-// it the reserved IDs up to the next packet's are refused with the bits that are printed as 0.
+// Whether a packet with an ID below the receiver's settings may be sent. A table prints its packet's ID, so that the
+// reserved IDs before it are refused with the bits that are printed as 0.
 fn right_below_settings(bits: u32) -> bool
-    requires { ⌜ idOf bits < 0x10 ⌝ }
+    requires { ⌜ idOf bits < receiverOffID ⌝ }
     ensures { λ r. ⌜ r ≡ maySend bits ⌝ }
 {
     let id = bits >> 24;
-    if id < Packet::CONFIGURATION {
+    if id <= Packet::CHECKSUM {
         return true;
     }
-    if id < Packet::CONTROL {
+    if id <= Packet::CONFIGURATION {
         return bits & CONFIGURATION_PRINTED == Packet::CONFIGURATION << 24;
     }
-    if id < Packet::ALL_FRAME_MODE {
+    if id <= Packet::CONTROL {
         return bits & CONTROL_PRINTED == Packet::CONTROL << 24;
     }
-    if id < Packet::RECEIVER_LINES {
+    if id <= Packet::ALL_FRAME_MODE {
         return bits & ALL_FRAME_MODE_PRINTED == Packet::ALL_FRAME_MODE << 24;
     }
     bits & RECEIVER_LINES_PRINTED == Packet::RECEIVER_LINES << 24
 }
 
-// .. and one with an ID above them.
+// Whether a packet with an ID above the receiver's settings may be sent. Here too the reserved and special IDs before a
+// packet's are refused by the ID that its table prints.
 fn right_above_settings(bits: u32) -> bool
-    requires { ⌜ 0x1A ≤ idOf bits ⌝ }
+    requires { ⌜ shutDown1ID ≤ idOf bits ⌝ }
     ensures { λ r. ⌜ r ≡ maySend bits ⌝ }
 {
     let id = bits >> 24;
-    if id < Packet::FIRST_FRAMES {
+    if id <= Packet::SHUT_DOWN_2 {
         return bits & SHUT_DOWN_PRINTED == Packet::SHUT_DOWN_1 << 24;
     }
-    if id < Packet::ADDRESS_ENABLE {
+    if id <= Packet::LAST_FRAMES {
         return bits & FRAME_ASSIGNMENT_PRINTED == Packet::FIRST_FRAMES << 24;
     }
-    if id < Packet::FIRST_USER_ADDRESS {
+    if id <= Packet::ADDRESS_ENABLE {
         return bits & ADDRESS_ENABLE_PRINTED == Packet::ADDRESS_ENABLE << 24;
     }
-    bits & USER_ADDRESS_PRINTED == Packet::FIRST_USER_ADDRESS << 24
+    if id <= Packet::LAST_USER_ADDRESS {
+        return bits & USER_ADDRESS_PRINTED == Packet::FIRST_USER_ADDRESS << 24;
+    }
+    false
 }
 
 // Whether a packet may be sent. The settings of the receiver go with any data bits.
@@ -60,10 +64,10 @@ fn right(bits: u32) -> bool
     ensures { λ r. ⌜ r ≡ maySend bits ⌝ }
 {
     let id = bits >> 24;
-    if id < Packet::FIRST_SETTING {
+    if id < Packet::RECEIVER_OFF {
         return right_below_settings(bits);
     }
-    if id <= Packet::LAST_SETTING {
+    if id <= Packet::DATA_1600 {
         return true;
     }
     right_above_settings(bits)

@@ -79,27 +79,25 @@ pub struct AddressEnableRead {
     pub fields: AddressEnable,
 }
 
-// The bits that each packet's table prints, its ID and every 0: the table as a mask.
+// The bits that the table of each packet prints, its ID and every 0: the table as a mask. Those of what the decoder sends
+// are in `heard`.
 pub const CHECKSUM_PRINTED: u32 = 0xFF00_0000; // Table 9
 
-pub const ALL_FRAME_MODE_PRINTED: u32 = 0xFF3F_0000; // Table 56
-
-// The bits that each packet's table prints, its ID and every 0: the table as a mask.
 pub const CONFIGURATION_PRINTED: u32 = 0xFFFC_FC07; // Table 5
 
 pub const CONTROL_PRINTED: u32 = 0xFF00_8FAE; // Table 11
 
-// The bits that each packet's table prints, its ID and every 0: the table as a mask.
+pub const ALL_FRAME_MODE_PRINTED: u32 = 0xFF3F_0000; // Table 56
+
+pub const RECEIVER_LINES_PRINTED: u32 = 0xFFFF_0000; // Table 19
+
+pub const SHUT_DOWN_PRINTED: u32 = 0xFE77_00C0; // Table 21
+
 pub const FRAME_ASSIGNMENT_PRINTED: u32 = 0xF8FF_0000; // Table 29
 
 pub const USER_ADDRESS_PRINTED: u32 = 0xF080_0000; // Table 26
 
 pub const ADDRESS_ENABLE_PRINTED: u32 = 0xFFFF_0000; // Table 27
-
-// The bits that each packet's table prints, its ID and every 0: the table as a mask.
-pub const RECEIVER_LINES_PRINTED: u32 = 0xFFFF_0000; // Table 19
-
-pub const SHUT_DOWN_PRINTED: u32 = 0xFE77_00C0; // Table 21
 
 // Reads a checksum packet (Table 9).
 pub fn read_checksum(packet: Packet) -> ChecksumRead

@@ -25,7 +25,7 @@ one-gives (Worded.One w) word = and-true (eqb w word)
 one-gives (Worded.Two a b) word = and-false (eqb a word)
 one-gives (Worded.Refused r) word = refused-gives r (word ∷ [])
 
--- .. and two words exactly if it gives these two
+-- an answer is two words exactly if it gives these two and no more
 pub pair-gives : (w : Worded) (first second : ℕ) → gives (toldWorded w) (first ∷ second ∷ []) ≡ isPair w first second
 unfolding same
 pair-gives (Worded.One w) first second = and-false (eqb w first)

@@ -58,11 +58,11 @@ returns-2 c =
     (λ broke. absurd (eqb-false (a .loop .s .letter) 0 (not-true _ (broke .2 .taken)) (c .if2 .taken)))
     (c .before .before .loop-test .came)
 
-form-behind-letter-requires : tie.Need-form-behind-letter-requires Inv-loop μ-loop
-form-behind-letter-requires c κs = (c .before .before .before .loop .inv .sound, c .if2 .left)
+form-after-letter-requires : tie.Need-form-after-letter-requires Inv-loop μ-loop
+form-after-letter-requires c κs = (c .before .before .before .loop .inv .sound, c .if2 .left)
 
 returns-3 : tie.Need-returns-3 Inv-loop μ-loop
-returns-3 c = c .form-behind-letter .ensures ∙ sym (c .before .before .before .before .loop .inv .answer)
+returns-3 c = c .form-after-letter .ensures ∙ sym (c .before .before .before .before .loop .inv .answer)
 
 pub form-of-spec : {M : Type 1} → statement M
 form-of-spec =
@@ -80,5 +80,5 @@ form-of-spec =
     loop-less
     loop-again
     returns-2
-    form-behind-letter-requires
+    form-after-letter-requires
     returns-3)

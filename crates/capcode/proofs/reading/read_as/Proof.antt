@@ -1,4 +1,4 @@
--- `read_as` meets its contract: what is assigned stands behind what was said, and what is refused is refused the same.
+-- `read_as` meets its contract: what is assigned stands after what was said, and what is refused is refused the same.
 use mathlib.Core.List.{List, [], _∷_}
 use mathlib.Core.Path.{_≡_, sym, ap, _∙_}
 use Prim.Native.Nat.{ℕ}

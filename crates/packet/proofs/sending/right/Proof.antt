@@ -2,6 +2,7 @@
 use mathlib.Core.Path.{sym}
 use native.Mathlib.Omega.{arith}
 use borrow.Author.Needs.{needs}
+use Rattle.packet.specs.Names.{receiverOffID, data1600ID}
 use Rattle.packet.proofs.RuleLaws.{sent-with-any}
 use Rattle.packet.proofs.sending.right.Statement.{statement}
 use Rattle.packet.proofs.sending.right.Tie as tie
@@ -13,7 +14,7 @@ returns : tie.Need-returns
 returns c = search needs
 
 returns-2 : tie.Need-returns-2
-returns-2 c = sym (sent-with-any 0x10 0x19 tt (c .before .before .args .bits) (omega arith) (omega arith))
+returns-2 c = sym (sent-with-any receiverOffID data1600ID tt (c .before .before .args .bits) (omega arith) (omega arith))
 
 right-above-settings-requires : tie.Need-right-above-settings-requires
 right-above-settings-requires c κs = search needs

@@ -1,24 +1,25 @@
--- `right_below_settings` meets its contract: up to the next packet's ID a table decides.
+-- `right_below_settings` meets its contract: up to each packet's ID its table decides.
 use mathlib.Core.Path.{sym}
 use native.Mathlib.Omega.{arith}
+use Rattle.packet.specs.Names.{checksumID, configurationID, controlID, allFrameModeID, receiverLinesID}
 use Rattle.packet.proofs.RuleLaws.{sent-with-any, configurationKind, controlKind, allFrameModeKind, receiverLinesKind, sent-as-shown}
 use Rattle.packet.proofs.sending.right_below_settings.Statement.{statement}
 use Rattle.packet.proofs.sending.right_below_settings.Tie as tie
 
 returns : tie.Need-returns
-returns c = sym (sent-with-any 0x00 0x00 tt (c .before .args .bits) (omega arith) (omega arith))
+returns c = sym (sent-with-any 0 checksumID tt (c .before .args .bits) (omega arith) (omega arith))
 
 returns-2 : tie.Need-returns-2
-returns-2 c = sent-as-shown configurationKind 0x01 0x01 tt (c .before .before .args .bits) (omega arith) (omega arith) (omega arith)
+returns-2 c = sent-as-shown configurationKind configurationID configurationID tt (c .before .before .args .bits) (omega arith) (omega arith) (omega arith)
 
 returns-3 : tie.Need-returns-3
-returns-3 c = sent-as-shown controlKind 0x02 0x02 tt (c .before .before .before .args .bits) (omega arith) (omega arith) (omega arith)
+returns-3 c = sent-as-shown controlKind controlID controlID tt (c .before .before .before .args .bits) (omega arith) (omega arith) (omega arith)
 
 returns-4 : tie.Need-returns-4
-returns-4 c = sent-as-shown allFrameModeKind 0x03 0x0E tt (c .before .before .before .before .args .bits) (omega arith) (omega arith) (omega arith)
+returns-4 c = sent-as-shown allFrameModeKind allFrameModeID allFrameModeID tt (c .before .before .before .before .args .bits) (omega arith) (omega arith) (omega arith)
 
 returns-5 : tie.Need-returns-5
-returns-5 c = sent-as-shown receiverLinesKind 0x0F 0x0F tt (c .before .before .before .before .args .bits) (omega arith) (omega arith) (omega arith)
+returns-5 c = sent-as-shown receiverLinesKind 0x04 receiverLinesID tt (c .before .before .before .before .args .bits) (omega arith) (omega arith) (omega arith)
 
 pub right-below-settings-spec : {M : Type 1} → statement M
 right-below-settings-spec = tie.close (tie.spec returns returns-2 returns-3 returns-4 returns-5)

@@ -3,11 +3,11 @@ use mathlib.Core.Path.{_≡_, refl, sym, _∙_}
 use lib.ListN.{length, drop}
 use borrow.Author.Needs.{needs}
 use Rattle.capcode.specs.Reads.{going, follow, endOf}
-use Rattle.capcode.proofs.Steps.{step-behind}
+use Rattle.capcode.proofs.Steps.{step-after}
 use Rattle.capcode.proofs.Sound.{sound-bounded}
 use Rattle.capcode.proofs.Course.{Stands, stands-on, stands-stop, stands-end}
-use Rattle.capcode.proofs.reading.form_behind_letter.Statement.{statement}
-use Rattle.capcode.proofs.reading.form_behind_letter.Tie as tie
+use Rattle.capcode.proofs.reading.form_after_letter.Statement.{statement}
+use Rattle.capcode.proofs.reading.form_after_letter.Tie as tie
 
 abbrev Inv-loop : tie.InvT-loop
 Inv-loop text from s₀ i₀ s i = Stands text (endOf (follow (going i₀ s₀) (drop i₀ text))) i s × (s .letter ≡ 0 → ⊥)
@@ -18,12 +18,12 @@ abbrev μ-loop : tie.MeasureT-loop
 loop-holds : tie.Need-loop-holds Inv-loop μ-loop
 loop-holds c = (record { sound = c .before .pre .0; answer = refl }, c .before .pre .1)
 
-shared-slice-read-step-behind-letter :
-    tie.Need-shared-slice-read-step-behind-letter Inv-loop μ-loop
-shared-slice-read-step-behind-letter c = search needs
+shared-slice-read-step-after-letter :
+    tie.Need-shared-slice-read-step-after-letter Inv-loop μ-loop
+shared-slice-read-step-after-letter c = search needs
 
-step-behind-letter-requires : tie.Need-step-behind-letter-requires Inv-loop μ-loop
-step-behind-letter-requires c κs = (sound-bounded _ (c .before .before .loop .inv .0 .sound), c .before .before .loop .inv .1)
+step-after-letter-requires : tie.Need-step-after-letter-requires Inv-loop μ-loop
+step-after-letter-requires c κs = (sound-bounded _ (c .before .before .loop .inv .0 .sound), c .before .before .loop .inv .1)
 
 enum-known-next : tie.Need-enum-known-next Inv-loop μ-loop
 enum-known-next c = search needs
@@ -34,7 +34,7 @@ enum-told c = search needs
 returns : tie.Need-returns Inv-loop μ-loop
 returns c =
     let a = c .before .before .before .before .before in
-    let step = sym (c .before .before .step-behind-letter .ensures) ∙ c .enum-told .given .1 in
+    let step = sym (c .before .before .step-after-letter .ensures) ∙ c .enum-told .given .1 in
     stands-stop _ _ (a .loop .i) (a .loop .s) (a .loop .inv .0) (search needs) step
 
 add-i : tie.Need-add-i Inv-loop μ-loop
@@ -46,9 +46,9 @@ loop-less c = search needs
 loop-again : tie.Need-loop-again Inv-loop μ-loop
 loop-again c =
     let a = c .before .before .before .before .before .before in
-    let step = sym (c .before .before .before .step-behind-letter .ensures) ∙ c .before .next .given .1 in
+    let step = sym (c .before .before .before .step-after-letter .ensures) ∙ c .before .next .given .1 in
     let next = c .before .next .given .0 .0 in
-    (stands-on _ _ (a .loop .i) (a .loop .s) (a .loop .inv .0) next (search needs) step, step-behind (a .loop .s) next _ (a .loop .inv .1) step)
+    (stands-on _ _ (a .loop .i) (a .loop .s) (a .loop .inv .0) next (search needs) step, step-after (a .loop .s) next _ (a .loop .inv .1) step)
 
 form-at-end-requires : tie.Need-form-at-end-requires Inv-loop μ-loop
 form-at-end-requires c κs = sound-bounded _ (c .before .loop .inv .0 .sound)
@@ -58,15 +58,15 @@ returns-2 c =
     let a = c .before .before in
     c .form-at-end .ensures ∙ stands-end _ _ (a .loop .i) (a .loop .s) (a .loop .inv .0) (search needs)
 
-pub form-behind-letter-spec : {M : Type 1} → statement M
-form-behind-letter-spec =
+pub form-after-letter-spec : {M : Type 1} → statement M
+form-after-letter-spec =
     tie.close
     (tie.spec
     Inv-loop
     μ-loop
     loop-holds
-    shared-slice-read-step-behind-letter
-    step-behind-letter-requires
+    shared-slice-read-step-after-letter
+    step-after-letter-requires
     enum-known-next
     enum-told
     returns

@@ -1,8 +1,8 @@
 use mathlib.Core.Path.{sym, _∙_}
 use borrow.Author.Needs.{needs}
 use Rattle.capcode.proofs.Steps.{step-address, step-stop, digit-from}
-use Rattle.capcode.proofs.reading.step_behind_letter.Statement.{statement}
-use Rattle.capcode.proofs.reading.step_behind_letter.Tie as tie
+use Rattle.capcode.proofs.reading.step_after_letter.Statement.{statement}
+use Rattle.capcode.proofs.reading.step_after_letter.Tie as tie
 
 is-digit-requires : tie.Need-is-digit-requires
 is-digit-requires c κs = search needs
@@ -19,7 +19,7 @@ returns c = c .address-digit .ensures ∙ step-address _ _ (sym (c .before .befo
 returns-2 : tie.Need-returns-2
 returns-2 c = step-stop _ _ (sym (c .before .is-digit .ensures) ∙ c .if1 .left) (c .before .before .pre .1)
 
-pub step-behind-letter-spec : {M : Type 1} → statement M
-step-behind-letter-spec =
+pub step-after-letter-spec : {M : Type 1} → statement M
+step-after-letter-spec =
     tie.close
     (tie.spec is-digit-requires sub-address-digit address-digit-requires returns returns-2)
