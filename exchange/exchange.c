@@ -15,12 +15,12 @@
  *   3  word_address      u32 word
  *   4  pair_address      u32 first, u32 second
  *   5  capcode_read      u16 length, and that many bytes of text
- *   6  capcode_assign    u8 letter, u8 frame, u8 collapse, u64 address
+ *   6  capcode_assign    u8 letter, u32 frame, u32 collapse, u64 address
  *   7  capcode_print     as capcode_assign, then u8 length and that many bytes,
  *                        which stand in the lent buffer before; the answer
  *                        ends with the whole buffer as it stands after
- *   8  frames_wait       u8 from, u8 to
- *   9  frames_listened   16 times u8 frame, u8 collapse; then u32 count
+ *   8  frames_wait       u32 from, u32 to
+ *   9  frames_listened   16 times u32 frame, u32 collapse; then u32 count
  *
  * From here on every number is a u32. A builder takes the fields of its packet
  * in the order of its struct in the header; a reader takes a packet and answers the
@@ -449,8 +449,8 @@ static void serve_capcode_read(void)
     struct mortisevane_capcode answer = mortisevane_capcode_read(text, length);
     give_u32(answer.number);
     give_u8(answer.letter);
-    give_u8(answer.frame);
-    give_u8(answer.collapse);
+    give_u32(answer.frame);
+    give_u32(answer.collapse);
     give_u8(answer.phase);
     give_u8(answer.base);
     give_u64(answer.address);
@@ -459,8 +459,8 @@ static void serve_capcode_read(void)
 static void serve_capcode_assign(void)
 {
     uint8_t letter = take_u8();
-    uint8_t frame = take_u8();
-    uint8_t collapse = take_u8();
+    uint32_t frame = take_u32();
+    uint32_t collapse = take_u32();
     uint64_t address = take_u64();
     struct mortisevane_assignment answer = mortisevane_capcode_assign(letter, frame, collapse, address);
     give_u32(answer.number);
@@ -471,8 +471,8 @@ static void serve_capcode_assign(void)
 static void serve_capcode_print(void)
 {
     uint8_t letter = take_u8();
-    uint8_t frame = take_u8();
-    uint8_t collapse = take_u8();
+    uint32_t frame = take_u32();
+    uint32_t collapse = take_u32();
     uint64_t address = take_u64();
     uint8_t lent = take_u8();
     take_lent(&lent_for_writing, lent);
@@ -486,8 +486,8 @@ static void serve_capcode_print(void)
 
 static void serve_frames_wait(void)
 {
-    uint8_t from = take_u8();
-    uint8_t to = take_u8();
+    uint32_t from = take_u32();
+    uint32_t to = take_u32();
     struct mortisevane_wait answer = mortisevane_frames_wait(from, to);
     give_u32(answer.number);
     give_u32(answer.frames);
@@ -497,8 +497,8 @@ static void serve_frames_listened(void)
 {
     struct mortisevane_listeners listeners;
     for (size_t place = 0; place < sizeof listeners.listeners / sizeof listeners.listeners[0]; place++) {
-        listeners.listeners[place].frame = take_u8();
-        listeners.listeners[place].collapse = take_u8();
+        listeners.listeners[place].frame = take_u32();
+        listeners.listeners[place].collapse = take_u32();
     }
     listeners.count = take_u32();
     struct mortisevane_frames answer = mortisevane_frames_listened(listeners);

@@ -119,14 +119,14 @@ static struct mortisevane_capcode some_capcode(void)
     struct mortisevane_capcode capcode = { .address = some_address() };
     if (one_in(4)) {
         capcode.letter = (uint8_t)random_bits();
-        capcode.frame = (uint8_t)random_bits();
-        capcode.collapse = (uint8_t)random_bits();
+        capcode.frame = (uint32_t)random_bits();
+        capcode.collapse = (uint32_t)random_bits();
         return capcode;
     }
     capcode.letter = (uint8_t)random_between('A', one_in(4) ? 'Z' : 'H');
     if (capcode.letter >= 'U')
-        capcode.frame = (uint8_t)random_below(130);
-    capcode.collapse = (uint8_t)random_below(one_in(8) ? 8 : 6);
+        capcode.frame = (uint32_t)random_below(130);
+    capcode.collapse = (uint32_t)random_below(one_in(8) ? 8 : 6);
     if (one_in(16))
         capcode.address = random_below(4);
     return capcode;
@@ -242,10 +242,16 @@ void fuzz_capcode_print(void)
 
 /* ---- Frames ---- */
 
+/* A frame, or a number that eight bits might cut to one. */
+static uint32_t some_frame(void)
+{
+    return one_in(4) ? (uint32_t)random_bits() : (uint32_t)random_below(512);
+}
+
 void fuzz_frames_wait(void)
 {
-    uint8_t from = (uint8_t)random_bits();
-    uint8_t to = (uint8_t)random_bits();
+    uint32_t from = some_frame();
+    uint32_t to = some_frame();
     struct mortisevane_wait wait = CALL(frames_wait, from, to);
     answered(wait.number);
     hold((wait.number == 0) == (from <= 127 && to <= 127), "a frame over 127 taken, or another refused");

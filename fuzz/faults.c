@@ -48,7 +48,7 @@ STANDS_BEFORE(uint32_t, sum_ten_bit, const uint32_t *words, size_t words_length)
     return __real_mortisevane_sum_ten_bit(words, words_length);
 }
 
-STANDS_BEFORE(struct mortisevane_length, capcode_print, uint8_t letter, uint8_t frame, uint8_t collapse, uint64_t address,
+STANDS_BEFORE(struct mortisevane_length, capcode_print, uint8_t letter, uint32_t frame, uint32_t collapse, uint64_t address,
     uint8_t *out, size_t out_length)
 {
     struct mortisevane_length printed = __real_mortisevane_capcode_print(letter, frame, collapse, address, out, out_length);
@@ -110,7 +110,7 @@ STANDS_BEFORE(struct mortisevane_message_read, read_message, uint32_t packet)
     return __real_mortisevane_read_message(packet);
 }
 
-STANDS_BEFORE(struct mortisevane_assignment, capcode_assign, uint8_t letter, uint8_t frame, uint8_t collapse, uint64_t address)
+STANDS_BEFORE(struct mortisevane_assignment, capcode_assign, uint8_t letter, uint32_t frame, uint32_t collapse, uint64_t address)
 {
     struct mortisevane_assignment assignment = __real_mortisevane_capcode_assign(letter, frame, collapse, address);
     if (is_fault("never_refuses_by_6") && assignment.number == MORTISEVANE_REFUSED_OFFSET)

@@ -90,8 +90,16 @@ enum mortisevane_packet_numbers {
     MORTISEVANE_PACKET_CONTROL = 0x02,
     MORTISEVANE_PACKET_ALL_FRAME_MODE = 0x03,
     MORTISEVANE_PACKET_RECEIVER_LINES = 0x0F,
-    MORTISEVANE_PACKET_FIRST_SETTING = 0x10,
-    MORTISEVANE_PACKET_LAST_SETTING = 0x19,
+    MORTISEVANE_PACKET_RECEIVER_OFF = 0x10,
+    MORTISEVANE_PACKET_WARM_UP_1 = 0x11,
+    MORTISEVANE_PACKET_WARM_UP_2 = 0x12,
+    MORTISEVANE_PACKET_WARM_UP_3 = 0x13,
+    MORTISEVANE_PACKET_WARM_UP_4 = 0x14,
+    MORTISEVANE_PACKET_WARM_UP_5 = 0x15,
+    MORTISEVANE_PACKET_SYNC_3200 = 0x16,
+    MORTISEVANE_PACKET_SYNC_1600 = 0x17,
+    MORTISEVANE_PACKET_DATA_3200 = 0x18,
+    MORTISEVANE_PACKET_DATA_1600 = 0x19,
     MORTISEVANE_PACKET_SHUT_DOWN_1 = 0x1A,
     MORTISEVANE_PACKET_SHUT_DOWN_2 = 0x1B,
     MORTISEVANE_PACKET_FIRST_SPECIAL = 0x1C,
@@ -233,8 +241,8 @@ struct mortisevane_found mortisevane_pair_address(uint32_t first, uint32_t secon
 struct mortisevane_capcode {
     uint32_t number;
     uint8_t letter;
-    uint8_t frame;
-    uint8_t collapse;
+    uint32_t frame;
+    uint32_t collapse;
     uint8_t phase;
     uint8_t base;
     uint64_t address;
@@ -266,20 +274,22 @@ struct mortisevane_capcode mortisevane_capcode_read(const uint8_t *text, size_t 
  * The phase and base frame of a CAPCODE.
  * Takes the letter as a character, the frame (0 with A to H), the collapse and the address.
  * Answers the phase (0 to 3 for A to D, 4 for any-phase) and the base frame.
- * Refuses 3, 4, 5, 6, 7, the first that applies.
+ * Refuses 3, 4, 5, 6, 7, the first that applies. Here 3 is a letter that no CAPCODE has; 7 is a
+ * collapse over 5, a frame over 127, or a frame that is not 0 with A to H.
  */
-struct mortisevane_assignment mortisevane_capcode_assign(uint8_t letter, uint8_t frame,
-        uint8_t collapse, uint64_t address);
+struct mortisevane_assignment mortisevane_capcode_assign(uint8_t letter, uint32_t frame,
+        uint32_t collapse, uint64_t address);
 
 /*
  * The text of a CAPCODE, written at the start of a lent buffer.
  * Takes the letter as a character, the frame (0 with A to H), the collapse, the address and the
  * buffer, for which MORTISEVANE_CAPCODE_BYTES are always enough.
- * Answers how many bytes were written; no zero byte stands behind them.
- * Refuses 3, 4, 5, 6, 7, the first that applies, and last 1; the buffer is then as it was.
+ * Answers how many bytes were written; no zero byte stands after them.
+ * Refuses 3, 4, 5, 6, 7, as mortisevane_capcode_assign does, and last 1; the buffer is then as it
+ * was.
  */
-struct mortisevane_length mortisevane_capcode_print(uint8_t letter, uint8_t frame,
-        uint8_t collapse, uint64_t address, uint8_t *out, size_t out_length);
+struct mortisevane_length mortisevane_capcode_print(uint8_t letter, uint32_t frame,
+        uint32_t collapse, uint64_t address, uint8_t *out, size_t out_length);
 
 /*
  * Frames listened to and the wait for a temporary address, as C and Rust link them: numbers and
@@ -293,10 +303,13 @@ struct mortisevane_wait {
     uint32_t frames;
 };
 
-/* One address as far as frames go: its base frame and its collapse. */
+/*
+ * One address as far as frames go: its base frame and its collapse, wider than any that is
+ * accepted, so that one too large is refused and not cut.
+ */
 struct mortisevane_listener {
-    uint8_t frame;
-    uint8_t collapse;
+    uint32_t frame;
+    uint32_t collapse;
 };
 
 /* The addresses of a pager: of sixteen places the first `count` are looked at. */
@@ -318,7 +331,7 @@ struct mortisevane_frames {
  * Answers the wait, 0 to 127 frames.
  * Refuses 7: a frame over 127.
  */
-struct mortisevane_wait mortisevane_frames_wait(uint8_t from, uint8_t to);
+struct mortisevane_wait mortisevane_frames_wait(uint32_t from, uint32_t to);
 
 /*
  * The frames that a pager with these addresses listens to.
@@ -339,7 +352,7 @@ struct mortisevane_checksum {
     uint32_t value;
 };
 
-/* 32 bits: the ID in the highest byte, 24 data bits behind it (Table 1). */
+/* 32 bits: the ID in the highest byte, 24 data bits after it (Table 1). */
 struct mortisevane_packet {
     uint32_t bits;
 };
@@ -922,7 +935,9 @@ struct mortisevane_page_read {
  * or _NUMBERED; what the head of a numbered page says, all 0 with the others; and memory for the
  * words, for which MORTISEVANE_PAGE_WORDS are always enough.
  * Answers K for the vector and how many words were written, the fewest that hold the text.
- * Refuses 7, 15, 18, the first that applies, and last 1; the memory is then as it was.
+ * Refuses 7, 15, 18, the first that applies, and last 1; the memory is then as it was. Here 7 is a
+ * type that is none of the three, or a number that the head has no room for: with a page that is
+ * not numbered, any but 0.
  */
 struct mortisevane_written mortisevane_numeric_write(const uint8_t *text, size_t text_length,
         uint32_t kind, struct mortisevane_numbering numbering,
@@ -1001,7 +1016,7 @@ struct mortisevane_fragment_read mortisevane_fragment_read(const uint32_t *words
         uint8_t *text, size_t text_length);
 
 /*
- * A text cut into fragments, one behind the other.
+ * A text cut into fragments, one after the other.
  * Takes the text, up to 1,008 characters; N, R and M of the message; how many words the largest
  * fragment may have, 2 to 85; and memory for the words, for which MORTISEVANE_CUT_WORDS are always
  * enough.
@@ -1084,7 +1099,8 @@ struct mortisevane_chains mortisevane_chains_fresh(void);
 /*
  * A fragment for an address number: it begins a chain, goes on with one, or hands out a text.
  * Takes the records, as they were answered last; the buffer of the texts, MORTISEVANE_CHAIN_BYTES
- * or more, as it was left last; the address number, 0 to 31; and the words of the fragment.
+ * or more, which is kept from fragment to fragment and may hold anything at first; the address
+ * number, 0 to 31; and the words of the fragment.
  * Answers what became of it, and the records then. A text that is handed out is `characters` bytes
  * of the buffer from `place` on, to be read before the next fragment.
  * Refuses 1, 2, 8, 9, 10, 11, 13, 14, 15, 16, 12, the first that applies; the buffer is then as it

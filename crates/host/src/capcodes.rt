@@ -95,7 +95,8 @@ fn assignment_told(answer: AssignAnswer) -> MortisevaneAssignment
 // The phase and base frame of a CAPCODE.
 // Takes the letter as a character, the frame (0 with A to H), the collapse and the address.
 // Answers the phase (0 to 3 for A to D, 4 for any-phase) and the base frame.
-// Refuses 3, 4, 5, 6, 7, the first that applies.
+// Refuses 3, 4, 5, 6, 7, the first that applies. Here 3 is a letter that no CAPCODE has; 7 is a collapse over 5, a frame
+// over 127, or a frame that is not 0 with A to H.
 #[no_mangle]
 pub extern "C" fn mortisevane_capcode_assign(
     letter: u8,
@@ -130,7 +131,7 @@ fn length_told(answer: PrintAnswer) -> MortisevaneLength
 // Takes the letter as a character, the frame (0 with A to H), the collapse, the address and the buffer, for which
 // MORTISEVANE_CAPCODE_BYTES are always enough.
 // Answers how many bytes were written; no zero byte stands after them.
-// Refuses 3, 4, 5, 6, 7, the first that applies, and last 1; the buffer is then as it was.
+// Refuses 3, 4, 5, 6, 7, as mortisevane_capcode_assign does, and last 1; the buffer is then as it was.
 #[no_mangle]
 pub extern "C" fn mortisevane_capcode_print(
     letter: u8,

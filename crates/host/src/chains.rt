@@ -21,8 +21,8 @@ pub extern "C" fn mortisevane_chains_fresh() -> Chains
 }
 
 // A fragment for an address number: it begins a chain, goes on with one, or hands out a text.
-// Takes the records, as they were answered last; the buffer of the texts, MORTISEVANE_CHAIN_BYTES or more, as it was
-// left last; the address number, 0 to 31; and the words of the fragment.
+// Takes the records, as they were answered last; the buffer of the texts, MORTISEVANE_CHAIN_BYTES or more, which is kept
+// from fragment to fragment and may hold anything at first; the address number, 0 to 31; and the words of the fragment.
 // Answers what became of it, and the records then. A text that is handed out is `characters` bytes of the buffer from
 // `place` on, to be read before the next fragment.
 // Refuses 1, 2, 8, 9, 10, 11, 13, 14, 15, 16, 12, the first that applies; the buffer is then as it was. After 14, 15 and

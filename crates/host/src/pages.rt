@@ -13,7 +13,8 @@ use numeric::Written;
 // head of a numbered page says, all 0 with the others; and memory for the words, for which MORTISEVANE_PAGE_WORDS are
 // always enough.
 // Answers K for the vector and how many words were written, the fewest that hold the text.
-// Refuses 7, 15, 18, the first that applies, and last 1; the memory is then as it was.
+// Refuses 7, 15, 18, the first that applies, and last 1; the memory is then as it was. Here 7 is a type that is none of the
+// three, or a number that the head has no room for: with a page that is not numbered, any but 0.
 #[no_mangle]
 pub extern "C" fn mortisevane_numeric_write(
     text: &[u8],

@@ -70,8 +70,8 @@ impl MortisevaneAddress {
 pub struct MortisevaneCapcode {
     pub number: u32,
     pub letter: u8,
-    pub frame: u8,
-    pub collapse: u8,
+    pub frame: u32,
+    pub collapse: u32,
     pub phase: u8,
     pub base: u8,
     pub address: u64,
@@ -82,8 +82,8 @@ impl MortisevaneCapcode {
         Ok(MortisevaneCapcode {
             number: fields.u32()?,
             letter: fields.u8()?,
-            frame: fields.u8()?,
-            collapse: fields.u8()?,
+            frame: fields.u32()?,
+            collapse: fields.u32()?,
             phase: fields.u8()?,
             base: fields.u8()?,
             address: fields.u64()?,
@@ -125,8 +125,8 @@ impl MortisevaneLength {
 
 #[derive(Clone, Copy, Debug, Default, PartialEq, Eq)]
 pub struct MortisevaneListener {
-    pub frame: u8,
-    pub collapse: u8,
+    pub frame: u32,
+    pub collapse: u32,
 }
 
 #[derive(Clone, Copy, Debug, Default, PartialEq, Eq)]

@@ -141,7 +141,7 @@ mod tests {
     }
 
     /// Packets 20H to 27H for the CAPCODE alone.
-    fn frame_assignments(frame: u8, collapse: u8) -> Vec<u32> {
+    fn frame_assignments(frame: u32, collapse: u32) -> Vec<u32> {
         let mut listeners = [Listener::default(); MOST_LISTENERS];
         listeners[0] = Listener { frame, collapse };
         let masks = frames_listened(&listeners, 1)

@@ -70,7 +70,7 @@ pub fn capcode_read(text: &[u8]) -> MortisevaneCapcode {
             frame: capcode.frame,
             collapse: capcode.collapse,
             phase: place.phase.number(),
-            base: place.base_frame,
+            base: place.base_frame as u8,
             address: capcode.address,
         },
         Err(refusal) => refused!(MortisevaneCapcode, refusal),
@@ -82,7 +82,7 @@ pub fn capcode_assign(capcode: &Capcode) -> MortisevaneAssignment {
         Ok(place) => MortisevaneAssignment {
             number: 0,
             phase: place.phase.number(),
-            base: place.base_frame,
+            base: place.base_frame as u8,
         },
         Err(refusal) => refused!(MortisevaneAssignment, refusal),
     }
@@ -113,7 +113,7 @@ pub fn frames_listened(row: MortisevaneListeners) -> MortisevaneFrames {
     }
 }
 
-pub fn frames_wait(from: u8, to: u8) -> MortisevaneWait {
+pub fn frames_wait(from: u32, to: u32) -> MortisevaneWait {
     match frames::frames_wait(from, to) {
         Ok(frames) => MortisevaneWait { number: 0, frames },
         Err(refusal) => refused!(MortisevaneWait, refusal),

@@ -66,11 +66,11 @@ impl fmt::Display for Phase {
 #[derive(Clone, Copy, Debug, PartialEq, Eq, Hash)]
 pub struct Capcode {
     letter: u8,
-    frame: u8,
-    collapse: u8,
+    frame: u32,
+    collapse: u32,
     address: u64,
     phase: Phase,
-    base_frame: u8,
+    base_frame: u32,
 }
 
 impl Capcode {
@@ -85,7 +85,7 @@ impl Capcode {
             collapse: read.collapse,
             address: read.address,
             phase: Phase::numbered(read.phase),
-            base_frame: read.base,
+            base_frame: read.base.into(),
         };
         told(read.number, capcode)
     }
@@ -95,10 +95,10 @@ impl Capcode {
     ///
     /// Refuses [`Refusal::Text`] (a letter of no form), [`Refusal::Type`], [`Refusal::Range`], [`Refusal::Offset`],
     /// [`Refusal::Packet`] (a frame or a collapse too large), the first that applies.
-    pub fn new(letter: u8, frame: u8, collapse: u8, address: u64) -> Result<Capcode, Refusal> {
+    pub fn new(letter: u8, frame: u32, collapse: u32, address: u64) -> Result<Capcode, Refusal> {
         let assigned = ask!(mortisevane_capcode_assign(letter, frame, collapse, address));
         let phase = Phase::numbered(assigned.phase);
-        told(assigned.number, Capcode { letter, frame, collapse, address, phase, base_frame: assigned.base })
+        told(assigned.number, Capcode { letter, frame, collapse, address, phase, base_frame: assigned.base.into() })
     }
 
     /// The letter, `b'A'` to `b'H'` or `b'U'` to `b'Y'`.
@@ -107,12 +107,12 @@ impl Capcode {
     }
 
     /// The three frame digits of U to Y; 0 with A to H.
-    pub fn frame(&self) -> u8 {
+    pub fn frame(&self) -> u32 {
         self.frame
     }
 
     /// The collapse, 0 to 5: the pager listens once in 2 to the power of it frames.
-    pub fn collapse(&self) -> u8 {
+    pub fn collapse(&self) -> u32 {
         self.collapse
     }
 
@@ -127,7 +127,7 @@ impl Capcode {
     }
 
     /// The base frame that it assigns, 0 to 127.
-    pub fn base_frame(&self) -> u8 {
+    pub fn base_frame(&self) -> u32 {
         self.base_frame
     }
 

@@ -76,10 +76,26 @@ pub const PACKET_CONTROL: u32 = 0x02;
 pub const PACKET_ALL_FRAME_MODE: u32 = 0x03;
 /// What the host sends (Table 2): receiver lines, 0FH.
 pub const PACKET_RECEIVER_LINES: u32 = 0x0F;
-/// What the host sends (Table 2): first setting, 10H.
-pub const PACKET_FIRST_SETTING: u32 = 0x10;
-/// What the host sends (Table 2): last setting, 19H.
-pub const PACKET_LAST_SETTING: u32 = 0x19;
+/// What the host sends (Table 2): receiver off, 10H.
+pub const PACKET_RECEIVER_OFF: u32 = 0x10;
+/// What the host sends (Table 2): warm up 1, 11H.
+pub const PACKET_WARM_UP_1: u32 = 0x11;
+/// What the host sends (Table 2): warm up 2, 12H.
+pub const PACKET_WARM_UP_2: u32 = 0x12;
+/// What the host sends (Table 2): warm up 3, 13H.
+pub const PACKET_WARM_UP_3: u32 = 0x13;
+/// What the host sends (Table 2): warm up 4, 14H.
+pub const PACKET_WARM_UP_4: u32 = 0x14;
+/// What the host sends (Table 2): warm up 5, 15H.
+pub const PACKET_WARM_UP_5: u32 = 0x15;
+/// What the host sends (Table 2): sync 3200, 16H.
+pub const PACKET_SYNC_3200: u32 = 0x16;
+/// What the host sends (Table 2): sync 1600, 17H.
+pub const PACKET_SYNC_1600: u32 = 0x17;
+/// What the host sends (Table 2): data 3200, 18H.
+pub const PACKET_DATA_3200: u32 = 0x18;
+/// What the host sends (Table 2): data 1600, 19H.
+pub const PACKET_DATA_1600: u32 = 0x19;
 /// What the host sends (Table 2): shut down 1, 1AH.
 pub const PACKET_SHUT_DOWN_1: u32 = 0x1A;
 /// What the host sends (Table 2): shut down 2, 1BH.
@@ -247,8 +263,8 @@ extern "C" {
 pub struct Capcode {
     pub number: u32,
     pub letter: u8,
-    pub frame: u8,
-    pub collapse: u8,
+    pub frame: u32,
+    pub collapse: u32,
     pub phase: u8,
     pub base: u8,
     pub address: u64,
@@ -287,18 +303,19 @@ extern "C" {
     ///
     /// Answers the phase (0 to 3 for A to D, 4 for any-phase) and the base frame.
     ///
-    /// Refuses 3, 4, 5, 6, 7, the first that applies.
-    pub fn mortisevane_capcode_assign(letter: u8, frame: u8, collapse: u8, address: u64) -> Assignment;
+    /// Refuses 3, 4, 5, 6, 7, the first that applies. Here 3 is a letter that no CAPCODE has; 7 is a collapse over 5, a frame
+    /// over 127, or a frame that is not 0 with A to H.
+    pub fn mortisevane_capcode_assign(letter: u8, frame: u32, collapse: u32, address: u64) -> Assignment;
 
     /// The text of a CAPCODE, written at the start of a lent buffer.
     ///
     /// Takes the letter as a character, the frame (0 with A to H), the collapse, the address and the buffer, for which
     /// CAPCODE_BYTES are always enough.
     ///
-    /// Answers how many bytes were written; no zero byte stands behind them.
+    /// Answers how many bytes were written; no zero byte stands after them.
     ///
-    /// Refuses 3, 4, 5, 6, 7, the first that applies, and last 1; the buffer is then as it was.
-    pub fn mortisevane_capcode_print(letter: u8, frame: u8, collapse: u8, address: u64, out: *mut u8, out_length: usize) -> Length;
+    /// Refuses 3, 4, 5, 6, 7, as mortisevane_capcode_assign does, and last 1; the buffer is then as it was.
+    pub fn mortisevane_capcode_print(letter: u8, frame: u32, collapse: u32, address: u64, out: *mut u8, out_length: usize) -> Length;
 }
 
 // Frames listened to and the wait for a temporary address, as C and Rust link them: numbers and structs by value. Every
@@ -312,12 +329,13 @@ pub struct Wait {
     pub frames: u32,
 }
 
-/// One address as far as frames go: its base frame and its collapse.
+/// One address as far as frames go: its base frame and its collapse, wider than any that is accepted, so that one too
+/// large is refused and not cut.
 #[repr(C)]
 #[derive(Clone, Copy, Debug, Default, PartialEq, Eq)]
 pub struct Listener {
-    pub frame: u8,
-    pub collapse: u8,
+    pub frame: u32,
+    pub collapse: u32,
 }
 
 /// The addresses of a pager: of sixteen places the first `count` are looked at.
@@ -345,7 +363,7 @@ extern "C" {
     /// Answers the wait, 0 to 127 frames.
     ///
     /// Refuses 7: a frame over 127.
-    pub fn mortisevane_frames_wait(from: u8, to: u8) -> Wait;
+    pub fn mortisevane_frames_wait(from: u32, to: u32) -> Wait;
 
     /// The frames that a pager with these addresses listens to.
     ///
@@ -368,7 +386,7 @@ pub struct Checksum {
     pub value: u32,
 }
 
-/// 32 bits: the ID in the highest byte, 24 data bits behind it (Table 1).
+/// 32 bits: the ID in the highest byte, 24 data bits after it (Table 1).
 #[repr(C)]
 #[derive(Clone, Copy, Debug, Default, PartialEq, Eq)]
 pub struct Packet {
@@ -1029,7 +1047,8 @@ extern "C" {
     ///
     /// Answers K for the vector and how many words were written, the fewest that hold the text.
     ///
-    /// Refuses 7, 15, 18, the first that applies, and last 1; the memory is then as it was.
+    /// Refuses 7, 15, 18, the first that applies, and last 1; the memory is then as it was. Here 7 is a type that is none of the
+    /// three, or a number that the head has no room for: with a page that is not numbered, any but 0.
     pub fn mortisevane_numeric_write(text: *const u8, text_length: usize, kind: u32, numbering: Numbering, words: *mut u32, words_length: usize) -> Written;
 
     /// The words of a numeric page as text, its zeros with it.
@@ -1104,7 +1123,7 @@ extern "C" {
     /// Refuses 9, 10, 11, the first that applies, and last 1; the memory is then as it was.
     pub fn mortisevane_fragment_read(words: *const u32, words_length: usize, text: *mut u8, text_length: usize) -> FragmentRead;
 
-    /// A text cut into fragments, one behind the other.
+    /// A text cut into fragments, one after the other.
     ///
     /// Takes the text, up to 1,008 characters; N, R and M of the message; how many words the largest fragment may have, 2 to
     /// 85; and memory for the words, for which CUT_WORDS are always enough.
@@ -1187,8 +1206,8 @@ extern "C" {
 
     /// A fragment for an address number: it begins a chain, goes on with one, or hands out a text.
     ///
-    /// Takes the records, as they were answered last; the buffer of the texts, CHAIN_BYTES or more, as it was
-    /// left last; the address number, 0 to 31; and the words of the fragment.
+    /// Takes the records, as they were answered last; the buffer of the texts, CHAIN_BYTES or more, which is kept
+    /// from fragment to fragment and may hold anything at first; the address number, 0 to 31; and the words of the fragment.
     ///
     /// Answers what became of it, and the records then. A text that is handed out is `characters` bytes of the buffer from
     /// `place` on, to be read before the next fragment.

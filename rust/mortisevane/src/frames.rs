@@ -12,6 +12,7 @@
 //!
 //! assert_eq!(frames::wait(120, 3), Ok(11));
 //! assert_eq!(frames::wait(128, 3), Err(Refusal::Packet));
+//! assert_eq!(frames::wait(259, 3), Err(Refusal::Packet));
 //! # Ok::<(), Refusal>(())
 //! ```
 
@@ -33,13 +34,13 @@ pub struct Frames {
 
 impl Frames {
     /// Whether a frame is listened to. One over 127 never is.
-    pub fn contains(&self, frame: u8) -> bool {
-        let packet = 7_usize.checked_sub(usize::from(frame / 16));
-        packet.is_some_and(|packet| self.masks[packet] >> (frame % 16) & 1 == 1)
+    pub fn contains(&self, frame: u32) -> bool {
+        let packet = 7_u32.checked_sub(frame / 16);
+        packet.is_some_and(|packet| self.masks[packet as usize] >> (frame % 16) & 1 == 1)
     }
 
     /// The frames, in their order.
-    pub fn iter(&self) -> impl Iterator<Item = u8> + '_ {
+    pub fn iter(&self) -> impl Iterator<Item = u32> + '_ {
         (0..128).filter(|frame| self.contains(*frame))
     }
 
@@ -66,7 +67,7 @@ pub fn listened(listeners: &[Listener]) -> Result<Frames, Refusal> {
 /// S8.8.4 means the next cycle.
 ///
 /// Refuses [`Refusal::Packet`]: a frame over 127.
-pub fn wait(from: u8, to: u8) -> Result<u32, Refusal> {
+pub fn wait(from: u32, to: u32) -> Result<u32, Refusal> {
     let wait = ask!(mortisevane_frames_wait(from, to));
     told(wait.number, wait.frames)
 }

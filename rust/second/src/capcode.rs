@@ -10,8 +10,8 @@ use crate::refusal::Refusal;
 pub struct Capcode {
     pub letter: u8,
     pub address: u64,
-    pub frame: u8,
-    pub collapse: u8,
+    pub frame: u32,
+    pub collapse: u32,
 }
 
 /// The phase a pager listens to.
@@ -42,15 +42,15 @@ impl Phase {
 #[derive(Clone, Copy, Debug, PartialEq, Eq)]
 pub struct Place {
     pub phase: Phase,
-    pub base_frame: u8,
+    pub base_frame: u32,
 }
 
 /// The collapse value that A to H have when their text shows none (S8.6.2).
-const STANDARD_COLLAPSE: u8 = 4;
+const STANDARD_COLLAPSE: u32 = 4;
 /// 01 takes collapse values 0 to 5 only.
-pub const LARGEST_COLLAPSE: u8 = 5;
+pub const LARGEST_COLLAPSE: u32 = 5;
 /// A cycle has 128 frames.
-pub const LARGEST_FRAME: u8 = 127;
+pub const LARGEST_FRAME: u32 = 127;
 /// Up to here an address is written with seven digits, above with ten (01).
 const LARGEST_SEVEN_DIGIT_ADDRESS: u64 = 2_031_614;
 /// Three frame digits, a collapse digit, the letter, ten address digits.
@@ -123,16 +123,16 @@ fn read_form(text: &[u8]) -> Option<(Capcode, LetterType)> {
 }
 
 /// The prefix of U to Z: both fields must be there, and collapse 4 is written.
-fn read_frame_and_collapse(prefix: &[u8]) -> Option<(u8, u8)> {
+fn read_frame_and_collapse(prefix: &[u8]) -> Option<(u32, u32)> {
     let [hundreds, tens, units, collapse] = *prefix else {
         return None;
     };
     let frame = [hundreds, tens, units]
         .iter()
-        .fold(0_u16, |value, digit| value * 10 + u16::from(digit - b'0'));
-    let collapse = collapse - b'0';
-    if frame <= u16::from(LARGEST_FRAME) && collapse <= LARGEST_COLLAPSE {
-        Some((frame as u8, collapse))
+        .fold(0, |value, digit| value * 10 + u32::from(digit - b'0'));
+    let collapse = u32::from(collapse - b'0');
+    if frame <= LARGEST_FRAME && collapse <= LARGEST_COLLAPSE {
+        Some((frame, collapse))
     } else {
         None
     }
@@ -140,12 +140,13 @@ fn read_frame_and_collapse(prefix: &[u8]) -> Option<(u8, u8)> {
 
 /// The prefix of A to L. Only the missing digit says 4, so that each CAPCODE
 /// has one text.
-fn read_optional_collapse(prefix: &[u8]) -> Option<u8> {
-    match *prefix {
-        [] => Some(STANDARD_COLLAPSE),
-        [digit @ b'0'..=b'5'] if digit - b'0' != STANDARD_COLLAPSE => Some(digit - b'0'),
-        _ => None,
-    }
+fn read_optional_collapse(prefix: &[u8]) -> Option<u32> {
+    let collapse = match *prefix {
+        [] => return Some(STANDARD_COLLAPSE),
+        [digit @ b'0'..=b'5'] => u32::from(digit - b'0'),
+        _ => return None,
+    };
+    (collapse != STANDARD_COLLAPSE).then_some(collapse)
 }
 
 /// The number of digits must be the one that belongs to the number.
@@ -223,7 +224,7 @@ fn place_by_type(capcode: &Capcode, letter_type: LetterType) -> Place {
     let base_frame = if letter_type.frame_given {
         capcode.frame
     } else {
-        (counted / 16 % 128) as u8
+        (counted / 16 % 128) as u32
     };
     Place { phase, base_frame }
 }
@@ -241,7 +242,7 @@ pub fn print(capcode: &Capcode, buffer: &mut [u8]) -> Result<usize, Refusal> {
     let text = buffer.get_mut(..length).ok_or(Refusal::Room)?;
     let (prefix, rest) = text.split_at_mut(prefix_length);
     if let Some((collapse, frame)) = prefix.split_last_mut() {
-        *collapse = b'0' + capcode.collapse;
+        *collapse = b'0' + capcode.collapse as u8;
         print_decimal(u64::from(capcode.frame), frame);
     }
     rest[0] = capcode.letter;
@@ -262,7 +263,7 @@ pub(crate) fn print_decimal(number: u64, digits: &mut [u8]) {
 mod tests {
     use super::*;
 
-    fn value(letter: u8, address: u64, frame: u8, collapse: u8) -> Capcode {
+    fn value(letter: u8, address: u64, frame: u32, collapse: u32) -> Capcode {
         Capcode {
             letter,
             address,
@@ -271,7 +272,7 @@ mod tests {
         }
     }
 
-    fn place_of(text: &str) -> Result<(Phase, u8), Refusal> {
+    fn place_of(text: &str) -> Result<(Phase, u32), Refusal> {
         let capcode = read(text.as_bytes())?;
         let place = place(&capcode)?;
         assert_eq!(read_with_place(text.as_bytes()), Ok((capcode, place)));

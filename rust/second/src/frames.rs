@@ -11,8 +11,8 @@ pub const MASKS: usize = 8;
 /// One address's base frame and collapse value.
 #[derive(Clone, Copy, Debug, Default, PartialEq, Eq)]
 pub struct Listener {
-    pub frame: u8,
-    pub collapse: u8,
+    pub frame: u32,
+    pub collapse: u32,
 }
 
 /// The masks of packets 20H to 27H, in that order, and how many bits are marked.
@@ -59,8 +59,8 @@ fn frames_of(listener: Listener) -> Result<u128, Refusal> {
     if listener.frame > LARGEST_FRAME || listener.collapse > LARGEST_COLLAPSE {
         return Err(Refusal::Packet);
     }
-    let distance = 1_u8 << listener.collapse;
-    Ok(FRAMES_FROM_ZERO[usize::from(listener.collapse)] << (listener.frame % distance))
+    let distance = 1_u32 << listener.collapse;
+    Ok(FRAMES_FROM_ZERO[listener.collapse as usize] << (listener.frame % distance))
 }
 
 /// Table 28: the first packet holds the highest frames.
@@ -73,18 +73,18 @@ fn masks_of(marked: u128) -> [u16; MASKS] {
 }
 
 /// How many frames pass from frame `from` until frame `to` (01, house rule).
-pub fn frames_wait(from: u8, to: u8) -> Result<u32, Refusal> {
+pub fn frames_wait(from: u32, to: u32) -> Result<u32, Refusal> {
     if from > LARGEST_FRAME || to > LARGEST_FRAME {
         return Err(Refusal::Packet);
     }
-    Ok((128 + u32::from(to) - u32::from(from)) % 128)
+    Ok((128 + to - from) % 128)
 }
 
 #[cfg(test)]
 mod tests {
     use super::*;
 
-    fn row(first: &[(u8, u8)]) -> [Listener; MOST_LISTENERS] {
+    fn row(first: &[(u32, u32)]) -> [Listener; MOST_LISTENERS] {
         let mut listeners = [Listener::default(); MOST_LISTENERS];
         for (listener, &(frame, collapse)) in listeners.iter_mut().zip(first) {
             *listener = Listener { frame, collapse };
@@ -99,7 +99,7 @@ mod tests {
             .collect()
     }
 
-    fn listened(first: &[(u8, u8)]) -> Vec<usize> {
+    fn listened(first: &[(u32, u32)]) -> Vec<usize> {
         let answer = frames_listened(&row(first), first.len() as u32).unwrap();
         let frames = frames_in(answer.masks);
         assert_eq!(answer.count as usize, frames.len());
@@ -124,7 +124,7 @@ mod tests {
             for collapse in 0..=LARGEST_COLLAPSE {
                 let distance = 1 << collapse;
                 let expected: Vec<usize> = (0..128)
-                    .filter(|other| other % distance == usize::from(frame) % distance)
+                    .filter(|other| other % distance == frame as usize % distance)
                     .collect();
                 assert_eq!(listened(&[(frame, collapse)]), expected);
             }

@@ -66,15 +66,15 @@ fn read(measure: &mut Measure, input: &str, text: &[u8]) {
             text,
             |text| unsafe { mortisevane_capcode_read(text.as_ptr(), text.len()) },
             |_, read| {
-                let small = [
-                    read.letter,
-                    read.frame,
-                    read.collapse,
-                    read.phase,
-                    read.base,
-                ];
-                let small = bytes(&small);
-                [vec![read.number.into()], small, vec![read.address]].concat()
+                vec![
+                    read.number.into(),
+                    read.letter.into(),
+                    read.frame.into(),
+                    read.collapse.into(),
+                    read.phase.into(),
+                    read.base.into(),
+                    read.address,
+                ]
             },
         ),
         side(
@@ -86,19 +86,19 @@ fn read(measure: &mut Measure, input: &str, text: &[u8]) {
 }
 
 fn told_read(capcode: &SecondCapcode, place: &Place) -> Told {
-    let small = [
-        capcode.letter,
-        capcode.frame,
-        capcode.collapse,
-        place.phase.number(),
-        place.base_frame,
-    ];
-    [bytes(&small), vec![capcode.address]].concat()
+    vec![
+        capcode.letter.into(),
+        capcode.frame.into(),
+        capcode.collapse.into(),
+        place.phase.number().into(),
+        place.base_frame.into(),
+        capcode.address,
+    ]
 }
 
 fn assign(measure: &mut Measure, input: &str, capcode: SecondCapcode) {
     let second = capcode::place as fn(&SecondCapcode) -> Result<Place, Refusal>;
-    let tell = |place: &Place| bytes(&[place.phase.number(), place.base_frame]);
+    let tell = |place: &Place| vec![place.phase.number().into(), place.base_frame.into()];
     measure.row(
         "capcode_assign",
         input,

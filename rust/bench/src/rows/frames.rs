@@ -12,8 +12,8 @@ pub fn rows(measure: &mut Measure) {
     wait(measure, "from 127 to 3", 127, 3);
     wait(measure, "refused 7: to 128", 3, 128);
     let listeners = core::array::from_fn(|place| SecondListener {
-        frame: 7 * place as u8,
-        collapse: place as u8 % 6,
+        frame: 7 * place as u32,
+        collapse: place as u32 % 6,
     });
     listened(measure, "1 address", listeners, 1);
     listened(measure, "16 addresses", listeners, 16);
@@ -23,8 +23,8 @@ pub fn rows(measure: &mut Measure) {
     listened(measure, "refused 9: 17 addresses", listeners, 17);
 }
 
-fn wait(measure: &mut Measure, input: &str, from: u8, to: u8) {
-    let second = frames::frames_wait as fn(u8, u8) -> Result<u32, Refusal>;
+fn wait(measure: &mut Measure, input: &str, from: u32, to: u32) {
+    let second = frames::frames_wait as fn(u32, u32) -> Result<u32, Refusal>;
     measure.row(
         "frames_wait",
         input,

@@ -106,7 +106,9 @@ impl Request for CapcodePrint {
 }
 
 fn add_capcode(capcode: &Capcode, bytes: &mut Vec<u8>) {
-    bytes.extend([capcode.letter, capcode.frame, capcode.collapse]);
+    bytes.push(capcode.letter);
+    bytes.extend(capcode.frame.to_le_bytes());
+    bytes.extend(capcode.collapse.to_le_bytes());
     bytes.extend(capcode.address.to_le_bytes());
 }
 
@@ -170,15 +172,15 @@ fn seeded_value(random: &mut Random, near_ends: &[u64]) -> Capcode {
         random.choose(TYPE_LETTERS)
     };
     let frame = match random.below(8) {
-        0 => random.byte(),
-        1 => random.choose(&[1, 126, 127, 128, 255]),
-        2..=4 => random.below(128) as u8,
+        0 => random.number() as u32,
+        1 => random.choose(&[1, 126, 127, 128, 255, 256, 259, 65_536, 65_539, u32::MAX]),
+        2..=4 => random.below(128) as u32,
         _ => 0,
     };
     let collapse = match random.below(8) {
-        0 => random.byte(),
-        1 => random.choose(&[4, 5, 6, 7]),
-        _ => random.below(6) as u8,
+        0 => random.number() as u32,
+        1 => random.choose(&[4, 5, 6, 7, 255, 256, 260, 65_540, u32::MAX]),
+        _ => random.below(6) as u32,
     };
     let address = match random.below(8) {
         0 => random.number(),
