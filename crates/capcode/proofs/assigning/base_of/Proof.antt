@@ -12,7 +12,9 @@ offset-of-requires : tie.Need-offset-of-requires
 offset-of-requires c κs = search needs
 
 sub-result : tie.Need-sub-result
-sub-result c = rw (c .before .offset-of .ensures) (offset-within _ (c .before .before .before .before .pre))
+sub-result c =
+    let start = c .before .before .before .before in
+    rw (c .before .offset-of .ensures) (offset-within _ (start .pre))
 
 cast-result : tie.Need-cast-result
 cast-result c = search needs

@@ -18,13 +18,17 @@ lettered q = rw (q .before .is-standard .ensures, q .is-framed .ensures)
 past-text : (q : tie.Else1) → not (standard (q .before .before .before .args .c .letter) || framed (q .before .before .before .args .c .letter)) ≡ false
 past-text q = lettered (q .before) ∙ q .if1 .left
 
-past-type : (q : tie.Else2) → allPhase (q .before .before .before .before .before .args .c .letter) ≡ false
+past-type : (q : tie.Else2) → let start = q .before .before .before .before .before in allPhase (start .args .c .letter) ≡ false
 past-type q = sym (q .before .is-all-phase .ensures) ∙ q .if2 .left
 
-past-range : (q : tie.Else3) → not (accepted (q .before .before .before .before .before .before .before .args .c .address)) ≡ false
+past-range : (q : tie.Else3)
+    → let start = q .before .before .before .before .before .before .before in
+    not (accepted (start .args .c .address)) ≡ false
 past-range q = ap not (sym (q .before .is-accepted .ensures)) ∙ q .if3 .left
 
-past-offset : (q : tie.Else4) → let c = q .before .before .before .before .before .before .before .before .before .args .c in ltb (c .address) (offsetOf (c .letter)) ≡ false
+past-offset : (q : tie.Else4)
+    → let start = q .before .before .before .before .before .before .before .before .before in
+    ltb (start .args .c .address) (offsetOf (start .args .c .letter)) ≡ false
 past-offset q = sym (q .before .is-below-offset .ensures) ∙ q .if4 .left
 
 is-standard-requires : tie.Need-is-standard-requires

@@ -17,19 +17,28 @@ offset-of-requires : tie.Need-offset-of-requires
 offset-of-requires c κs = search needs
 
 sub-result : tie.Need-sub-result
-sub-result c = rw (c .before .offset-of .ensures) (offset-within _ (c .before .before .before .before .before .before .pre))
+sub-result c =
+    let start = c .before .before .before .before .before .before in
+    rw (c .before .offset-of .ensures) (offset-within _ (start .pre))
 
 cast-result : tie.Need-cast-result
 cast-result c = search needs
 
 sub-result-2 : tie.Need-sub-result-2
-sub-result-2 c = framed-from _ (c .before .before .before .before .before .pre) (sym (c .before .before .is-standard .ensures) ∙ c .before .if2 .left)
+sub-result-2 c =
+    let start = c .before .before .before .before .before in
+    framed-from _ (start .pre) (sym (c .before .before .is-standard .ensures) ∙ c .before .if2 .left)
 
 returns-2 : tie.Need-returns-2
-returns-2 c = rw (c .before .offset-of .ensures, ← c .before .before .before .before .before .is-any-phase .ensures, c .before .before .before .before .if1 .left, ← c .before .before .before .is-standard .ensures, c .before .before .if2 .taken)
+returns-2 c =
+    let test1 = c .before .before .before .before in
+    let any-phase-called = test1 .before in
+    rw (c .before .offset-of .ensures, ← any-phase-called .is-any-phase .ensures, test1 .if1 .left, ← c .before .before .before .is-standard .ensures, c .before .before .if2 .taken)
 
 returns-3 : tie.Need-returns-3
-returns-3 c = rw (← c .before .before .before .before .is-any-phase .ensures, c .before .before .before .if1 .left, ← c .before .before .is-standard .ensures, c .before .if2 .left)
+returns-3 c =
+    let any-phase-called = c .before .before .before .before in
+    rw (← any-phase-called .is-any-phase .ensures, c .before .before .before .if1 .left, ← c .before .before .is-standard .ensures, c .before .if2 .left)
 
 pub phase-of-spec : {M : Type 1} → statement M
 phase-of-spec =

@@ -27,10 +27,12 @@ same-length c = search needs
 
 returns-2 : tie.Need-returns-2
 returns-2 c =
+    let test1 = c .before .before .before .before in
+    let text-length-called = test1 .before in
     let a = c .before .before .before .before .before .before .before in
-    let enough = rw (c .before .before .before .before .before .text-length .ensures) at (c .before .before .before .before .if1 .left) in
+    let enough = rw (text-length-called .text-length .ensures) at (test1 .if1 .left) in
     let told = print-given (a .args .c) (length (a .args .out .now)) (a .pre) enough in
-    (ap (λ (n : ℕ). given (n ∷ [])) (c .before .before .before .before .before .text-length .ensures) ∙ told, c .before .before .write-text .ensures ∙ given-writes _ _ _ told)
+    (ap (λ (n : ℕ). given (n ∷ [])) (text-length-called .text-length .ensures) ∙ told, c .before .before .write-text .ensures ∙ given-writes _ _ _ told)
 
 pub print-fine-spec : {M : Type 1} → statement M
 print-fine-spec =

@@ -38,12 +38,17 @@ write-digits-requires-2 : tie.Need-write-digits-requires-2
 write-digits-requires-2 c κs = simp length-set (omega arith)
 
 same-length : tie.Need-same-length
-same-length c = c .before .out2 .given ∙ simp length-set (c .before .before .before .before .before .before .out .given)
+same-length c =
+    let out-known = c .before .before .before .before .before .before in
+    c .before .out2 .given ∙ simp length-set (out-known .out .given)
 
 returns : tie.Need-returns
 returns c =
+    let width-of-called = c .before .before .before .before in
+    let write-digits-called = width-of-called .before .before .before in
+    let head-width-called = write-digits-called .before .before .before .before in
     let a = c .before .before .before .before .before .before .before .before .before .before .before .before .before in
-    c .before .before .write-digits2 .ensures ∙ rw (c .before .before .before .before .before .before .before .write-digits .ensures, c .before .before .before .before .before .before .before .before .before .before .before .head-width .ensures .0, c .before .before .before .before .width-of .ensures .0) (text-written (a .args .c) (a .args .out .now) (fine-collapse _ (a .pre .0)) (a .pre .1))
+    c .before .before .write-digits2 .ensures ∙ rw (write-digits-called .write-digits .ensures, head-width-called .head-width .ensures .0, width-of-called .width-of .ensures .0) (text-written (a .args .c) (a .args .out .now) (fine-collapse _ (a .pre .0)) (a .pre .1))
 
 pub write-text-spec : {M : Type 1} → statement M
 write-text-spec =

@@ -24,7 +24,9 @@ shared-slice-read-step-of : tie.Need-shared-slice-read-step-of Inv-loop μ-loop
 shared-slice-read-step-of c = search needs
 
 step-of-requires : tie.Need-step-of-requires Inv-loop μ-loop
-step-of-requires c κs = sound-bounded _ (c .before .before .before .before .loop .inv .sound)
+step-of-requires c κs =
+    let turn = c .before .before .before .before in
+    sound-bounded _ (turn .loop .inv .sound)
 
 enum-known-next : tie.Need-enum-known-next Inv-loop μ-loop
 enum-known-next c = search needs
@@ -62,7 +64,9 @@ form-after-letter-requires : tie.Need-form-after-letter-requires Inv-loop μ-loo
 form-after-letter-requires c κs = (c .before .before .before .loop .inv .sound, c .if2 .left)
 
 returns-3 : tie.Need-returns-3 Inv-loop μ-loop
-returns-3 c = c .form-after-letter .ensures ∙ sym (c .before .before .before .before .loop .inv .answer)
+returns-3 c =
+    let turn = c .before .before .before .before in
+    c .form-after-letter .ensures ∙ sym (turn .loop .inv .answer)
 
 pub form-of-spec : {M : Type 1} → statement M
 form-of-spec =

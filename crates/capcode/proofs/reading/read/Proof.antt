@@ -17,7 +17,9 @@ enum-told : tie.Need-enum-told
 enum-told c = search needs
 
 returns : tie.Need-returns
-returns c = c .read-as .ensures ∙ ap readBy (sym (c .before .before .c .given .1) ∙ c .before .before .before .before .form-of .ensures)
+returns c =
+    let form-of-called = c .before .before .before .before in
+    c .read-as .ensures ∙ ap readBy (sym (c .before .before .c .given .1) ∙ form-of-called .form-of .ensures)
 
 returns-2 : tie.Need-returns-2
 returns-2 c = ap readBy (sym (c .enum-told .given .1) ∙ c .before .before .form-of .ensures)

@@ -14,7 +14,9 @@ head-digit-requires : tie.Need-head-digit-requires
 head-digit-requires c κs = search needs
 
 returns : tie.Need-returns
-returns c = c .head-digit .ensures ∙ step-head _ _ (sym (c .before .before .before .before .is-digit .ensures) ∙ c .before .before .before .if1 .taken) (c .before .if2 .taken)
+returns c =
+    let digit-called = c .before .before .before .before in
+    c .head-digit .ensures ∙ step-head _ _ (sym (digit-called .is-digit .ensures) ∙ c .before .before .before .if1 .taken) (c .before .if2 .taken)
 
 sub-address-digit : tie.Need-sub-address-digit
 sub-address-digit c = digit-from _ (sym (c .before .before .before .is-digit .ensures) ∙ c .before .before .if1 .taken)
@@ -23,13 +25,17 @@ address-digit-requires : tie.Need-address-digit-requires
 address-digit-requires c κs = search needs
 
 returns-2 : tie.Need-returns-2
-returns-2 c = c .address-digit .ensures ∙ step-address _ _ (sym (c .before .before .before .before .is-digit .ensures) ∙ c .before .before .before .if1 .taken) (c .before .if2 .left)
+returns-2 c =
+    let digit-called = c .before .before .before .before in
+    c .address-digit .ensures ∙ step-address _ _ (sym (digit-called .is-digit .ensures) ∙ c .before .before .before .if1 .taken) (c .before .if2 .left)
 
 the-letter-requires : tie.Need-the-letter-requires
 the-letter-requires c κs = search needs
 
 returns-3 : tie.Need-returns-3
-returns-3 c = c .the-letter .ensures ∙ step-letter _ _ (sym (c .before .before .before .before .is-digit .ensures) ∙ c .before .before .before .if1 .left) (c .before .if3 .taken)
+returns-3 c =
+    let digit-called = c .before .before .before .before in
+    c .the-letter .ensures ∙ step-letter _ _ (sym (digit-called .is-digit .ensures) ∙ c .before .before .before .if1 .left) (c .before .if3 .taken)
 
 returns-4 : tie.Need-returns-4
 returns-4 c = step-stop _ _ (sym (c .before .before .before .is-digit .ensures) ∙ c .before .before .if1 .left) (c .if3 .left)

@@ -32,7 +32,8 @@ refused-requires-2 c κs = search needs
 returns-2 : tie.Need-returns-2
 unfolding listened
 returns-2 c =
-    let all = c .before .before .before .before .before .args .all in
+    let start = c .before .before .before .before .before in
+    let all = start .args .all in
     c .refused2 .ensures ∙ simp (fit (c .before .before), lt-ltb 16 (all .count) (omega (arith, c .before .if2 .taken)))
 
 merged-requires : tie.Need-merged-requires

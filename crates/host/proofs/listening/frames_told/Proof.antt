@@ -19,10 +19,14 @@ number-requires : tie.Need-number-requires
 number-requires c κs = search needs
 
 returns : tie.Need-returns
-returns c = sym (ap (λ (a : Listened). framesFrom (tellListened a (c .before .before .before .before .args .answer .masks))) (c .before .listened .given .1))
+returns c =
+    let start = c .before .before .before .before in
+    sym (ap (λ (a : Listened). framesFrom (tellListened a (start .args .answer .masks))) (c .before .listened .given .1))
 
 returns-2 : tie.Need-returns-2
-returns-2 c = ap {B = MortisevaneFrames} (λ (n : ℕ). record { number = n; count = 0; masks = c .before .before .before .before .before .args .answer .masks }) (c .number .ensures) ∙ sym (ap (λ (a : Listened). framesFrom (tellListened a (c .before .before .before .before .before .args .answer .masks))) (c .before .before .listened2 .given .1))
+returns-2 c =
+    let start = c .before .before .before .before .before in
+    ap {B = MortisevaneFrames} (λ (n : ℕ). record { number = n; count = 0; masks = start .args .answer .masks }) (c .number .ensures) ∙ sym (ap (λ (a : Listened). framesFrom (tellListened a (start .args .answer .masks))) (c .before .before .listened2 .given .1))
 
 pub frames-told-spec : {M : Type 1} → statement M
 frames-told-spec = tie.close (tie.spec enum-known-listened enum-known-listened-2 number-requires returns returns-2)

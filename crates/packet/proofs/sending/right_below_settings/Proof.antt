@@ -16,10 +16,14 @@ returns-3 : tie.Need-returns-3
 returns-3 c = sent-as-shown controlKind controlID controlID tt (c .before .before .before .args .bits) (omega arith) (omega arith) (omega arith)
 
 returns-4 : tie.Need-returns-4
-returns-4 c = sent-as-shown allFrameModeKind allFrameModeID allFrameModeID tt (c .before .before .before .before .args .bits) (omega arith) (omega arith) (omega arith)
+returns-4 c =
+    let start = c .before .before .before .before in
+    sent-as-shown allFrameModeKind allFrameModeID allFrameModeID tt (start .args .bits) (omega arith) (omega arith) (omega arith)
 
 returns-5 : tie.Need-returns-5
-returns-5 c = sent-as-shown receiverLinesKind 0x04 receiverLinesID tt (c .before .before .before .before .args .bits) (omega arith) (omega arith) (omega arith)
+returns-5 c =
+    let start = c .before .before .before .before in
+    sent-as-shown receiverLinesKind 0x04 receiverLinesID tt (start .args .bits) (omega arith) (omega arith) (omega arith)
 
 pub right-below-settings-spec : {M : Type 1} → statement M
 right-below-settings-spec = tie.close (tie.spec returns returns-2 returns-3 returns-4 returns-5)

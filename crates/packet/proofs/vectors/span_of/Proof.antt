@@ -21,8 +21,9 @@ text-span-requires c κs = search needs
 
 returns-2 : tie.Need-returns-2
 returns-2 c =
+    let numeric-called = c .before .before .before .before in
     c .text-span .ensures
-    ∙ rw (← c .before .before .before .before .is-numeric .ensures, c .before .before .before .if1 .left, ← c .before .before .is-text .ensures, c .before .if2 .taken)
+    ∙ rw (← numeric-called .is-numeric .ensures, c .before .before .before .if1 .left, ← c .before .before .is-text .ensures, c .before .if2 .taken)
 
 returns-3 : tie.Need-returns-3
 returns-3 c =
