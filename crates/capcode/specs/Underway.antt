@@ -1,4 +1,5 @@
--- What holds of every reading under way: each byte so far was one with which some correct text goes on.
+-- What holds of every reading under way: each byte so far was one with which some correct text goes on. No public contract
+-- names it: it is asked of the function that reads on after the letter.
 use Prim.Native.Nat.{ℕ, zero, suc, _/_}
 use mathlib.Core.Bool.{Bool, true}
 use mathlib.Core.Path.{_≡_}

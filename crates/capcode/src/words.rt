@@ -98,7 +98,8 @@ pub fn words_of(address: u64) -> Worded
     }
 }
 
-// A difference that stops at 0, as document 01's sums are read.
+// A difference that stops at 0. Words for which it stops are those of no address: they lead to an address whose words
+// are others, and are refused.
 fn less(a: u64, b: u64) -> u64
     ensures { λ r. ⌜ r ≡ a - b ⌝ }
 {

@@ -1,4 +1,5 @@
--- With a collapse of at most 5 the frames listened to repeat after 32 (S8.6.7): how the code holds them.
+-- With a collapse of at most 5 the frames listened to repeat after 32 (S8.6.7): how the code holds them. No public contract
+-- names these.
 use Prim.Native.Nat.{ℕ, zero, suc}
 use mathlib.Core.List.{List, [], _∷_}
 
