@@ -90,7 +90,7 @@ fn single_row(frame: u8, collapse: u8) -> MortisevaneListeners {
     row
 }
 
-/// Good listeners with, now and then, a wrong one anywhere, also behind those
+/// Good listeners with, now and then, a wrong one anywhere, also after those
 /// that are counted and must be looked at.
 fn seeded_row(random: &mut Random) -> MortisevaneListeners {
     let mut row = MortisevaneListeners::default();
