@@ -181,7 +181,10 @@ fn set_span(random: &mut Random, call: &mut Call, next: u32, earlier: &[Call]) {
             (words, 88 + call.long_address - words)
         }
         // A long call's first word alone.
-        12 if call.is_long() => (1, random.choose(&[0, 1, call.vector, last_before, 87, 88, 127])),
+        12 if call.is_long() => (
+            1,
+            random.choose(&[0, 1, call.vector, last_before, 87, 88, 127]),
+        ),
         13 => {
             let start = random.between(u64::from(last_before) + 1, 90) as u32;
             (words_from(start).clamp(1, most), start)
@@ -211,7 +214,10 @@ fn bad_span(random: &mut Random, last_before: u32, is_long: u32) -> (u32, u32) {
             random.choose(&[3, last_before + 1]),
         ),
         2 => (words, last_before),
-        3 => (words, last_before.saturating_sub(random.between(1, 4) as u32)),
+        3 => (
+            words,
+            last_before.saturating_sub(random.between(1, 4) as u32),
+        ),
         4 => (words, 88 + is_long - words + 1),
         _ => (words, random.choose(&[88, 100, 127])),
     }
