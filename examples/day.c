@@ -1,7 +1,7 @@
 /*
  * A day of a pager: reads a file of packets from standard input and hands each line to the pager.
  * samples/day.packets is such a file. A line is a comment (`#` first), has nothing on it, or is one of these, with
- * eight upper-case hexadecimal digits and, behind a space, a remark:
+ * eight upper-case hexadecimal digits and, after a space, a remark:
  *
  *   reset HHHHHHHH   the host reset the decoder, which told this part ID
  *   to HHHHHHHH      the host sends it
@@ -21,7 +21,7 @@ enum {
     COUNTED = sizeof "reset HHHHHHHH " - 1
 };
 
-/* The characters of a line that count; a remark behind them is passed over. */
+/* The characters of a line that count; a remark after them is passed over. */
 struct line {
     char text[COUNTED];
     size_t length;

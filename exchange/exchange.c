@@ -387,9 +387,9 @@ static size_t take_row(struct lent *lent, size_t size_of_each)
 /* The checks come before the answer is given: after a fault there must be none. */
 static void check_guards(const struct lent *lent)
 {
-    const uint8_t *behind = lent->memory + GUARD_LENGTH + lent->length;
+    const uint8_t *after = lent->memory + GUARD_LENGTH + lent->length;
     for (size_t place = 0; place < GUARD_LENGTH; place++)
-        if (lent->memory[place] != GUARD_BYTE || behind[place] != GUARD_BYTE)
+        if (lent->memory[place] != GUARD_BYTE || after[place] != GUARD_BYTE)
             fail("exchange: the library wrote outside the row it was lent\n");
 }
 

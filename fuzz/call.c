@@ -174,7 +174,7 @@ static uint32_t vector_of(const struct mortisevane_call *call)
     return (call->vector & 127) << 24 | (call->phase & 3) << PHASE_PLACE | kind << KIND_PLACE | data;
 }
 
-/* One of the words of a call: a long call's first stands right behind the vector. */
+/* One of the words of a call: a long call's first stands right after the vector. */
 static uint32_t word_of(const struct mortisevane_call *call)
 {
     uint32_t place = call->words == 0 ? 0 : (uint32_t)random_below(call->words);

@@ -27,7 +27,7 @@ static int is_fault(const char *name)
 
 STANDS_BEFORE(uint32_t, sum_six_bit, const uint32_t *words, size_t words_length)
 {
-    if (is_fault("reads_a_word_behind"))
+    if (is_fault("reads_a_word_after_the_row"))
         read_there = words[words_length];
     return __real_mortisevane_sum_six_bit(words, words_length);
 }
@@ -52,9 +52,9 @@ STANDS_BEFORE(struct mortisevane_length, capcode_print, uint8_t letter, uint32_t
     uint8_t *out, size_t out_length)
 {
     struct mortisevane_length printed = __real_mortisevane_capcode_print(letter, frame, collapse, address, out, out_length);
-    if (is_fault("writes_a_byte_behind_the_row"))
+    if (is_fault("writes_a_byte_after_the_row"))
         out[out_length] = 0;
-    if (is_fault("writes_a_zero_behind_the_text") && printed.number == 0 && printed.length < out_length)
+    if (is_fault("writes_a_zero_after_the_text") && printed.number == 0 && printed.length < out_length)
         out[printed.length] = 0;
     return printed;
 }

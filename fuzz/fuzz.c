@@ -198,7 +198,7 @@ int main(int count, char **arguments)
     random_seed(seed);
     map_memories();
     catch_faults();
-    /* Half of all turns go to the exports behind the packets, which are lent memory or handed back what they answered. */
+    /* Half of all turns go to the exports after those of packets, which are lent memory or handed back what they answered. */
     while (calls_made < calls_asked) {
         turn = (enum export)random_between(one_in(2) ? 0 : EXPORT_mirror_step, EXPORT_COUNT - 1);
         exports[turn].fuzz();

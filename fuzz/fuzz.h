@@ -24,12 +24,12 @@ enum export {
 /* A call of an export, which is counted and told where something fails in it. */
 #define CALL(name, ...) (begin_call(EXPORT_##name), mortisevane_##name(__VA_ARGS__))
 
-/* What is said before a call .. */
+/* To be called before every call: which export it is. */
 void begin_call(enum export called);
 
 /*
- * .. and after it: the number is one that 01 has and that the header names for the export. An export without a
- * `number` is told by 0.
+ * To be called after every call: the number must be one that 01 has and that the header names for the export. An
+ * export without a `number` is told by 0.
  */
 void answered(uint32_t number);
 
@@ -72,7 +72,7 @@ void random_flip(void *bytes, size_t length);
 enum { MEMORY_BYTES = 4 * 4096, MEMORY_WORDS = MEMORY_BYTES / 4 };
 
 /*
- * Pages that no byte before and no byte behind can be reached from: the pages on both sides are inaccessible. They
+ * Pages that no byte before and no byte after can be reached from: the pages on both sides are inaccessible. They
  * are mapped twice, so that what is lent for reading cannot be written. `before` is what they held before a call.
  */
 struct memory {
@@ -89,7 +89,7 @@ void map_memories(void);
 /* What is told of a fault at an address: which memory was left, and to which side. */
 const char *fault_told(const void *address);
 
-/* A row: so many bytes at the front of a memory, right behind the page before it, or right before the page behind it. */
+/* A row: so many bytes at the front of a memory, right after the page before it, or right before the page after it. */
 struct row {
     struct memory *memory;
     size_t place;

@@ -1,7 +1,7 @@
 /*
  * Lent memory. The library's code knows nothing of the sanitizers, so the memory itself shows an access outside a row:
- * a row ends right before an inaccessible page or begins right behind one, and a row for reading lies in pages that
- * cannot be written. What is behind a row at the front, and before one at the end, is compared after each call.
+ * a row ends right before an inaccessible page or begins right after one, and a row for reading lies in pages that
+ * cannot be written. What is after a row at the front, and before one at the end, is compared after each call.
  */
 #define _GNU_SOURCE
 #include <stdio.h>
@@ -67,7 +67,7 @@ static const char *fault_at(const uint8_t *pages, const uint8_t *address)
     if (address >= pages && address < pages + MEMORY_BYTES)
         return "a write to the read-only pages of";
     if (address >= pages + MEMORY_BYTES && address < pages + MEMORY_BYTES + PAGE_BYTES)
-        return "an access behind";
+        return "an access after";
     return NULL;
 }
 
@@ -140,7 +140,7 @@ void hold_written_only(struct row row, size_t from, size_t length)
     size_t begin = row.place + from;
     size_t end = begin + length;
     hold(memcmp(memory->writable, memory->before, begin) == 0, "written before what is told");
-    hold(memcmp(memory->writable + end, memory->before + end, MEMORY_BYTES - end) == 0, "written behind what is told");
+    hold(memcmp(memory->writable + end, memory->before + end, MEMORY_BYTES - end) == 0, "written after what is told");
     remember((struct row) { .memory = row.memory, .place = begin, .length = length });
 }
 

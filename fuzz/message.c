@@ -163,7 +163,7 @@ void fuzz_numeric_write(void)
     const uint8_t *characters = to_fill(out);
     hold(read.characters >= text.length && memcmp(characters, sent, text.length) == 0, "written and read as another text");
     for (size_t place = text.length; place < read.characters; place++)
-        hold(characters[place] == ' ', "no space behind the text");
+        hold(characters[place] == ' ', "no space after the text");
 }
 
 /* The words of a page that was written, changed by a bit or not, or any words, with K of them or any. */

@@ -1,7 +1,7 @@
 /* Packets: building, reading, what may be sent; the mirror of the decoder. */
 #include "fuzz.h"
 
-/* The bits behind a packet's ID. */
+/* The bits after a packet's ID. */
 enum { DATA_BITS = 24 };
 
 /* Fields of these widths; now and then some are too large, or all are any numbers. */

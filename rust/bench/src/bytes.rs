@@ -1,6 +1,5 @@
 //! Bytes of code, of state, of lent memory and of stack.
 
-use std::collections::BTreeMap;
 use std::mem::size_of;
 use std::path::Path;
 use std::process::Command;
@@ -48,9 +47,30 @@ pub fn assert_all_exports(archive: &Path, rows: &[Counted]) -> Result<(), String
     }
 }
 
-pub fn sections(archive: &Path, rows: &[Counted]) -> Result<String, String> {
-    let sizes = said_by("size", &["-A", path(archive)?])?;
-    Ok([code(&sizes), state(), lent(), stack(&sizes, rows)].concat())
+/// What `size -A` says of the archive: its members, and the bytes of each of their sections.
+pub fn sizes(archive: &Path) -> Result<String, String> {
+    said_by("size", &["-A", path(archive)?])
+}
+
+pub fn sections(sizes: &str, rows: &[Counted]) -> String {
+    [code(sizes), state(), lent(), stack(sizes, rows)].concat()
+}
+
+/// The code under an operation's own name; it may call that of others.
+pub fn of_operation(sizes: &str, operation: &str) -> usize {
+    let section = format!(".text.{PREFIX}{operation}");
+    let found = sizes
+        .lines()
+        .filter_map(section_of)
+        .find(|(name, _)| *name == section);
+    found.map_or(0, |(_, size)| size)
+}
+
+/// The code and the constants of all members.
+pub fn of_members(sizes: &str) -> (usize, usize) {
+    let members = members(sizes);
+    let code = members.iter().map(|member| member.1).sum();
+    (code, members.iter().map(|member| member.2).sum())
 }
 
 /// A line of `size -A`: a section and its bytes.
@@ -61,9 +81,7 @@ fn section_of(line: &str) -> Option<(&str, usize)> {
 }
 
 /// The archive's members, each with its code and its constants. A line that ends with a colon begins a member.
-fn code(sizes: &str) -> String {
-    let mut text =
-        "\n## Bytes of code\n\n| member | code | constants |\n|---|--:|--:|\n".to_owned();
+fn members(sizes: &str) -> Vec<(&str, usize, usize)> {
     let mut members: Vec<(&str, usize, usize)> = Vec::new();
     for line in sizes.lines() {
         if line.ends_with(':') {
@@ -78,11 +96,16 @@ fn code(sizes: &str) -> String {
             _ => {}
         }
     }
-    for (name, code, constants) in &members {
+    members
+}
+
+fn code(sizes: &str) -> String {
+    let mut text =
+        "\n## Bytes of code\n\n| member | code | constants |\n|---|--:|--:|\n".to_owned();
+    for (name, code, constants) in members(sizes) {
         text += &format!("| `{name}` | {code} | {constants} |\n");
     }
-    let code: usize = members.iter().map(|member| member.1).sum();
-    let constants: usize = members.iter().map(|member| member.2).sum();
+    let (code, constants) = of_members(sizes);
     text + &format!("| all | {code} | {constants} |\n\nThe library has no data that changes.\n")
 }
 
@@ -149,7 +172,6 @@ struct Deepest {
 }
 
 fn stack(sizes: &str, rows: &[Counted]) -> String {
-    let code: BTreeMap<&str, usize> = sizes.lines().filter_map(section_of).collect();
     let mut deepest: Vec<(&str, Deepest)> = Vec::new();
     for Counted { row, .. } in rows.iter().filter(|counted| counted.row.group != "joining") {
         let Some([own, other]) = row.depths else {
@@ -174,10 +196,7 @@ fn stack(sizes: &str, rows: &[Counted]) -> String {
         },
     ) in deepest
     {
-        let code = code
-            .get(format!(".text.{PREFIX}{name}").as_str())
-            .copied()
-            .unwrap_or(0);
+        let code = of_operation(sizes, name);
         let mark = if own.max(with_caller) > AIM_OF_STACK {
             "over"
         } else {

@@ -10,9 +10,9 @@ use std::path::Path;
 use crate::bytes::said_by;
 use crate::measure::CALLS;
 
-/// The functions of this module make the calls, and their own instructions are not told..
+/// The functions of this module make the calls, and their own instructions are not told, but for those of `APART`.
 const MEASURING: &str = "bench::measure::";
-/// .. but for this one, which is part of what is told (measure.rs).
+/// The one function of that module whose instructions are part of what is told (measure.rs).
 const APART: &str = "bench::measure::apart";
 /// Callgrind's two marks have no module.
 const MARKS: [&str; 2] = ["row_begins", "row_ends"];
@@ -72,8 +72,8 @@ pub fn instructions(file: &Path, callers: &Callers) -> Result<u64, String> {
 }
 
 /// How many instructions were run in all, and how many of them were the callers' own. `summary:` has the first; `ob=` has
-/// the object file of the lines behind it; a line of three numbers is an instruction's place, its source line and how
-/// often it was run. Behind `calls=` one line of the same form, or two, are of a call: the place is the call's, whose own
+/// the object file of the lines after it; a line of three numbers is an instruction's place, its source line and how
+/// often it was run. After `calls=` one line of the same form, or two, are of a call: the place is the call's, whose own
 /// line came before.
 fn counted(text: &str, callers: &Callers) -> Result<(u64, u64), String> {
     let not_understood = |line: &str| format!("callgrind's line is not understood: {line}");

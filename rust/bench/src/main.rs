@@ -6,6 +6,7 @@
 
 mod bytes;
 mod callgrind;
+mod glance;
 mod measure;
 mod messages;
 mod rows;

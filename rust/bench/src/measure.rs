@@ -5,7 +5,7 @@ use std::hint::black_box;
 
 use crate::stack::{self, Depth};
 
-/// How often an operation is called while its instructions are counted: so often that what is run once, before and behind the
+/// How often an operation is called while its instructions are counted: so often that what is run once, before and after the
 /// calls, is too little to be told. Each call has a state of its own that was made before, so that all calls are alike and
 /// nothing is put back in between.
 pub const CALLS: usize = 40;

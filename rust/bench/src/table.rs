@@ -5,6 +5,7 @@ use std::path::Path;
 
 use crate::bytes;
 use crate::callgrind::{instructions, Callers};
+use crate::glance;
 use crate::measure::{Purpose, Row};
 use crate::rows::AGAINST_SECOND;
 
@@ -21,7 +22,7 @@ pub struct Counted {
 }
 
 impl Counted {
-    fn ratio(&self) -> f64 {
+    pub fn ratio(&self) -> f64 {
         self.library as f64 / self.other as f64
     }
 
@@ -118,7 +119,9 @@ pub fn show(folder: &Path, wanted: &str) -> Result<(), String> {
 pub fn document(folder: &Path, archive: &Path, why: &Path) -> Result<(), String> {
     let rows = counted(folder, "")?;
     bytes::assert_all_exports(archive, &rows)?;
-    let mut text = opening(&rows)?;
+    let sizes = bytes::sizes(archive)?;
+    let mut text = format!("# Benchmarks\n\n{}", glance::table(&rows, &sizes)?);
+    text += &opening(&rows)?;
     text += "\n## Instructions of each operation\n";
     for section in &OPERATIONS {
         text += &in_section(section, "###", &rows);
@@ -129,7 +132,7 @@ pub fn document(folder: &Path, archive: &Path, why: &Path) -> Result<(), String>
             text += &dearest(&rows);
         }
     }
-    text += &bytes::sections(archive, &rows)?;
+    text += &bytes::sections(&sizes, &rows);
     text += "\n## Why rows are over the aim\n\n";
     text += &std::fs::read_to_string(why).map_err(|error| format!("{}: {error}", why.display()))?;
     print!("{text}");
@@ -153,9 +156,8 @@ fn opening(rows: &[Counted]) -> Result<String, String> {
     Ok(text)
 }
 
-const OPENING: &str = "# Benchmarks
-
-Written by one command, which is also how to make it again:
+const OPENING: &str = "
+This document is written by one command, which is also how to make it again:
 
     tools/bench
 
@@ -188,7 +190,7 @@ fn in_section(section: &Section, level: &str, rows: &[Counted]) -> String {
     format!("\n{level} {}\n\n{about}{table}", section.title)
 }
 
-/// Of the packets alone, without the joining behind them.
+/// Of the packets alone, without the joining that follows them.
 fn dearest(rows: &[Counted]) -> String {
     let packets = rows.iter().filter(|counted| counted.row.group == WORST);
     let packets = packets.filter(|counted| counted.row.operation != "chain_step");

@@ -16,7 +16,7 @@ pub fn words_of<T: Copy>(structure: &T) -> Vec<u32> {
     unsafe { slice::from_raw_parts((structure as *const T).cast::<u32>(), words) }.to_vec()
 }
 
-/// .. and back.
+/// A struct of 32-bit fields from its numbers: the way back from `words_of`.
 pub fn from_words<T: Copy>(words: &[u32]) -> T {
     assert_eq!(align_of::<T>(), align_of::<u32>());
     assert_eq!(size_of::<T>(), size_of_val(words));
@@ -28,7 +28,7 @@ pub fn told(words: &[u32]) -> Told {
     words.iter().copied().map(u64::from).collect()
 }
 
-/// The number of the refusal or 0, and behind it what is told where nothing is refused. Every export answers so.
+/// The number of the refusal or 0, and after it what is told where nothing is refused. Every export answers so.
 pub fn answer<T>(answer: &Result<T, Refusal>, tell: impl Fn(&T) -> Told, nothing: usize) -> Told {
     match answer {
         Ok(value) => [vec![0], tell(value)].concat(),

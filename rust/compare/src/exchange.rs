@@ -189,7 +189,7 @@ pub fn compare_and_show<R: Request>(
     }
 }
 
-/// Writes all requests, and closes the child's input behind the last one, so
+/// Writes all requests, and closes the child's input after the last one, so
 /// that a child with too short an answer ends and is not waited for. Writing
 /// fails only when the child has ended; its missing answers tell that.
 fn ask<R: Request>(

@@ -45,7 +45,7 @@ pub fn write_capcodes(output: impl Write, count: u64, seed: u64) -> io::Result<(
     output.flush()
 }
 
-/// Writes each line that is read with as many bytes behind it as an accepted
+/// Writes each line that is read with as many bytes after it as an accepted
 /// one has in the listing: what reading and writing alone take.
 pub fn copy(input: impl Read, output: impl Write) -> io::Result<()> {
     let mut input = BufReader::with_capacity(BUFFER_BYTES, input);

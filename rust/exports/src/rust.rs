@@ -68,7 +68,7 @@ fn under(heading: &str, prefix: &str, known: &Constant) -> String {
     format!("/// {sentence}: {}{id}.\n", name.replace('_', " ").to_ascii_lowercase())
 }
 
-/// A comment is its constant's own, unless there are constants behind it that have none: then it is the heading of them
+/// A comment is its constant's own, unless there are constants after it that have none: then it is the heading of them
 /// all.
 fn group(known: &Group) -> String {
     let mut heading = known.about.to_string();

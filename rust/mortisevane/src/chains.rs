@@ -19,7 +19,7 @@
 //! }
 //! assert_eq!(handed_out.as_deref(), Some(&b"Bay 12, shelf 4."[..]));
 //!
-//! // The last fragment again has no chain to go on with; right behind the first one it is out of turn.
+//! // The last fragment again has no chain to go on with; right after the first one it is out of turn.
 //! let [first, _, third] = fragments.collect::<Vec<_>>().try_into().unwrap();
 //! assert_eq!(chains.fragment(&mut buffer, 4, third).unwrap_err().refusal, Refusal::NoChain);
 //! assert!(chains.fragment(&mut buffer, 4, first).unwrap().begun.is_some());

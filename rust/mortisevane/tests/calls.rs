@@ -93,7 +93,7 @@ fn the_three_calls_of_tables_54_and_55() {
     for (word, bits) in (9..).zip(numeric_words.into_iter().chain(second)) {
         assert_eq!(frame.hear(message(word, PHASE_A, bits)), Ok(None));
     }
-    // The first word of a long call stands right behind its vector, and the vector says where the second is.
+    // The first word of a long call stands right after its vector, and the vector says where the second is.
     assert!(frame.hear(text_vector(10, PHASE_C, 3, 14)).unwrap().is_some());
     for (word, bits) in [11, 14, 15].into_iter().zip(third) {
         assert_eq!(frame.hear(message(word, PHASE_C, bits)), Ok(None));

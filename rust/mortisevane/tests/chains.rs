@@ -59,7 +59,7 @@ fn three_fragments_are_a_text() {
     assert_eq!(receiver.take(second), Ok(TAKEN));
     assert_eq!(receiver.take(third), Ok(Taken { text: Some(text), ..TAKEN }));
     assert_eq!(receiver.chains, Chains::fresh());
-    // What lies behind the text in the lent buffer is as it was.
+    // What lies after the text in the lent buffer is as it was.
     assert!(receiver.buffer[text.len()..].iter().all(|byte| *byte == UNTOUCHED));
 }
 

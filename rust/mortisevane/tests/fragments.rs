@@ -44,7 +44,7 @@ fn a_text_of_several_fragments() {
         numbers.push((read.heading.fragment_number, read.heading.continued));
         joined.extend_from_slice(read.text);
     }
-    // Two characters behind the signature, then three at a time.
+    // Two characters after the signature, then three at a time.
     assert_eq!(numbers, [(3, true), (0, true), (1, true), (2, false)]);
     assert_eq!(joined, b"ABCDEFGHI");
 }

@@ -87,22 +87,22 @@ impl Call {
         self.area as usize % MOST_CALLS * MOST_WORDS
     }
 
-    /// Whether a span lies behind the vector and ends by the last word. Of a long
+    /// Whether a span lies after the vector and ends by the last word. Of a long
     /// call the first word follows the vector, and b is where its rest begins, if
     /// it has any.
     pub fn is_span(&self, words: u32, start: u32) -> bool {
         if words == 0 || words as usize > MOST_WORDS {
             return false;
         }
-        let lies_behind = |before: u32, words: u32| {
+        let lies_after = |before: u32, words: u32| {
             start > before && u64::from(start) + u64::from(words) - 1 <= u64::from(LAST_WORD)
         };
         if !self.is_long() {
-            return lies_behind(self.vector, words);
+            return lies_after(self.vector, words);
         }
         let first = self.vector + 1;
         let rest = words - 1;
-        first <= LAST_WORD && (rest == 0 || lies_behind(first, rest))
+        first <= LAST_WORD && (rest == 0 || lies_after(first, rest))
     }
 
     /// The numbers of its words in the frame, in the order of the message.
@@ -138,7 +138,7 @@ impl Call {
     }
 }
 
-/// Whether a word of that place is still to come; behind the memory's end is none.
+/// Whether a word of that place is still to come; after the memory's end is none.
 fn is_lacking(memory: &[u32], place: usize) -> bool {
     memory.get(place).is_none_or(|word| *word >= TO_COME)
 }
@@ -179,7 +179,7 @@ pub enum Heard {
 }
 
 impl Calls {
-    /// With these open, and nothing behind them.
+    /// With these open, and nothing after them.
     pub fn of(open: &[Call]) -> Calls {
         let mut calls = Calls {
             size: open.len(),
@@ -318,7 +318,7 @@ impl Calls {
         self.open_calls().iter().position(|call| call.key() == key)
     }
 
-    /// What stands behind it, open or not, moves up.
+    /// What stands after it, open or not, moves up.
     fn close(&mut self, place: usize) {
         self.size = self.open_calls().len() - 1;
         self.calls[place..].rotate_left(1);
@@ -662,7 +662,7 @@ mod tests {
         }
     }
 
-    /// The calls behind it move up, and stay in the order in which they were opened.
+    /// The calls after it move up, and stay in the order in which they were opened.
     #[test]
     fn a_bad_span_closes_its_call() {
         let mut receiver = Receiver::with_vectors_at(&[5, 6, 7]);

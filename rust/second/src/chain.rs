@@ -373,12 +373,12 @@ mod tests {
         }
     }
 
-    /// A fragment behind which nothing follows. S of a first one is 0.
+    /// A fragment that nothing follows. S of a first one is 0.
     fn last(fragment_number: u32, message_number: u32, text: &[u8]) -> Vec<u32> {
         fragment::build(&heading(0, fragment_number, message_number), text)
     }
 
-    /// One behind which more follows.
+    /// A fragment that more follow.
     fn continued(fragment_number: u32, message_number: u32, text: &[u8]) -> Vec<u32> {
         fragment::build(&heading(1, fragment_number, message_number), text)
     }

@@ -1,7 +1,7 @@
 //! A day of a pager, from a file of packets: what the host makes of each.
 //!
 //! A line of the file is a comment (`#` first), has nothing on it, or is one of
-//! these, with eight upper-case hexadecimal digits and, behind a space, a remark:
+//! these, with eight upper-case hexadecimal digits and, after a space, a remark:
 //!
 //! - `reset HHHHHHHH`: the host reset the decoder, which told this part ID;
 //! - `to HHHHHHHH`: the host sends it;

@@ -1,7 +1,7 @@
 //! Fragments: a text in the message words of one call or of several (S8.7.8.3,
 //! S8.8.5; 01, "Fragments").
 //!
-//! A fragment's first word tells about it (Tables 44 and 45). Each word behind
+//! A fragment's first word tells about it (Tables 44 and 45). Each word after
 //! it is three cells of seven bits, the first cell in the lowest bits. The cells
 //! of all fragments in their order are the signature S, the text and the fill.
 
@@ -87,7 +87,7 @@ pub struct TextCut {
     pub words: usize,
 }
 
-/// Writes the text's fragments, one behind the other, into the first of the lent
+/// Writes the text's fragments, one after the other, into the first of the lent
 /// words and leaves the others as they are. Each fragment but the last has the
 /// largest size.
 pub fn cut(
@@ -139,7 +139,7 @@ fn fragments(text: &[u8], marks: u32, largest: usize) -> Vec<Vec<u32>> {
     shares.enumerate().map(fragment).collect()
 }
 
-/// A fragment of a first word with K as 0 and of the words behind it.
+/// A fragment of a first word with K as 0 and of the words after it.
 fn with_check(first_word: u32, share: &[u32]) -> Vec<u32> {
     let mut words = [&[first_word], share].concat();
     words[0] |= sums::ten_bit(&words);
@@ -148,7 +148,7 @@ fn with_check(first_word: u32, share: &[u32]) -> Vec<u32> {
 
 /// One fragment by itself, whatever its message is: for whoever needs one that no
 /// text is cut into. S stands in front of the characters in a first one, fill
-/// behind them up to the end of the last word. U and V of a later one are set
+/// after them up to the end of the last word. U and V of a later one are set
 /// where R and M are; the sum is what the cells make it.
 pub fn build(heading: &Heading, characters: &[u8]) -> Vec<u32> {
     let first_word = CONTINUED.put(heading.continued)
@@ -281,8 +281,8 @@ mod tests {
     fn words_of(text: &[u8], marks: Marks, largest: usize) -> (usize, Vec<u32>) {
         let mut lent = [WORD_BEFORE; MOST_WORDS + 1];
         let told = cut(text, marks, largest, &mut lent).unwrap();
-        let (words, behind) = lent.split_at(told.words);
-        assert!(behind.iter().all(|word| *word == WORD_BEFORE));
+        let (words, rest) = lent.split_at(told.words);
+        assert!(rest.iter().all(|word| *word == WORD_BEFORE));
         (told.fragments, words.to_vec())
     }
 
@@ -292,8 +292,8 @@ mod tests {
         let mut lent = [BYTE_BEFORE; 260];
         let told = read(words, &mut lent).unwrap();
         assert_eq!(heading(words), Ok(told));
-        let (text, behind) = lent.split_at(told.characters);
-        assert!(behind.iter().all(|byte| *byte == BYTE_BEFORE));
+        let (text, rest) = lent.split_at(told.characters);
+        assert!(rest.iter().all(|byte| *byte == BYTE_BEFORE));
         (told.heading, text.to_vec())
     }
 

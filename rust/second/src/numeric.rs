@@ -189,8 +189,8 @@ mod tests {
     fn written(text: &[u8], kind: u32, numbering: Numbering) -> (u32, Vec<u32>) {
         let mut lent = [WORD_BEFORE; MOST_WORDS + 1];
         let told = write(text, kind, numbering, &mut lent).unwrap();
-        let (page, behind) = lent.split_at(told.words);
-        assert!(behind.iter().all(|word| *word == WORD_BEFORE));
+        let (page, rest) = lent.split_at(told.words);
+        assert!(rest.iter().all(|word| *word == WORD_BEFORE));
         (told.check, page.to_vec())
     }
 
@@ -199,8 +199,8 @@ mod tests {
     fn characters(kind: u32, check: u32, words: &[u32]) -> (Numbering, Vec<u8>) {
         let mut lent = [BYTE_BEFORE; 50];
         let told = read(kind, check, words, &mut lent).unwrap();
-        let (text, behind) = lent.split_at(told.characters);
-        assert!(behind.iter().all(|byte| *byte == BYTE_BEFORE));
+        let (text, rest) = lent.split_at(told.characters);
+        assert!(rest.iter().all(|byte| *byte == BYTE_BEFORE));
         (told.numbering, text.to_vec())
     }
 

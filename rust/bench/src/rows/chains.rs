@@ -8,7 +8,7 @@ use crate::measure::{side, Measure, Told};
 use crate::messages::{fragments_of, numbered_fragments_of, text, MESSAGE_NUMBER};
 use crate::told::{answer, bytes, told};
 
-/// The address number whose chain is looked at; the others are of the addresses behind it.
+/// The address number whose chain is looked at; the others are of the addresses after it.
 pub const ADDRESS: u32 = 3;
 
 pub fn rows(measure: &mut Measure) {

@@ -164,8 +164,8 @@ fn memcpy_and_sums(fragments: &[Vec<u32>], text: &[u8], copy: &mut [u8]) -> Copi
     // 1,008 characters and the signature need no fill but two cells of the last word.
     let fill = [ETX; 2];
     let checks = fragments.iter().all(is_right);
-    let characters = !sums::signature(text) + !sums::signature(&fill);
-    let is_whole = checks && (signature + characters) & 0x7F == WHOLE_SUM;
+    let characters = (!sums::signature(text)).wrapping_add(!sums::signature(&fill));
+    let is_whole = checks && signature.wrapping_add(characters) & 0x7F == WHOLE_SUM;
     Copied {
         characters: text.len(),
         is_whole,

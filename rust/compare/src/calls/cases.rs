@@ -44,9 +44,9 @@ const ADDRESSES: &[Case] = &[
         let place = seen.told_of_address().call;
         seen.opened() && seen.before.calls[place] != Call::default()
     }),
-    ("opened, a record behind not zero", |seen| {
-        let behind = &seen.before.calls[seen.open().len()..];
-        seen.opened() && behind.iter().skip(1).any(|call| *call != Call::default())
+    ("opened, a later record not zero", |seen| {
+        let later = &seen.before.calls[seen.open().len()..];
+        seen.opened() && later.iter().skip(1).any(|call| *call != Call::default())
     }),
     ("opened after a bad span", |seen| {
         seen.opened() && seen.event.notes.opened_after_bad_span
@@ -139,10 +139,10 @@ const VECTORS: &[Case] = &[
     ("a span of 85 words", |seen| {
         seen.with_span(|_, words, _| words as usize == MOST_WORDS)
     }),
-    ("a short call's span right behind its vector", |seen| {
+    ("a short call's span right after its vector", |seen| {
         seen.with_span(|call, _, start| !call.is_long() && start == call.vector + 1)
     }),
-    ("a long call's rest right behind its first", |seen| {
+    ("a long call's rest right after its first", |seen| {
         seen.with_span(|call, words, start| call.is_long() && words > 1 && start == call.vector + 2)
     }),
     ("a short call's span to word 87", |seen| {
@@ -156,7 +156,7 @@ const VECTORS: &[Case] = &[
             call.is_long() && words == 1 && start > call.vector + 1 && start < 88
         })
     }),
-    ("a long call of one word, b not behind it", |seen| {
+    ("a long call of one word, b not after it", |seen| {
         seen.with_span(|call, words, start| {
             call.is_long() && words == 1 && start <= call.vector + 1
         })
@@ -269,12 +269,12 @@ const VECTORS: &[Case] = &[
     ("a bad span, size over 8", |seen| {
         seen.hear_refused(9) && seen.before.size > 8
     }),
-    ("a bad span, a record behind not zero", |seen| {
-        seen.hear_refused(9) && seen.behind_not_zero()
+    ("a bad span, a later record not zero", |seen| {
+        seen.hear_refused(9) && seen.later_not_zero()
     }),
-    ("a bad span, a call behind has its vector", |seen| {
-        let behind = seen.open().iter().skip(seen.own.unwrap_or_default() + 1);
-        seen.hear_refused(9) && { behind }.any(Call::has_vector)
+    ("a bad span, a later call has its vector", |seen| {
+        let later = seen.open().iter().skip(seen.own.unwrap_or_default() + 1);
+        seen.hear_refused(9) && { later }.any(Call::has_vector)
     }),
     ("a bad span and too few words lent", |seen| {
         seen.hear_refused(9) && seen.lent() < MEMORY
@@ -378,17 +378,17 @@ const WORDS: &[Case] = &[
     ("a vector of another phase's call", |seen| {
         seen.hear_refused(17) && seen.any_open(|call, seen| call.vector == seen.id())
     }),
-    ("a word behind a call's last", |seen| {
+    ("a word after a call's last", |seen| {
         seen.hear_refused(17)
             && seen.any_open(|call, seen| {
                 call.phase == seen.phase() && call.place_of(call.phase, seen.id() - 1).is_some()
             })
     }),
-    ("a word behind a short message, long", |seen| {
+    ("a word after a short message, long", |seen| {
         seen.hear_refused(17)
             && seen.any_open(|call, seen| {
-                let is_behind = call.key() == seen.key_before();
-                call.is_long() && call.has_vector() && call.kind == 2 && is_behind
+                let follows = call.key() == seen.key_before();
+                call.is_long() && call.has_vector() && call.kind == 2 && follows
             })
     }),
     ("b of a long call of one word", |seen| {
@@ -455,7 +455,7 @@ const STATES: &[Case] = &[
     ("a record of over 85 words", |seen| {
         seen.unsound_by(|call| call.has_vector() && call.words > 85)
     }),
-    ("a record's span not behind its vector, short", |seen| {
+    ("a record's span not after its vector, short", |seen| {
         seen.unsound_by(|call| seen_span(call) && !call.is_long() && call.start <= call.vector)
     }),
     ("a record's span past 87, short", |seen| {
@@ -463,7 +463,7 @@ const STATES: &[Case] = &[
             seen_span(call) && !call.is_long() && past_last(call.start, call.words)
         })
     }),
-    ("a record's rest not behind its first, long", |seen| {
+    ("a record's rest not after its first, long", |seen| {
         seen.unsound_by(|call| {
             let first = call.vector.saturating_add(1);
             seen_span(call) && call.is_long() && call.words > 1 && call.start <= first
@@ -511,17 +511,17 @@ const STATES: &[Case] = &[
     ("sound, a check over 15", |seen| {
         seen.accepted_with(|call| call.check > 15)
     }),
-    ("sound, a record behind not zero", |seen| {
-        seen.accepted() && seen.behind_not_zero()
+    ("sound, a later record not zero", |seen| {
+        seen.accepted() && seen.later_not_zero()
     }),
-    ("sound, a record behind of over 87", |seen| {
-        let behind = &seen.before.calls[seen.open().len()..];
-        seen.accepted() && behind.iter().any(|call| call.vector > 87)
+    ("sound, a later record of over 87", |seen| {
+        let later = &seen.before.calls[seen.open().len()..];
+        seen.accepted() && later.iter().any(|call| call.vector > 87)
     }),
-    ("sound, a record behind of an open key", |seen| {
-        let (open, behind) = seen.before.calls.split_at(seen.open().len());
+    ("sound, a later record of an open key", |seen| {
+        let (open, later) = seen.before.calls.split_at(seen.open().len());
         let is_open = |call: &Call| open.iter().any(|other| other.key() == call.key());
-        seen.accepted() && behind.iter().any(is_open)
+        seen.accepted() && later.iter().any(is_open)
     }),
     ("sound, two share an area", |seen| {
         seen.accepted() && shares_area(seen.open())
@@ -593,8 +593,8 @@ const ENDS: &[Case] = &[
     ("an end, size over 8", |seen| {
         seen.ended() && seen.before.size > 8
     }),
-    ("an end, a record behind not zero", |seen| {
-        seen.ended() && seen.behind_not_zero()
+    ("an end, a later record not zero", |seen| {
+        seen.ended() && seen.later_not_zero()
     }),
     ("an end, a longer memory lent", |seen| {
         seen.ended() && seen.lent() > MEMORY
@@ -666,9 +666,9 @@ impl Seen<'_> {
         self.open().iter().any(|call| is_so(call, self))
     }
 
-    fn behind_not_zero(&self) -> bool {
-        let behind = &self.before.calls[self.open().len()..];
-        behind.iter().any(|call| *call != Call::default())
+    fn later_not_zero(&self) -> bool {
+        let later = &self.before.calls[self.open().len()..];
+        later.iter().any(|call| *call != Call::default())
     }
 
     fn has_bits(&self, bits: u32) -> bool {

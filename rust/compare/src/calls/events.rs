@@ -199,7 +199,7 @@ impl Receiver {
         }
     }
 
-    /// So many words, and one before and behind them.
+    /// So many words, and one before and one after them.
     fn about(&self, place: usize, words: usize) -> Range<usize> {
         let end = place + words + 1;
         place.saturating_sub(1)..end.min(self.memory.len())

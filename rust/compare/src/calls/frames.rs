@@ -79,7 +79,7 @@ impl Frame {
         random.once_in(self.trouble_once_in)
     }
 
-    /// A packet of the plan comes, or is lost, and others before and behind it.
+    /// A packet of the plan comes, or is lost, and others before and after it.
     fn packet(&mut self, random: &mut Random, packet: u32, events: &mut Vec<Event>) {
         if self.trouble(random) {
             let packet = foreign(random);
@@ -176,9 +176,9 @@ impl Frame {
             let rest = match random.once_in(2) {
                 true => rest,
                 false => {
-                    let behind = call.vector + u32::from(call.is_long()) + 1;
+                    let after = call.vector + u32::from(call.is_long()) + 1;
                     let words = random.between(1, 2) as u32;
-                    span(kind, 0, words, random.choose(&[behind, behind, behind - 1]))
+                    span(kind, 0, words, random.choose(&[after, after, after - 1]))
                 }
             };
             return Some(vector(key, kind, rest));

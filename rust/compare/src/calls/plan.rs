@@ -73,7 +73,7 @@ fn all_packets(random: &mut Random, is_whole: bool) -> Vec<u32> {
             let vectors = shuffled(random, vectors);
             [addresses, vectors, shuffled(random, words)].concat()
         }
-        // Words before the last vectors, and again behind them.
+        // Words before the last vectors, and again after them.
         6 => {
             let (early, late) = vectors.split_at(vectors.len() / 2);
             let parts = [&addresses, early, &words, late, &words];
@@ -155,10 +155,10 @@ fn enlarge(random: &mut Random, planned: &mut Planned) {
     planned.rest = span(call.kind, 0, call.words, call.start);
 }
 
-/// Numeric calls have 1 to 8 words. Most words stand behind all vectors; some are
+/// Numeric calls have 1 to 8 words. Most words stand after all vectors; some are
 /// shared with an earlier call of the phase, and some stand where they may not.
 fn set_span(random: &mut Random, call: &mut Call, next: u32, earlier: &[Call]) {
-    let behind = call.vector + call.long_address;
+    let last_before = call.vector + call.long_address;
     let few = random.between(1, 5) as u32;
     let numeric = is_numeric(call.kind);
     let most = if numeric { 8 } else { 85 };
@@ -173,26 +173,29 @@ fn set_span(random: &mut Random, call: &mut Call, next: u32, earlier: &[Call]) {
                 (words, with.start)
             }
         },
-        // Right behind the vector, where others' vectors may stand.
-        10 => (few, behind + 1),
+        // Right after the vector, where others' vectors may stand.
+        10 => (few, last_before + 1),
         // To the last word.
         11 => {
             let words = random.between(1, 8) as u32;
             (words, 88 + call.long_address - words)
         }
         // A long call's first word alone.
-        12 if call.is_long() => (1, random.choose(&[0, 1, call.vector, behind, 87, 88, 127])),
+        12 if call.is_long() => (
+            1,
+            random.choose(&[0, 1, call.vector, last_before, 87, 88, 127]),
+        ),
         13 => {
-            let start = random.between(u64::from(behind) + 1, 90) as u32;
+            let start = random.between(u64::from(last_before) + 1, 90) as u32;
             (words_from(start).clamp(1, most), start)
         }
-        14 => bad_span(random, behind, call.long_address),
+        14 => bad_span(random, last_before, call.long_address),
         _ => (few, next),
     };
     // Those that few calls can have: the last word alone, and the most words.
     match call.vector {
         86..=87 if call.is_long() && random.once_in(2) => call.words = 1,
-        2 if random.once_in(2) => (call.words, call.start) = (85, behind + 1),
+        2 if random.once_in(2) => (call.words, call.start) = (85, last_before + 1),
         _ => {}
     }
     call.start = call.start.min(127);
@@ -202,16 +205,19 @@ fn set_span(random: &mut Random, call: &mut Call, next: u32, earlier: &[Call]) {
 }
 
 /// Just outside of one limit.
-fn bad_span(random: &mut Random, behind: u32, is_long: u32) -> (u32, u32) {
+fn bad_span(random: &mut Random, last_before: u32, is_long: u32) -> (u32, u32) {
     let words = 1 + is_long + random.below(4) as u32;
     match random.below(6) {
-        0 => (0, behind + 1),
+        0 => (0, last_before + 1),
         1 => (
             random.choose(&[86, 87, 127]),
-            random.choose(&[3, behind + 1]),
+            random.choose(&[3, last_before + 1]),
         ),
-        2 => (words, behind),
-        3 => (words, behind.saturating_sub(random.between(1, 4) as u32)),
+        2 => (words, last_before),
+        3 => (
+            words,
+            last_before.saturating_sub(random.between(1, 4) as u32),
+        ),
         4 => (words, 88 + is_long - words + 1),
         _ => (words, random.choose(&[88, 100, 127])),
     }

@@ -435,7 +435,7 @@ fn masks() -> [u16; MASKS] {
 
 /// A bin number for the picker. A page to the group, at 09.30 to dock 003, goes to the
 /// picker's own address too, and both calls share its words: that of the long address
-/// has its first word right behind its vector, and names the place of the second.
+/// has its first word right after its vector, and names the place of the second.
 fn bin_and_group_pages() -> [Sent; 3] {
     let call = |index, vector| Call {
         phase: A,
@@ -510,7 +510,7 @@ fn sent(list: &List, place: usize, phase: u32, vector: u32, start: u32) -> Sent 
 }
 
 /// Of a word of a fragment: the first has no text (Tables 44 and 45), and the words
-/// behind it, of all fragments, have S and the text, three cells each.
+/// after it, of all fragments, have S and the text, three cells each.
 fn remark(list: &List, before: usize, word: usize) -> String {
     if word == 0 {
         return "word 1: K, C, F and N".to_string();
