@@ -58,7 +58,7 @@ sumOf (n ∷ ns) = pick (isChecksum n || isSpecial n) (sumOf ns) (bitXor (dataOf
 abbrev pub sound : Mirror → Bool
 sound m = ltb (m .register) (2 ^ 24)
 
--- an answer with a mirror: after a refusal it is as it was handed in
+-- the answer to packets: after a 2 the mirror is as it was handed in
 abbrev pub answered : Mirror → Mirror → Mirrored
 answered m next = record { number = numberUnless State (sound m); mirror = pick (sound m) next m }
 
