@@ -51,7 +51,7 @@ module _ (m : Message) where
   pub count-cut : length (fragments m) ≡ countOf
   count-cut = count (m .marks) (m .largest) (m .text)
 
-  -- .. and this is the one at a place
+  -- the fragment at a place is this one
   pub part-cut : (place : ℕ) → place < countOf → getD (fragments m) place [] ≡ part place
   part-cut place within = at-place (m .marks) (m .largest) (m .text) place within
 
@@ -59,12 +59,12 @@ module _ (m : Message) where
   pub none-before : textBefore 0 ≡ []
   none-before = rw (mul-zero (3 * (m .largest - 1)))
 
-  -- .. and that is the chain that is not begun
+  -- the chain before the first fragment is the one that is not begun
   pub begins : unbegun (m .address) (m .marks .«message_number») ≡ chainAt 0
   unfolding sumBy
   begins = rw (mul-zero (3 * (m .largest - 1)))
 
--- F behind the F of a place is that of the next place
+-- the F after the F of a place is that of the next place
 next-number : (place : ℕ) → nextNumber (fragmentNumber place) ≡ fragmentNumber (suc place)
 next-number place =
     rw (ne-eqb (suc place) 0 (λ e. omega arith))
@@ -92,7 +92,7 @@ module _ (m : Message) (cuts : isCut m ≡ true) where
       let each = each-of-five (isAddress (m .address)) (marked (m .marks)) (isSize (m .largest)) (leb (length (m .text)) mostCharacters) (sendable (m .text)) cuts in
       record { numbers = each .1; size = each .2; short = leb-true (length (m .text)) mostCharacters (each .3); characters = each .4 }
 
-  -- .. and the address number
+  -- a message that is cut by 01's rules has an address number
   pub address-small : m .address ≤ 31
   address-small =
       leb-true (m .address) 31
@@ -115,7 +115,7 @@ module _ (m : Message) (cuts : isCut m ≡ true) where
     pub part-good : Good (part m place)
     part-good = accepted (part m place) .0 (ap numberTold (good cuttable place within))
 
-    -- .. and says what its place says
+    -- the fragment says what its place says
     says : headingIn (part m place) ≡ asFragment (headingWith (m .marks) (m .largest) (m .text) place (length (textIn (part m place))))
     says = ap asFragment (sym (heading-told (part m place) part-good) ∙ good cuttable place within)
 
@@ -127,7 +127,7 @@ module _ (m : Message) (cuts : isCut m ≡ true) where
     pub says-number : headingIn (part m place) .«fragment_number» ≡ fragmentNumber place
     says-number = ap (λ (h : FragmentRead). h .«fragment_number») says
 
-    -- .. so that the one at 0 is a first one, and no other
+    -- the fragment at 0 is a first one, and no other is
     pub says-first : isFirst (headingIn (part m place)) ≡ eqb place 0
     says-first = rw says-number (first-number place)
 
@@ -162,7 +162,7 @@ module _ (m : Message) (cuts : isCut m ≡ true) where
             (λ before. absurd (not-both (goesOn (headingIn (part m place))) (says-more ∙ ap not before) ends))
             (decided (eqb (place + 1) (countOf m)))
 
-    -- .. and has joined it then
+    -- a chain that takes the fragment has joined it then
     pub part-grown : grown (chainAt m place) (headingIn (part m place)) ≡ chainAt m (suc place)
     part-grown =
         let h = headingIn (part m place) in

@@ -100,7 +100,7 @@ module _ (m : Message) (cuts : isCut m ≡ true) (s : State) (joined : ℕ) (h :
     pub before : chainBefore (s .chains) (m .address) (headingIn words) ≡ chainAt m place
     pub text : textAt (s .bytes) (slotFor (s .chains) (m .address) (headingIn words)) (length (textBefore m place)) ≡ textBefore m place
 
-  -- .. which is so where the chain is that one, and there is a slot
+  -- a copy meets its chain where the chain is that one, and there is a slot
   meets-with : (eqb place 0 ≡ false → isOpen m s ≡ true) → chainBefore (s .chains) (m .address) (headingIn words) ≡ chainAt m place
       → slotFor (s .chains) (m .address) (headingIn words) < length (s .chains)
       → textAt (s .bytes) (slotFor (s .chains) (m .address) (headingIn words)) (length (textBefore m place)) ≡ textBefore m place → Meets
@@ -158,7 +158,7 @@ module _ (m : Message) (cuts : isCut m ≡ true) (s : State) (joined : ℕ) (h :
     long-then : charactersAfter (chainBefore (s .chains) (m .address) (headingIn words)) (headingIn words) ≡ length (textBefore m (suc place))
     long-then = ap (λ (c : Chain). charactersAfter c (headingIn words)) (meets .before) ∙ length-next m cuts place within
 
-    -- .. and the text of its slot
+    -- the text of its slot then
     text-then : textAt (bufferAfter (s .chains) (m .address) words (s .bytes)) (slotFor (s .chains) (m .address) (headingIn words)) (length (textBefore m (suc place))) ≡ textBefore m (suc place)
     text-then =
         let slot = slotFor (s .chains) (m .address) (headingIn words) in
@@ -168,7 +168,7 @@ module _ (m : Message) (cuts : isCut m ≡ true) (s : State) (joined : ℕ) (h :
         ∙ ap (λ (text : List ℕ). text ++ textIn words) (meets .text)
         ∙ text-step (cuttable m cuts) place within
 
-    -- .. where it is not the last, the chain has joined it then, and nothing is handed out
+    -- where the copy is not of the last fragment, the chain has joined it then, and nothing is handed out
     pub taken-on : (place + 1 ≡ countOf m → ⊥) → Holding m (after s event) (suc place) × (asAnswer (answerTo s event) .complete ≡ 1 → ⊥)
     taken-on more = (
       holding-after m s joined event (suc place) h
@@ -195,7 +195,7 @@ module _ (m : Message) (cuts : isCut m ≡ true) (s : State) (joined : ℕ) (h :
         found : slotOf m (after s event) ≡ slot
         found = found-then ∙ grows .1
 
-    -- .. where it is, the text is handed out, and no chain is open then
+    -- where the copy is of the last fragment, the text is handed out, and no chain is open then
     pub taken-whole : place + 1 ≡ countOf m
         → let answer = answerTo s event in
         Holding m (after s event) 0 × (asAnswer answer .complete ≡ 1) × (textBy answer (after s event) ≡ m .text)

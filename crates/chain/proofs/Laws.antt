@@ -78,7 +78,7 @@ module _ (lent : ℕ) (row : List Chain) (address : ℕ) (words : List ℕ) wher
       rw (le-ltb lent (length row * 1008) (a .room), a .right, le-leb address 31 (a .small), a .good .size, a .good .intact, a .good .sum)
       (⊎-elim (λ first. rw first) (λ later. rw later (rw (a .has later))) (decided (isFirst (headingIn words))))
 
-  -- .. and they are passed then only
+  -- all these questions are passed then only
   passed-heard : (rest : Told) → ofChain (numberTold (whenHeard lent row address words rest)) ≡ true → Heard
   passed-heard rest e =
       let room = passed-test tellsOfChain (ltb lent (length row * 1008)) refusals.Room _ refl e in
@@ -108,7 +108,7 @@ module _ (lent : ℕ) (row : List Chain) (address : ℕ) (words : List ℕ) wher
   unfolding chainsAfter
   chains-by P there else = ⊎-elim (λ is. rw is (there (touched .0 is))) (λ none. rw none else) (decided (touches lent row address words))
 
-  -- .. as an equation
+  -- the records where a chain is touched, as an equation
   pub chains-heard : Heard → chainsAfter lent row address words ≡ rowAfter row address (headingIn words)
   unfolding chainsAfter
   chains-heard a = rw (touched .1 a)
@@ -132,7 +132,7 @@ module _ (lent : ℕ) (row : List Chain) (address : ℕ) (words : List ℕ) wher
       (λ a. after-sound row address (headingIn words) (a .right) (a .small) (message-small words) (a .has))
       right
 
-  -- .. and as long
+  -- a fragment leaves a row as long as it was
   pub chains-length : length (chainsAfter lent row address words) ≡ length row
   chains-length = chains-by (λ r. length r ≡ length row) (λ a. after-length row address (headingIn words)) refl
 
@@ -147,12 +147,12 @@ module _ (lent : ℕ) (row : List Chain) (address : ℕ) (words : List ℕ) wher
   others-stay whose n other =
       chains-by (Kept whose n row) (λ a. others-kept row address (headingIn words) whose n other) (kept-same whose n row)
 
-  -- .. its chain's record stays
+  -- the record of another key's chain stays
   pub other-record : (whose n i : ℕ) → OtherKey whose n address (headingIn words .«message_number») → isOf whose n (getD row i blank) ≡ true
       → getD (chainsAfter lent row address words) i blank ≡ getD row i blank
   other-record whose n i other is = kept-chain whose n row (chainsAfter lent row address words) (others-stay whose n other) i is
 
-  -- .. and none of it appears or goes
+  -- no chain of another key appears or goes
   pub other-slot : (whose n : ℕ) → OtherKey whose n address (headingIn words .«message_number») → find whose n (chainsAfter lent row address words) ≡ find whose n row
   other-slot whose n other = kept-find whose n row (chainsAfter lent row address words) (others-stay whose n other)
 
@@ -171,7 +171,7 @@ module _ (lent : ℕ) (row : List Chain) (address : ℕ) (words : List ℕ) wher
       ∙ rw (goes-on (chainBefore row address (headingIn words)) (headingIn words) (a .taken) on)
       (rw (ne-eqb (slotFor row address (headingIn words)) (length row) (λ e. omega (arith, a .free))))
 
-  -- .. and of one that ends its text
+  -- what is told of a fragment that ends its text
   pub told-whole : Accepted → goesOn (headingIn words) ≡ false → stepOf lent row address words ≡ given (beginning row address (headingIn words) (handingOut row address (headingIn words)))
   told-whole a ends =
       step-heard (a .heard)
@@ -255,7 +255,7 @@ module _ (lent : ℕ) (row : List Chain) (address : ℕ) (words : List ℕ) wher
       asked : (values : List ℕ) → numberTold (ask (full row address h) refusals.Full (given values)) ≤ 16
       asked values = ⊎-elim (λ is. rw is (omega arith)) (λ none. rw none (omega arith)) (decided (full row address h))
 
-  -- .. and are told of a chain that is touched
+  -- 14, 15 and 16 are told of a chain that is touched
   lost-heard : 14 ≤ numberTold (stepOf lent row address words) → Heard
   lost-heard late = of-chain (rw (le-leb 14 (numberTold (stepOf lent row address words)) late))
 
@@ -295,7 +295,7 @@ module _ (lent : ℕ) (row : List Chain) (address : ℕ) (words : List ℕ) wher
       let heard = lost-heard late in
       rw (lost-closes late .0) (cleared-not-found row address (headingIn words .«message_number») (heard .right))
 
-  -- .. and its slot's record is all zero
+  -- after such a refusal the record of the chain's slot is all zero
   pub lost-zero : 14 ≤ numberTold (stepOf lent row address words) → getD (chainsAfter lent row address words) (find address (headingIn words .«message_number») row) blank ≡ blank
   lost-zero late = rw (lost-closes late .0) (zero-there row (find address (headingIn words .«message_number») row))
 
@@ -303,7 +303,7 @@ module _ (lent : ℕ) (row : List Chain) (address : ℕ) (words : List ℕ) wher
   pub whole-not-found : Accepted → goesOn (headingIn words) ≡ false → find address (headingIn words .«message_number») (chainsAfter lent row address words) ≡ length row
   whole-not-found a ends = rw (whole-closes a ends) (cleared-not-found row address (headingIn words .«message_number») (a .heard .right))
 
-  -- .. and the record of the slot that is told is all zero
+  -- after a text handed out the record of the slot that is told is all zero
   pub whole-zero : Accepted → goesOn (headingIn words) ≡ false → getD (chainsAfter lent row address words) (slotFor row address (headingIn words)) blank ≡ blank
   whole-zero a ends =
       rw (chains-heard (a .heard), is-whole (chainBefore row address (headingIn words)) (headingIn words) (a .taken) ends)

@@ -41,7 +41,7 @@ module _ (row : List Chain) (address : ℕ) (h : FragmentRead) where
   pub cleared-length : length (cleared row address h) ≡ length row
   cleared-length = ⊎-elim (λ first. rw first (simp length-set)) (λ later. rw later) (decided (isFirst h))
 
-  -- .. and with the record that the fragment leaves
+  -- the row keeps its length with the record that the fragment leaves
   pub after-length : length (rowAfter row address h) ≡ length row
   after-length = simp length-set cleared-length
 
@@ -49,11 +49,11 @@ module _ (row : List Chain) (address : ℕ) (h : FragmentRead) where
   pub before-first : isFirst h ≡ true → chainBefore row address h ≡ unbegun address (h .«message_number»)
   before-first first = rw first
 
-  -- .. at the slot of its key
+  -- the chain of a later fragment stands at the slot of its key
   pub before-later : isFirst h ≡ false → chainBefore row address h ≡ getD row (find address (h .«message_number») row) blank
   before-later later = rw later
 
-  -- .. which is open and of its key where the fragment is a first one, or finds one
+  -- the chain before is open and of its key where the fragment is a first one, or finds one
   pub before-of : (isFirst h ≡ false → known row address h ≡ true)
       → (isOpen (chainBefore row address h) ≡ true) × (chainBefore row address h .address ≡ address) × (chainBefore row address h .«message_number» ≡ h .«message_number»)
   before-of has =
@@ -155,7 +155,7 @@ module _ (row : List Chain) (address : ℕ) (h : FragmentRead) where
           (kept-same whose n row))
           (decided (known row address h)))
 
-  -- .. whose slot is not the fragment's
+  -- the slot of another key's chain is not the fragment's
   pub slot-other : (whose n i : ℕ) → OtherKey whose n address (h .«message_number») → isOf whose n (getD row i blank) ≡ true → i ≡ slotFor row address h → ⊥
   slot-other whose n i other is here = ⊎-elim as-first as-later (decided (isFirst h))
     where

@@ -55,15 +55,15 @@ module _ (row : List Chain) (i : ℕ) (c : Chain) where
           let first = getD-set-other row i j c blank not-first in
           rw (there, first) (apart-back (getD row j blank) c (rw first at is) (λ opened. alone opened j not-first)))
           (λ other.
-          let behind = getD-set-other row i k c blank (eqb-false k i other) in
+          let there = getD-set-other row i k c blank (eqb-false k i other) in
           ⊎-elim
           (λ same.
           let first : j ≡ i = eqb-true j i same in
           let here : getD (set row i c) j blank ≡ c = ap (λ (m : ℕ). getD (set row i c) m blank) first ∙ getD-set-same row i c blank (omega arith) in
-          rw (here, behind) (alone (rw here at is) k (eqb-false k i other)))
+          rw (here, there) (alone (rw here at is) k (eqb-false k i other)))
           (λ neither.
           let first = getD-set-other row i j c blank (eqb-false j i neither) in
-          rw (first, behind) (before .apart j k less inside (rw first at is)))
+          rw (first, there) (before .apart j k less inside (rw first at is)))
           (decided (eqb j i)))
           (decided (eqb k i))
 
@@ -71,7 +71,7 @@ module _ (row : List Chain) (i : ℕ) (c : Chain) where
 pub clear-sound : (row : List Chain) (i : ℕ) → sound row ≡ true → sound (set row i blank) ≡ true
 clear-sound row i good = set-sound row i blank good blank-slot (λ is. absurd (false≢true is))
 
--- .. is all zero then, also behind the row, where nothing is
+-- the record of a slot that is closed is all zero then, also past the row, where nothing is
 pub zero-there : (row : List Chain) (i : ℕ) → getD (set row i blank) i blank ≡ blank
 zero-there row i =
     ⊎-elim
@@ -100,18 +100,18 @@ module _ (row : List Chain) (address n : ℕ) (good : sound row ≡ true) where
       (⊎-elim (λ is. absurd (apart (sym (found-at row good address n i is)))) (λ none. none) (decided (isOf address n (getD row i blank)))))
       (decided (eqb i (find address n row)))
 
-  -- .. so that it has no open chain
+  -- with its chain closed a key has no open chain
   pub cleared-holds-none : holds address n (set row (find address n row) blank) ≡ false
   cleared-holds-none = none-holds address n (set row (find address n row) blank) (λ i within. cleared-of-none i)
 
-  -- .. and none is found
+  -- with its chain closed none is found for a key
   pub cleared-not-found : find address n (set row (find address n row) blank) ≡ length row
   cleared-not-found = not-found address n (set row (find address n row) blank) cleared-holds-none ∙ length-set row (find address n row) blank
 
 -- ---- a free slot
 
 module _ (row : List Chain) where
-  -- the slot that is found free is closed; behind the row too
+  -- the slot that is found free is closed; one past the row too
   pub free-closed : isOpen (getD row (firstFree row) blank) ≡ false
   free-closed =
       ⊎-elim
@@ -119,7 +119,7 @@ module _ (row : List Chain) where
       (λ out. rw (List·getD-eq-default row blank (ltb-false (firstFree row) (length row) out)))
       (decided (ltb (firstFree row) (length row)))
 
-  -- .. so that to close it changes nothing
+  -- to close a slot that is free changes nothing
   pub free-cleared : sound row ≡ true → set row (firstFree row) blank ≡ row
   free-cleared good = ap (set row (firstFree row)) (sym (closed-blank row good (firstFree row) free-closed)) ∙ set-getD row (firstFree row) blank
 
@@ -176,7 +176,7 @@ module _ (address n : ℕ) where
     pub kept-chain : (i : ℕ) → isOf address n (getD row i blank) ≡ true → getD after i blank ≡ getD row i blank
     kept-chain i is = ⊎-elim (λ same. same) (λ none. absurd (not-both (isOf address n (getD row i blank)) is (none .0))) (kept .each i)
 
-    -- .. and none of it appears
+    -- then none of the key's chains appears
     pub kept-find : find address n after ≡ find address n row
     kept-find =
         found-alike (isOf address n) after row blank (kept .long)

@@ -27,7 +27,7 @@ module _ (row : List Chain) (address : ℕ) (h : FragmentRead) where
   abbrev pub beginning : List ℕ → List ℕ
   beginning rest = bitOf (isFirst h && known) ∷ bitOf (isFirst h) ∷ h .retrieval ∷ h .«mail_drop» ∷ rest
 
-  -- .. and a last one: that the text is whole, its slot, its place and its length
+  -- what a last fragment that is taken tells besides: that the text is whole, its slot, its place and its length
   abbrev pub handingOut : List ℕ
   handingOut = 1 ∷ slotFor row address h ∷ textPlace row address h ∷ charactersAfter (chainBefore row address h) h ∷ []
 
@@ -96,7 +96,7 @@ asAnswer t =
       characters = valueTold t 7;
     }
 
--- .. with the records then
+-- the answer to a fragment, with the records then
 abbrev pub asStep : Told → List Chain → ChainStep
 asStep t row = record { answer = asAnswer t; chains = record { slots = row } }
 

@@ -1,4 +1,4 @@
--- What a fragment does to a chain and to a row of chains, and what a drop does (document 01, "A good first fragment closes ..").
+-- What a fragment does to a chain and to a row of chains (document 01, "A good first fragment closes an open chain of its key"). What a drop does is in specs/Answers.
 use Prim.Native.Nat.{ℕ, _+_, _*_, _%_, _^_}
 use mathlib.Core.Bool.{Bool, true, false, not}
 use mathlib.Core.List.{List}
@@ -39,19 +39,19 @@ abbrev pub losing : Bool → Refusal → Fate → Fate
 losing true r rest = lost r
 losing false r rest = rest
 
--- 01: "F is 3 in a first fragment, then 0, 1, 2, 0 and so on": the F behind one
+-- 01: "F is 3 in a first fragment, then 0, 1, 2, 0 and so on": the F after one
 abbrev pub nextNumber : ℕ → ℕ
 nextNumber f = pick (ltb f 2) (f + 1) 0
 
--- the running sum behind a fragment
+-- the running sum after a fragment
 abbrev pub sumAfter : Chain → FragmentRead → ℕ
 sumAfter c h = (c .sum + h .sum) % 2 ^ cellBits
 
--- the length of the text behind a fragment
+-- the length of the text after a fragment
 abbrev pub charactersAfter : Chain → FragmentRead → ℕ
 charactersAfter c h = c .characters + h .characters
 
--- the record of a chain that goes on behind a fragment
+-- the record of a chain that goes on after a fragment
 abbrev pub grown : Chain → FragmentRead → Chain
 grown c h =
     record {
@@ -94,7 +94,7 @@ module _ (row : List Chain) (address : ℕ) (h : FragmentRead) where
   abbrev pub cleared : List Chain
   cleared = pick (isFirst h) (set row olderSlot blank) row
 
-  -- .. "and takes the lowest-numbered free slot"; a continuation stays in its chain's
+  -- 01: a first fragment "takes the lowest-numbered free slot"; a continuation stays in its chain's
   abbrev pub slotFor : ℕ
   slotFor = pick (isFirst h) (firstFree cleared) olderSlot
 

@@ -49,7 +49,7 @@ free-cleared (c ∷ row) (suc k) within = rw (← free-cleared row k (omega arit
         (decided (ltb k later))
 
 module _ (row : List Chain) (address : ℕ) (h : FragmentRead) (eight : length row ≡ 8) (older : ℕ) (found : older ≡ find address (h .«message_number») row) where
-  -- a key's chain is found in one of the slots, or behind them
+  -- a key's chain is found in one of the slots, or past them
   older-most : older ≤ length row
   older-most = omega (arith, found, first-most (isOf address (h .«message_number»)) row)
 
@@ -121,7 +121,7 @@ module _ (row : List Chain) (address : ℕ) (h : FragmentRead) where
       pub joins-full : slotFor row address h ≡ length row → asStep (joinOf row address h) (joinedRow row address h) ≡ asStep (told 12 []) (rowAfter row address h)
       joins-full there = rw (is, told-taken none, eq-eqb (slotFor row address h) (length row) there)
 
-      -- .. or one is taken
+      -- a slot is taken
       pub joins-taken : (slotFor row address h ≡ length row → ⊥) → asStep (joinOf row address h) (joinedRow row address h) ≡ asStep (takenOf (turnOf row address h) h) (rowAfter row address h)
       joins-taken there = rw (is, told-taken none, ne-eqb (slotFor row address h) (length row) there)
 
@@ -142,7 +142,7 @@ module _ (row : List Chain) (address : ℕ) (words buffer : List ℕ) (h : Fragm
   pub refused-joins : (numberTold t ≡ 0 → ⊥) → (r ≡ joined row address (headingIn words)) × (buffer ≡ joinedBytes row address words buffer)
   refused-joins some = (answered, rw (ne-eqb (numberTold (joinOf row address (headingIn words))) 0 (λ none. some (number-told ∙ none))))
 
-  -- .. and one that is not, its text
+  -- a good fragment that is not refused writes its text
   pub taken-joins : (exit : List ℕ) → numberTold t ≡ 0 → exit ≡ put buffer (endPlace row address h) (textIn words) → (r ≡ joined row address (headingIn words)) × (exit ≡ joinedBytes row address words buffer)
   taken-joins exit none written = (
     answered,

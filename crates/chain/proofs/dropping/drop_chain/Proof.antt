@@ -68,7 +68,7 @@ loop-again c =
     let args = judged .before .before .args in
     (omega arith, turn .loop .inv .1 ∙ found-later (isOf (args .address) (args .message-number)) (judged .judge .result .slots) blank (turn .loop .slot) (omega (arith, long judged)) (sym (c .before .is-of .ensures) ∙ c .if1 .left))
 
--- the search ended where the key is found, or behind the last slot
+-- the search ended where the key is found, or past the last slot
 found : (c : tie.Left-loop Inv-loop μ-loop) → let turn = c .before in let judged = turn .before .before .before in let args = judged .before .before .args in turn .loop .slot ≡ turn .before .first-slot .result + find (args .address) (args .message-number) (drop (turn .before .first-slot .result) (judged .judge .result .slots))
 found c =
     let turn = c .before in
