@@ -112,7 +112,7 @@ pub rough-whole : ArrivesWhole (length (fragments line)) (places rough)
 unfolding held
 rough-whole = (1, refl)
 
--- ---- a text that does not
+-- ---- a text that does not come whole
 
 -- one free slot
 abbrev free : State

@@ -40,7 +40,7 @@ abbrev handed : Message → Event → Told → State → List (List ℕ)
 handed m event answer then = pick (isFor m event && eqb (asAnswer answer .complete) 1) (textBy answer then ∷ []) []
 
 module _ (m : Message) (event : Event) (answer : Told) (then : State) where
-  -- nothing where nothing is complete
+  -- nothing is handed out where no text is complete
   handed-none : (asAnswer answer .complete ≡ 1 → ⊥) → handed m event answer then ≡ []
   handed-none unfinished = none (isFor m event) (ne-eqb (asAnswer answer .complete) 1 unfinished)
     where
@@ -52,7 +52,7 @@ module _ (m : Message) (event : Event) (answer : Told) (then : State) where
   handed-others : isFor m event ≡ false → handed m event answer then ≡ []
   handed-others e = rw e
 
-  -- the text where it is
+  -- the text is handed out where it is complete and for the message
   handed-whole : isFor m event ≡ true → asAnswer answer .complete ≡ 1 → textBy answer then ≡ m .text → handed m event answer then ≡ m .text ∷ []
   handed-whole own complete text = rw (own, eq-eqb (asAnswer answer .complete) 1 complete, text)
 
@@ -70,7 +70,7 @@ comes-after-now count joined place row order few last =
     (λ lost. rw lost (λ is. absurd (omega arith)))
     (decided (isTaken joined place && not (eqb (place + 1) count)))
 
--- a text more, or none
+-- one text more, or none, before so many
 texts-join : (one : Bool) (rest : ℕ) (text : List ℕ) → replicate (bitOf one) text ++ replicate rest text ≡ replicate (bitOf one + rest) text
 texts-join true rest text = let more : 1 + rest ≡ suc rest = omega arith in rw more
 texts-join false rest text = rw (zero-add rest)
@@ -220,7 +220,7 @@ eight-ready bytes before room =
     let long = run-length start before in
     rw (fresh-run-sound slotCount bytes before, long .0, long .1) (le-leb (slotCount * mostCharacters) (length bytes) room)
 
--- of them the premise that the start is ready need not be asked
+-- of eight slots that began free the premise that the start is ready need not be asked
 pub eight-slots : (bytes : List ℕ) (before : List Event) → slotCount * mostCharacters ≤ length bytes
     → let start = afterAll (record { chains = fresh slotCount; bytes = bytes }) before in
     (m : Message) (air : List Arrival) → (isReady start ≡ true → Premises ours m start air) → Promised ours m start air

@@ -23,7 +23,7 @@ isTaken joined place = eqb place 0 || eqb place joined
 abbrev pub handsOut : ℕ → ℕ → ℕ → Bool
 handsOut count joined place = isTaken joined place && eqb (place + 1) count
 
--- how many fragments are joined then
+-- how many fragments are joined after a copy
 abbrev pub joinedAfter : ℕ → ℕ → ℕ → ℕ
 joinedAfter count joined place = pick (isTaken joined place && not (eqb (place + 1) count)) (place + 1) 0
 
@@ -45,7 +45,7 @@ after-first [] order = refl
 after-first (place ∷ row) order = rw (le-leb 0 place (omega arith)) order
 
 module _ (count : ℕ) where
-  -- a copy that is not taken leaves no chain open;
+  -- a copy that is not taken leaves no chain open
   not-taken : (joined place : ℕ) (row : List ℕ) → isTaken joined place ≡ false → delivered count joined (place ∷ row) ≡ delivered count 0 row
   unfolding delivered
   not-taken joined place row other = rw other (zero-add (delivered count 0 row))
@@ -65,7 +65,7 @@ module _ (count : ℕ) where
   Rises earlier [] = Unit
   Rises earlier (place ∷ row) = (earlier ≤ place) × (place < count) × Rises place row
 
-  -- a row in order, of places that there are, is such a row
+  -- in a row in order after a place, of places that there are, no place falls
   row-rises : (earlier : ℕ) (row : List ℕ) → inOrder (earlier ∷ row) ≡ true → all (λ place. ltb place count) row ≡ true → Rises earlier row
   unfolding Rises neighbours all
   row-rises earlier [] order within = tt

@@ -25,7 +25,7 @@ module _ (words : List ℕ) where
   pub fragment-small : headingIn words .«fragment_number» ≤ 3
   fragment-small = omega arith
 
-  -- N has six
+  -- N of any row of words has six bits
   pub message-small : headingIn words .«message_number» ≤ 63
   message-small = omega arith
 
@@ -92,7 +92,7 @@ module _ (c : Chain) (h : FragmentRead) where
   wrong-total turn fits ends other =
       rw (eq-eqb (h .«fragment_number») (c .«next_fragment») turn, le-ltb mostCharacters (charactersAfter c h) fits, ends, ne-eqb (sumAfter c h) 127 other)
 
-  -- one of which all holds goes on where C is 1
+  -- a chain that takes a fragment goes on where C is 1
   pub goes-on : Taken → goesOn h ≡ true → fate c h ≡ grows (grown c h)
   unfolding fate
   goes-on t on = rw (eq-eqb (h .«fragment_number») (c .«next_fragment») (t .turn), le-ltb mostCharacters (charactersAfter c h) (t .fits), on)
@@ -103,7 +103,7 @@ module _ (c : Chain) (h : FragmentRead) where
   is-whole t ends =
       rw (eq-eqb (h .«fragment_number») (c .«next_fragment») (t .turn), le-ltb mostCharacters (charactersAfter c h) (t .fits), ends, eq-eqb (sumAfter c h) 127 (t .total ends))
 
-  -- 15: 1,008 characters have room and one more has not: of a fragment in its turn the text is too long exactly if
+  -- 15: of a fragment in its turn the text is too long exactly if it comes to more than 1,008 characters
   pub join-room : h .«fragment_number» ≡ c .«next_fragment» → (fate c h ≡ lost TooLong) ↔ (1008 < c .characters + h .characters)
   unfolding fate
   join-room turn = (there, back)

@@ -31,7 +31,7 @@ pub record Slot (c : Chain) : Type 0 where
   pub opened : isOpen c ≡ true → Limits c
   pub closed : isOpen c ≡ false → c ≡ blank
 
--- a record that is all zero is such a one
+-- a record that is all zero is a slot's
 pub blank-slot : Slot blank
 blank-slot = record { opened = λ is. absurd (false≢true is); closed = λ shut. refl }
 
@@ -132,7 +132,7 @@ module _ (address n : ℕ) (row : List Chain) where
   pub not-found : holds address n row ≡ false → find address n row ≡ length row
   not-found = none-at (isOf address n) row
 
-  -- where no slot has it, it has no open chain
+  -- where no slot has a key's open chain, the key has none
   pub none-holds : ((i : ℕ) → i < length row → isOf address n (getD row i blank) ≡ false) → holds address n row ≡ false
   none-holds = is-none (isOf address n) row blank
 
@@ -147,7 +147,7 @@ pub record Sound (row : List Chain) : Type 0 where
   pub slots : (i : ℕ) → i < length row → Slot (getD row i blank)
   pub apart : Apart row
 
--- a row that is sound is that
+-- a row that is sound is as 01 has it
 sound-says : (row : List Chain) → sound row ≡ true → Sound row
 unfolding sound
 sound-says [] e = record { slots = λ i within. absurd (omega arith); apart = λ i j before within. absurd (omega arith) }

@@ -31,7 +31,7 @@ module _ (row : List Chain) (address n : ℕ) where
     pub small : address ≤ 31
     pub is-open : holds address n row ≡ true
 
-  -- nothing is refused exactly then
+  -- nothing is refused exactly if the chain can be dropped so
   pub drop-accepted : (numberTold (dropOf row address n) ≡ 0) ↔ Droppable
   unfolding dropOf
   drop-accepted = (there, back)
@@ -80,7 +80,7 @@ module _ (row : List Chain) (address n : ℕ) where
   pub drop-length : length (droppedFrom row address n) ≡ length row
   drop-length = drop-by (λ r. length r ≡ length row) (length-set row (find address n row) blank) refl
 
-  -- of another key nothing changes
+  -- a drop changes nothing of another key
   pub drop-others : (whose number : ℕ) → OtherKey whose number address n → Kept whose number row (droppedFrom row address n)
   drop-others whose number other =
       drop-by (Kept whose number row) (kept-set whose number row (find address n row) blank (other-found whose number row address n other) refl) (kept-same whose number row)

@@ -67,7 +67,7 @@ module _ (row : List Chain) (address : ℕ) (h : FragmentRead) where
   -- ---- the row stays sound
 
   module _ (good : sound row ≡ true) where
-    -- with the older chain of its key closed
+    -- the row is sound with the older chain of its key closed
     pub cleared-sound : sound (cleared row address h) ≡ true
     cleared-sound = ⊎-elim (λ first. rw first (clear-sound row (olderSlot row address h) good)) (λ later. rw later good) (decided (isFirst h))
 
@@ -85,7 +85,7 @@ module _ (row : List Chain) (address : ℕ) (h : FragmentRead) where
         (decided (isFirst h))
 
     module _ (small : address ≤ 31) (message : h .«message_number» ≤ 63) (has : isFirst h ≡ false → known row address h ≡ true) where
-      -- with the record that the fragment leaves
+      -- the row is sound with the record that the fragment leaves
       pub after-sound : sound (rowAfter row address h) ≡ true
       after-sound =
           let before = before-of has in
@@ -95,7 +95,7 @@ module _ (row : List Chain) (address : ℕ) (h : FragmentRead) where
           let key = record-key (chainBefore row address h) h is in
           rw (key .0 ∙ before .1, key .1 ∙ before .2) (alone j other))
 
-    -- a record that is all zero then: the key's chain is closed, and nothing else changed
+    -- where the fragment leaves a record that is all zero, the key's chain is closed, and nothing else changed
     pub closes : recordAfter (fateOf row address h) ≡ blank → rowAfter row address h ≡ set row (olderSlot row address h) blank
     closes shut =
         rw shut
@@ -115,7 +115,7 @@ module _ (row : List Chain) (address : ℕ) (h : FragmentRead) where
 
   -- ---- other keys
 
-  -- of another key nothing changes
+  -- a fragment changes nothing of another key
   pub others-kept : (whose n : ℕ) → OtherKey whose n address (h .«message_number») → Kept whose n row (rowAfter row address h)
   others-kept whose n other = ⊎-elim as-first as-later (decided (isFirst h))
     where

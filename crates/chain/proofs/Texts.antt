@@ -45,7 +45,7 @@ module _ (row : List Chain) (address : ℕ) (words buffer : List ℕ) where
     pub within-slot : endPlace row address (headingIn words) + length (textIn words) ≤ (slotFor row address (headingIn words) + 1) * 1008
     within-slot = omega (arith, a .taken .fits)
 
-    -- its slot is within the lent bytes
+    -- the fragment's slot is within the lent bytes
     pub slot-within : (slotFor row address (headingIn words) + 1) * 1008 ≤ length buffer
     slot-within = omega (arith, a .free, a .heard .room)
 

@@ -18,7 +18,7 @@ use Rattle.chain.specs.Chains.{blank, find, firstFree}
 abbrev pub headingIn : List ℕ → FragmentRead
 headingIn words = asFragment (headingTold words)
 
--- whether it is a first one
+-- whether a fragment is a first one
 abbrev pub isFirst : FragmentRead → Bool
 isFirst h = eqb (h .«fragment_number») firstNumber
 
@@ -72,7 +72,7 @@ fate c h =
     (losing (not (eqb (sumAfter c h) 127)) Signature
     whole)))
 
--- the record of the slot then
+-- the record that the slot has then
 abbrev pub recordAfter : Fate → Chain
 recordAfter (lost r) = blank
 recordAfter (grows c) = c
@@ -102,11 +102,11 @@ module _ (row : List Chain) (address : ℕ) (h : FragmentRead) where
   abbrev pub chainBefore : Chain
   chainBefore = pick (isFirst h) (unbegun address (h .«message_number»)) (getD row olderSlot blank)
 
-  -- what becomes of it
+  -- what becomes of that chain
   abbrev pub fateOf : Fate
   fateOf = fate chainBefore h
 
-  -- the records then
+  -- the records after the fragment
   abbrev pub rowAfter : List Chain
   rowAfter = set cleared slotFor (recordAfter fateOf)
 

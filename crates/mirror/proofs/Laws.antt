@@ -190,7 +190,7 @@ last-other (n ∷ ns) = last-by n ns (isChecksum n) refl (last-other ns)
 pub talking-kept : (m : Mirror) (n : ℕ) → isChecksum n ≡ true → talks m ≡ true → stepOf m n ≡ m
 talking-kept m n check talking = rw (check, talking)
 
--- by whether the packet is a checksum
+-- a silent decoder stays silent under a packet that does not hold the register, by whether it is a checksum
 silent-by : (m : Mirror) (n : ℕ) (check : Bool) → isChecksum n ≡ check → talks m ≡ false → (dataOf n ≡ m .register → ⊥) → talks (stepOf m n) ≡ false
 silent-by m n true check silent wrong = checksum-talks m n check ∙ rw (silent, ne-eqb (dataOf n) (m .register) wrong)
 silent-by m n false other silent wrong = ap (λ (t : ℕ). not (eqb t 0)) (other-silences m n other)
@@ -235,7 +235,7 @@ stays-sound m (n ∷ ns) small =
     (ap (λ (r : ℕ). ltb r (2 ^ 24)) (step-register m n)
     ∙ sound-by (leftOut n) (m .register) (dataOf n) (ltb-true (m .register) (2 ^ 24) small) (omega arith))
 
--- 24 data bits or none
+-- the data bits of a packet, or 0 in their place, are 24 bits
 kept-sound : (good : Bool) (n : ℕ) → ltb (kept good (dataOf n)) (2 ^ 24) ≡ true
 kept-sound true n = lt-ltb (dataOf n) (2 ^ 24) (omega arith)
 kept-sound false n = refl

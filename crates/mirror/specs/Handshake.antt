@@ -16,11 +16,11 @@ use Rattle.packet.specs.declared.Built.{Built}
 use Rattle.mirror.specs.declared.Mirror.{Mirror}
 use Rattle.mirror.specs.declared.Mirrored.{Mirrored}
 
--- S8.4.6
+-- whether a packet is a checksum (S8.4.6)
 abbrev pub isChecksum : ℕ → Bool
 isChecksum n = eqb (idOf n) checksumID
 
--- 1CH to 1FH
+-- whether a packet is one of 1CH to 1FH
 abbrev pub isSpecial : ℕ → Bool
 isSpecial n = among firstSpecialID lastSpecialID (idOf n)
 

@@ -87,7 +87,7 @@ mul-t19 c = search needs
 element-set-from-judged : tie.Need-element-set-from-judged Inv-loop μ-loop
 element-set-from-judged c = search needs
 
--- its record is cleared, where there is one
+-- the record of the slot found is cleared, where there is one
 cleared : (c : tie.Joined2 Inv-loop μ-loop) → let turn = c .before .before in c .if2 .judged .slots ≡ set (turn .before .before .before .judge .result .slots) (turn .loop .slot) blank
 cleared c =
     let turn = c .before .before in

@@ -34,7 +34,7 @@ long c = search needs
 there : (c : tie.After-turn-of) → let start = c .before .before .before in c .turn-of .result ≡ turnOf (start .args .slots) (start .args .address) (start .args .heading)
 there c = c .turn-of .ensures
 
--- it is none of a key without a chain
+-- the fragment is no later one of a key without a chain
 no-orphan : (c : tie.Else1) → let stored = c .before .before .before in let found = stored .before .before .before in let start = found .before .before .before in orphan (start .args .slots) (start .args .address) (start .args .heading) ≡ false
 no-orphan c =
     let stored = c .before .before .before in
@@ -49,7 +49,7 @@ fate-is c =
     let h = found .before .before .before .args .heading in
     c .fate .ensures ∙ ap (λ (t : Turn). asFate (fate (t .chain) h)) (there found)
 
--- the records then
+-- the records after the fragment
 row-is : (c : tie.After-stored2) → let found = c .before .before .before in let start = found .before .before .before in c .stored2 .result ≡ rowAfter (start .args .slots) (start .args .address) (start .args .heading)
 row-is c =
     let found = c .before .before .before in
