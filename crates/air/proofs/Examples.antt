@@ -28,8 +28,8 @@ abbrev saying : ℕ → ℕ → ℕ → List ℕ → Message
 saying address n largest text =
     record { address = address; marks = record { «message_number» = n; retrieval = 0; «mail_drop» = 0 }; largest = largest; text = text }
 
--- a line for a picker, for address number 7 with N 5, in fragments of two words: "TA", "KE ", "28 ", "CAB" and "LES". T and A make 149, the three after them 512, which is 4 times 128,
--- and the last 228: 889, whose low seven bits are 121, so that S is 6
+-- a line for a picker, for address number 7 with N 5, in fragments of two words: "TA", "KE ", "28 ", "CAB" and "LES". T and A
+-- make 149, the three after them 512, which is 4 times 128, and the last 228: 889, whose low seven bits are 121, so that S is 6
 abbrev line : Message
 line = saying 7 5 2 (bytesOf "TAKE 28 CABLES")
 

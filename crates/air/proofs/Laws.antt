@@ -63,7 +63,8 @@ abbrev ComesAfter : ℕ → List ℕ → Type 0
 ComesAfter joined row = (last : ℕ) → joined ≡ suc last → (inOrder (last ∷ row) ≡ true) × (losesFew (last ∷ row) ≡ true)
 
 -- the copies that come after a copy follow the last one that a chain has joined then
-comes-after-now : (count joined place : ℕ) (row : List ℕ) → inOrder (place ∷ row) ≡ true → losesFew (place ∷ row) ≡ true → ComesAfter (joinedAfter count joined place) row
+comes-after-now : (count joined place : ℕ) (row : List ℕ) → inOrder (place ∷ row) ≡ true → losesFew (place ∷ row) ≡ true
+    → ComesAfter (joinedAfter count joined place) row
 comes-after-now count joined place row order few last =
     ⊎-elim
     (λ taken. rw taken (λ is. let same : last ≡ place = omega arith in rw same (order, few)))
@@ -76,7 +77,8 @@ texts-join true rest text = let more : 1 + rest ≡ suc rest = omega arith in rw
 texts-join false rest text = rw (zero-add rest)
 
 -- what a state makes of a copy is what the receiver makes of its place
-copy-step : (m : Message) → isCut m ≡ true → (s : State) (joined place : ℕ) (row : List ℕ) → Holding m s joined → place < countOf m → mayCome m s (copy place) ≡ true → ComesAfter joined (place ∷ row)
+copy-step : (m : Message) → isCut m ≡ true → (s : State) (joined place : ℕ) (row : List ℕ)
+    → Holding m s joined → place < countOf m → mayCome m s (copy place) ≡ true → ComesAfter joined (place ∷ row)
     → let event = came (m .address) (part m place) in
     Holding m (after s event) (joinedAfter (countOf m) joined place)
     × (handed m event (answerTo s event) (after s event) ≡ replicate (bitOf (handsOut (countOf m) joined place)) (m .text))
@@ -169,7 +171,8 @@ other-step m s joined (dropped whose n) h may = (
 
 -- the row, seen through the message's key, is the receiver: over any arrivals it hands out the text as often
 simulated : (m : Message) → isCut m ≡ true → (s : State) (joined : ℕ) (air : List Arrival) → Holding m s joined
-    → all (λ place. ltb place (countOf m)) (places air) ≡ true → inOrder (places air) ≡ true → losesFew (places air) ≡ true → ComesAfter joined (places air) → undisturbed ours m s air ≡ true
+    → all (λ place. ltb place (countOf m)) (places air) ≡ true → inOrder (places air) ≡ true → losesFew (places air) ≡ true
+    → ComesAfter joined (places air) → undisturbed ours m s air ≡ true
     → textsOut ours m s air ≡ replicate (delivered (countOf m) joined (places air)) (m .text)
 unfolding textsOut delivered places undisturbed all
 simulated m cuts s joined [] h below order few coming quiet = refl
@@ -177,7 +180,8 @@ simulated m cuts s joined (other event ∷ air) h below order few coming quiet =
     let may = first-of (mayCome m s (other event)) (undisturbed ours m (after s event) air) quiet in
     let one = other-step m s joined event h may in
     rw (one .1)
-    (simulated m cuts (after s event) joined air (one .0) below order few coming (second-of (mayCome m s (other event)) (undisturbed ours m (after s event) air) quiet))
+    (simulated m cuts (after s event) joined air (one .0) below order few coming
+    (second-of (mayCome m s (other event)) (undisturbed ours m (after s event) air) quiet))
 simulated m cuts s joined (copy place ∷ air) h below order few coming quiet =
     let event = eventOf m (copy place) in
     let may = first-of (mayCome m s (copy place)) (undisturbed ours m (after s event) air) quiet in

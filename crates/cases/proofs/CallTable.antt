@@ -72,7 +72,8 @@ calls-kept s ended =
     (number-asked (isShort (s .memory)) refusals.Room (given []) 0 refl)
 
 -- the lines stand in the table's order: its numbers, some left out
-pub call-lines-in-order : (s : State) (event : Event) → isPartOf (map {A = Line} {B = ℕ} (λ line. numberOf (line .refusal)) (callLinesFor s event)) (map numberOf order) ≡ true
+pub call-lines-in-order : (s : State) (event : Event)
+    → isPartOf (map {A = Line} {B = ℕ} (λ line. numberOf (line .refusal)) (callLinesFor s event)) (map numberOf order) ≡ true
 unfolding isPartOf order
 call-lines-in-order s (addressed n) = refl
 call-lines-in-order s (heard n) = refl

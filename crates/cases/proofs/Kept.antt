@@ -131,7 +131,8 @@ words-kept = (
   λ row none. others-refused row (λ address words. none address (words-accepted address row words) words),
 )
   where
-    by-class : (address : ℕ) (class : Classed) → classOf address ≡ class → found class ≡ true → (row : List ℕ) × (wordsOf address ≡ given row) × (addressOf row ≡ given (address ∷ []))
+    by-class : (address : ℕ) (class : Classed) → classOf address ≡ class → found class ≡ true
+        → (row : List ℕ) × (wordsOf address ≡ given row) × (addressOf row ≡ given (address ∷ []))
     by-class address (Classed.In class) e is =
         let row = wordsAs (layoutOf class) address in
         let words : wordsOf address ≡ given row = sym (known-class address e) in

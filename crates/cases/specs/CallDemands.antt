@@ -1,4 +1,5 @@
--- Demand 1 of calls: the lines of 01's table that tell of an address, of a vector or message packet and of an end of frame, each with a test that stands by itself.
+-- Demand 1 of calls: the lines of 01's table that tell of an address, of a vector or message packet and of an end of
+-- frame, each with a test that stands by itself.
 use Prim.Native.Nat.{ℕ}
 use mathlib.Core.Bool.{Bool, not, _&&_, _||_}
 use mathlib.Core.List.{List, [], _∷_}

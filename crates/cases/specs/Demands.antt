@@ -92,8 +92,9 @@ message (dropped address n) = n
 abbrev pub closesChain : ℕ → Bool
 closesChain number = leb 14 number && leb number 16
 
--- the records after a refusal: 14, 15 and 16 close the chain of the event's key, and every other refusal leaves the records as they were. Where no chain of the key is open,
--- the place found is the one past the row, and there is none to close
+-- the records after a refusal: 14, 15 and 16 close the chain of the event's key, and every other refusal leaves the
+-- records as they were. Where no chain of the key is open, the place found is the one past the row, and there is none
+-- to close
 abbrev pub chainsRefused : ℕ → State → Event → List Chain
 chainsRefused number s event = pick (closesChain number) (set (s .chains) (find (whose event) (message event) (s .chains)) blank) (s .chains)
 

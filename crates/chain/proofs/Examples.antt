@@ -39,7 +39,8 @@ two = 0x00A616 ∷ 0x13E64C ∷ []
 abbrev pub three : List ℕ
 three = 0x00AA40 ∷ 0x1166A0 ∷ []
 
--- the sums of the three: 89, 72 and 69 make 230, of which 102 is left; 76, 76 and 79 make 231, of which 103 is left; 32, 77 and 69 make 178, of which 50 is left
+-- the sums of the three: 89, 72 and 69 make 230, of which 102 is left; 76, 76 and 79 make 231, of which 103 is left; 32,
+-- 77 and 69 make 178, of which 50 is left
 pub told-of-three : map headingOf (one ∷ two ∷ three ∷ []) ≡ given (1 ∷ 3 ∷ 5 ∷ 0 ∷ 0 ∷ 89 ∷ 102 ∷ 2 ∷ []) ∷ given (1 ∷ 0 ∷ 5 ∷ 0 ∷ 0 ∷ 0 ∷ 103 ∷ 3 ∷ []) ∷ given (0 ∷ 1 ∷ 5 ∷ 0 ∷ 0 ∷ 0 ∷ 50 ∷ 3 ∷ []) ∷ []
 unfolding headingOf cellsOf withoutFill digits sumBy all
 told-of-three = refl

@@ -96,7 +96,10 @@ module _ (row : List Chain) (address : ℕ) (words buffer : List ℕ) where
           let inside = slot-within a in
           ⊎-elim
           (λ lower. let before = ltb-true i (slotFor row address (headingIn words)) lower in put-keeps-before buffer (textIn words) (endPlace row address (headingIn words)) (getD row i blank .characters) (i * 1008) (omega arith) (omega arith))
-          (λ higher. let above = ltb-false i (slotFor row address (headingIn words)) higher in ap (take (getD row i blank .characters)) (put-keeps-behind buffer (textIn words) (endPlace row address (headingIn words)) (i * 1008) (omega arith) (omega arith)))
+          (λ higher.
+          let above = ltb-false i (slotFor row address (headingIn words)) higher in
+          ap (take (getD row i blank .characters))
+          (put-keeps-behind buffer (textIn words) (endPlace row address (headingIn words)) (i * 1008) (omega arith) (omega arith)))
           (decided (ltb i (slotFor row address (headingIn words))))
 
   -- ---- a text handed out

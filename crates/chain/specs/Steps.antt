@@ -1,4 +1,5 @@
--- What a fragment does to a chain and to a row of chains (document 01, "A good first fragment closes an open chain of its key"). What a drop does is in specs/Answers.
+-- What a fragment does to a chain and to a row of chains (document 01, "A good first fragment closes an open chain of
+-- its key"). What a drop does is in specs/Answers.
 use Prim.Native.Nat.{ℕ, _+_, _*_, _%_, _^_}
 use mathlib.Core.Bool.{Bool, true, false, not}
 use mathlib.Core.List.{List}

@@ -28,11 +28,17 @@ room c =
     omega (arith, long start, c .if1 .left)
 
 -- the records are sound
-right : (c : tie.Else2) → let lent = c .before .before in let start = lent .before .before .before .before in sound (start .args .chains .slots) ≡ true
+right : (c : tie.Else2)
+    → let lent = c .before .before in
+    let start = lent .before .before .before .before in
+    sound (start .args .chains .slots) ≡ true
 right c = sym (c .before .sound .ensures) ∙ not-false (c .before .sound .result) (c .if2 .left)
 
 -- what the fragment tells
-told-of : (c : tie.After-heading) → let lent = c .before .before .before .before in let start = lent .before .before .before .before in c .heading .result .number ≡ numberTold (headingOf (start .args .words .now))
+told-of : (c : tie.After-heading)
+    → let lent = c .before .before .before .before in
+    let start = lent .before .before .before .before in
+    c .heading .result .number ≡ numberTold (headingOf (start .args .words .now))
 told-of c = ap (λ (f : FragmentRead). f .number) (c .heading .ensures)
 
 mul-if1 : tie.Need-mul-if1
@@ -48,9 +54,13 @@ returns : tie.Need-returns
 returns c =
     let short = c .before .before in
     let start = short .before .before .before .before in
-    stops-early (start .args .chains .slots) (start .args .address) (start .args .words .now) (start .args .buffer .now) (c .unchanged .result) 1 (λ none. omega arith)
-    (no-room (start .args .chains .slots) (start .args .address) (start .args .words .now) (length (start .args .buffer .now)) (omega (arith, long start, short .if1 .taken)))
-    (c .unchanged .ensures ∙ ap (λ (n : ℕ). asStep (told n []) (start .args .chains .slots)) (c .before .number .ensures))
+    let row = start .args .chains .slots in
+    let address = start .args .address in
+    let words = start .args .words .now in
+    let buffer = start .args .buffer .now in
+    stops-early row address words buffer (c .unchanged .result) 1 (λ none. omega arith)
+    (no-room row address words (length buffer) (omega (arith, long start, short .if1 .taken)))
+    (c .unchanged .ensures ∙ ap (λ (n : ℕ). asStep (told n []) row) (c .before .number .ensures))
 
 sound-requires : tie.Need-sound-requires
 sound-requires c κs = search needs
@@ -66,9 +76,13 @@ returns-2 c =
     let judged = c .before .before .before in
     let lent = judged .before in
     let start = lent .before .before .before .before in
-    stops-early (start .args .chains .slots) (start .args .address) (start .args .words .now) (start .args .buffer .now) (c .unchanged2 .result) 2 (λ none. omega arith)
-    (unsound (start .args .chains .slots) (start .args .address) (start .args .words .now) (length (start .args .buffer .now)) (room lent) (sym (judged .sound .ensures) ∙ not-true (judged .sound .result) (c .before .before .if2 .taken)))
-    (c .unchanged2 .ensures ∙ ap (λ (n : ℕ). asStep (told n []) (start .args .chains .slots)) (c .before .number2 .ensures))
+    let row = start .args .chains .slots in
+    let address = start .args .address in
+    let words = start .args .words .now in
+    let buffer = start .args .buffer .now in
+    stops-early row address words buffer (c .unchanged2 .result) 2 (λ none. omega arith)
+    (unsound row address words (length buffer) (room lent) (sym (judged .sound .ensures) ∙ not-true (judged .sound .result) (c .before .before .if2 .taken)))
+    (c .unchanged2 .ensures ∙ ap (λ (n : ℕ). asStep (told n []) row) (c .before .number2 .ensures))
 
 number-requires-3 : tie.Need-number-requires-3
 number-requires-3 c κs = search needs
@@ -81,9 +95,13 @@ returns-3 c =
     let sane = c .before .before .before in
     let lent = sane .before .before in
     let start = lent .before .before .before .before in
-    stops-early (start .args .chains .slots) (start .args .address) (start .args .words .now) (start .args .buffer .now) (c .unchanged3 .result) 8 (λ none. omega arith)
-    (no-address (start .args .chains .slots) (start .args .address) (start .args .words .now) (length (start .args .buffer .now)) (room lent) (right sane) (c .before .before .if3 .taken))
-    (c .unchanged3 .ensures ∙ ap (λ (n : ℕ). asStep (told n []) (start .args .chains .slots)) (c .before .number3 .ensures))
+    let row = start .args .chains .slots in
+    let address = start .args .address in
+    let words = start .args .words .now in
+    let buffer = start .args .buffer .now in
+    stops-early row address words buffer (c .unchanged3 .result) 8 (λ none. omega arith)
+    (no-address row address words (length buffer) (room lent) (right sane) (c .before .before .if3 .taken))
+    (c .unchanged3 .ensures ∙ ap (λ (n : ℕ). asStep (told n []) row) (c .before .number3 .ensures))
 
 heading-requires : tie.Need-heading-requires
 heading-requires c κs = search needs
@@ -97,10 +115,14 @@ returns-4 c =
     let sane = headed .before .before in
     let lent = sane .before .before in
     let start = lent .before .before .before .before in
-    let some : numberTold (headingOf (start .args .words .now)) ≡ 0 → ⊥ = λ none. c .before .if4 .taken (told-of headed ∙ none) in
-    stops-early (start .args .chains .slots) (start .args .address) (start .args .words .now) (start .args .buffer .now) (c .unchanged4 .result) (numberTold (headingOf (start .args .words .now))) some
-    (no-fragment (start .args .chains .slots) (start .args .address) (start .args .words .now) (length (start .args .buffer .now)) (room lent) (right sane) (headed .before .if3 .left) some)
-    (c .unchanged4 .ensures ∙ ap (λ (n : ℕ). asStep (told n []) (start .args .chains .slots)) (told-of headed))
+    let row = start .args .chains .slots in
+    let address = start .args .address in
+    let words = start .args .words .now in
+    let buffer = start .args .buffer .now in
+    let some : numberTold (headingOf words) ≡ 0 → ⊥ = λ none. c .before .if4 .taken (told-of headed ∙ none) in
+    stops-early row address words buffer (c .unchanged4 .result) (numberTold (headingOf words)) some
+    (no-fragment row address words (length buffer) (room lent) (right sane) (headed .before .if3 .left) some)
+    (c .unchanged4 .ensures ∙ ap (λ (n : ℕ). asStep (told n []) row) (told-of headed))
 
 join-requires : tie.Need-join-requires
 join-requires c κs =
@@ -108,8 +130,9 @@ join-requires c κs =
     let sane = headed .before .before in
     let lent = sane .before .before in
     let start = lent .before .before .before .before in
+    let words = start .args .words .now in
     let none = sym (told-of headed) ∙ c .before .if4 .left in
-    (right sane, (omega (arith, long start, room lent), headed .heading .ensures ∙ ap asFragment (heading-told (start .args .words .now) (accepted (start .args .words .now) .0 none))))
+    (right sane, (omega (arith, long start, room lent), headed .heading .ensures ∙ ap asFragment (heading-told words (accepted words .0 none))))
 
 same-length : tie.Need-same-length
 same-length c = search needs
@@ -122,7 +145,10 @@ returns-5 c =
     let sane = headed .before .before in
     let lent = sane .before .before in
     let start = lent .before .before .before .before in
-    goes-late (start .args .chains .slots) (start .args .address) (start .args .words .now) (start .args .buffer .now) (joined .join .result) _ (room lent) (right sane) (headed .before .if3 .left) (sym (told-of headed) ∙ good .if4 .left)
+    let args = start .args in
+    goes-late (args .chains .slots) (args .address) (args .words .now) (args .buffer .now) (joined .join .result) _ (room lent) (right sane)
+    (headed .before .if3 .left)
+    (sym (told-of headed) ∙ good .if4 .left)
     (joined .join .ensures .0)
     (joined .join .ensures .1)
 
