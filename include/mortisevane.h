@@ -828,7 +828,10 @@ struct mortisevane_mirror {
     uint32_t talking;
 };
 
-/* The mirror after what was done; `number` is 0, or the refusal's and the mirror is as it was. */
+/*
+ * The mirror after what was done; `number` is 0, or the refusal's. After a refusal the mirror is
+ * the one that was handed in; `reset`, which is handed none, gives one of zeros.
+ */
 struct mortisevane_mirrored {
     uint32_t number;
     struct mortisevane_mirror mirror;

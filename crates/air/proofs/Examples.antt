@@ -28,8 +28,8 @@ abbrev saying : ℕ → ℕ → ℕ → List ℕ → Message
 saying address n largest text =
     record { address = address; marks = record { «message_number» = n; retrieval = 0; «mail_drop» = 0 }; largest = largest; text = text }
 
--- a line for a picker, for address number 7 with N 5, in fragments of two words: "TA", "KE ", "28 ", "CAB" and "LES". T and A make 149, the three behind them 512, which is 4 times 128,
--- and the last 228: 889, whose low seven bits are 121, so that S is 6
+-- a line for a picker, for address number 7 with N 5, in fragments of two words: "TA", "KE ", "28 ", "CAB" and "LES". T and A
+-- make 149, the three after them 512, which is 4 times 128, and the last 228: 889, whose low seven bits are 121, so that S is 6
 abbrev line : Message
 line = saying 7 5 2 (bytesOf "TAKE 28 CABLES")
 
@@ -92,27 +92,27 @@ rough =
     ∷ other (dropped 7 5)
     ∷ []
 
--- .. the answers, by 01's number
+-- the answers in the rough air, by 01's number
 pub rough-told : map {B = ℕ} numberTold (answers begun (map (eventOf line) rough)) ≡ 0 ∷ 0 ∷ 11 ∷ 10 ∷ 9 ∷ 0 ∷ 0 ∷ 0 ∷ 0 ∷ 0 ∷ 0 ∷ 0 ∷ 0 ∷ 0 ∷ 13 ∷ 13 ∷ []
 unfolding held
 rough-told = refl
 
--- .. all is as it is taken for granted
+-- in the rough air all is as it is taken for granted
 pub rough-premises : Premises ours line begun rough
 unfolding held
 rough-premises = all-held line begun rough refl
 
--- .. the text is handed out, once
+-- in the rough air the text is handed out, once
 pub rough-text : textsOut ours line begun rough ≡ bytesOf "TAKE 28 CABLES" ∷ []
 unfolding held
 rough-text = refl
 
--- .. and after the last good arrival of the first fragment come 1, 2, 3, 4, and 4 once more
+-- in the rough air, after the last good arrival of the first fragment, come 1, 2, 3, 4, and 4 once more
 pub rough-whole : ArrivesWhole (length (fragments line)) (places rough)
 unfolding held
 rough-whole = (1, refl)
 
--- ---- a text that does not
+-- ---- a text that does not come whole
 
 -- one free slot
 abbrev free : State
@@ -122,17 +122,17 @@ free = record { chains = fresh 1; bytes = replicate 1008 0 }
 abbrev broken : List Arrival
 broken = copy 0 ∷ copy 1 ∷ copy 3 ∷ copy 4 ∷ []
 
--- .. all is as it is taken for granted
+-- with the third fragment lost all is as it is taken for granted
 pub broken-premises : Premises ours line free broken
 unfolding held
 broken-premises = all-held line free broken refl
 
--- .. nothing is handed out
+-- with the third fragment lost nothing is handed out
 pub broken-silent : textsOut ours line free broken ≡ []
 unfolding held
 broken-silent = refl
 
--- .. and the fragments do not arrive whole: behind 0 and 1 stands 3
+-- with the third fragment lost the fragments do not arrive whole: after 0 and 1 stands 3
 pub broken-not-whole : ArrivesWhole (length (fragments line)) (places broken) → ⊥
 unfolding held
 broken-not-whole (again, e) = eqb-false 3 2 refl (ap (λ row. getD row 2 0) e)
@@ -173,52 +173,52 @@ pub cuts-etx : Needed 0 (saying 7 5 2 (bytesOf "TAKE" ++ 0x03 ∷ bytesOf "28 CA
 unfolding held
 cuts-etx = misread 4 refl refl refl
 
--- .. a character of eight bits: the sum does not fit, 16
+-- cuts: with a character of eight bits the sum does not fit, 16
 pub cuts-high : Needed 0 (saying 7 5 2 (0x80 ∷ [])) free (copy 0 ∷ []) []
 unfolding held
 cuts-high = silent 0 refl refl refl
 
--- .. address number 32: each fragment is refused, 8
+-- cuts: of address number 32 each fragment is refused, 8
 pub cuts-address : Needed 0 (saying 32 5 2 (bytesOf "TAKE 28 CABLES")) free inTurn []
 unfolding held
 cuts-address = silent 0 refl refl refl
 
--- .. N of 64 is read as 0, and the text is handed out for that
+-- cuts: N of 64 is read as 0, and the text is handed out for that
 pub cuts-number : Needed 0 (saying 7 64 2 (bytesOf "TAKE 28 CABLES")) free inTurn []
 unfolding held
 cuts-number = silent 0 refl refl refl
 
--- .. of fragments of one word there are none: where nothing comes, all of them came
+-- cuts: fragments of one word are none, and where nothing comes, all of them came
 pub cuts-one-word : Needed 0 (saying 7 5 1 (bytesOf "TAKE 28 CABLES")) free [] []
 unfolding held
 cuts-one-word = silent 0 refl refl refl
 
--- .. a fragment of 86 words is refused, 9
+-- cuts: a fragment of 86 words is refused, 9
 pub cuts-large : Needed 0 (saying 7 5 86 (replicate 254 65)) free (copy 0 ∷ []) []
 unfolding held
 cuts-large = silent 0 refl refl refl
 
--- .. of 1,009 characters the last fragment is refused, 15
+-- cuts: of 1,009 characters the last fragment is refused, 15
 pub cuts-long : Needed 0 (saying 7 5 85 (replicate 1009 65)) free inTurn []
 unfolding held
 cuts-long = silent 0 refl refl refl
 
--- copies: one of a place behind the last, where no words are
-abbrev behind : List Arrival
-behind = inTurn ++ copy 5 ∷ []
+-- copies: one of a place past the last, where no words are
+abbrev pastLast : List Arrival
+pastLast = inTurn ++ copy 5 ∷ []
 
--- .. behind the last place comes that place again or nothing
+-- after the last place comes that place again or nothing
 after-last : (again : ℕ) → getD (upFrom 0 5 ++ replicate again 4) 5 4 ≡ 4
 unfolding upFrom
 after-last zero = refl
 after-last (suc again) = refl
 
--- .. the text is handed out, but what came is not the five fragments and the last again
-pub copies-behind : Needed 1 line free behind (bytesOf "TAKE 28 CABLES" ∷ [])
+-- with a copy of a place past the last the text is handed out, but what came is not the five fragments and the last again
+pub copies-past : Needed 1 line free pastLast (bytesOf "TAKE 28 CABLES" ∷ [])
 unfolding held
-copies-behind = record { alone = refl; handed = refl; fails = λ promised. not-whole (promised .exactly .0 (omega arith)) }
+copies-past = record { alone = refl; handed = refl; fails = λ promised. not-whole (promised .exactly .0 (omega arith)) }
   where
-    not-whole : ArrivesWhole 5 (places behind) → ⊥
+    not-whole : ArrivesWhole 5 (places pastLast) → ⊥
     not-whole (again, e) = eqb-false 5 4 refl (ap (λ row. getD row 5 4) e ∙ after-last again)
 
 -- in-order: the three whose sum is 0 come again, each with the next F, and a longer text is handed out
@@ -236,7 +236,7 @@ pub ready-sound : Needed 4 line (record { chains = opened 3 5 3 9 4 ∷ blank �
 unfolding held
 ready-sound = silent 0 refl refl refl
 
--- .. a byte too few, 1
+-- ready: a byte too few is lent, 1
 pub ready-room : Needed 4 line (record { chains = fresh 1; bytes = replicate 1007 0 }) inTurn []
 unfolding held
 ready-room = silent 0 refl refl refl
@@ -251,12 +251,12 @@ pub quiet-alone : Needed 6 line free (copy 0 ∷ copy 1 ∷ other (came 7 (0x00A
 unfolding held
 quiet-alone = misread 5 refl refl refl
 
--- .. the chain is dropped in between
+-- quiet: the chain is dropped in between
 pub quiet-undropped : Needed 6 line free (copy 0 ∷ copy 1 ∷ other (dropped 7 5) ∷ copy 2 ∷ copy 3 ∷ copy 4 ∷ []) []
 unfolding held
 quiet-undropped = silent 0 refl refl refl
 
--- .. the first fragment finds no slot, 12, and the later ones no chain, 13
+-- quiet: the first fragment finds no slot, 12, and the later ones no chain, 13
 pub quiet-slot : Needed 6 line (record { chains = opened 3 5 2 9 4 ∷ []; bytes = replicate 1008 0 }) inTurn []
 unfolding held
 quiet-slot = silent 0 refl refl refl
@@ -275,12 +275,12 @@ pub untouched : textsOut ours line midway onward ≡ bytesOf "TAKE 28 CABLES" �
 unfolding held afterAll
 untouched = refl
 
--- .. with one byte of it changed, another
+-- with one byte of the buffer changed another text is handed out
 pub touched : textsOut ours line (record { chains = midway .chains; bytes = set (midway .bytes) 0 77 }) onward ≡ bytesOf "MAKE 28 CABLES" ∷ []
 unfolding held afterAll
 touched = refl
 
--- .. and with a fresh one none
+-- with fresh records no text is handed out
 pub reset : textsOut ours line free onward ≡ []
 unfolding held
 reset = refl

@@ -24,13 +24,13 @@ use Rattle.air.proofs.Parts.{countOf, part, count-cut, part-cut, other-
 use Rattle.air.proofs.Receiver.{isTaken, handsOut, joinedAfter, delivered, delivers}
 use Rattle.air.proofs.States.{Holding, Meets, meets-first, meets-next, taken-on, taken-whole, out-of-turn-closes, none-open, damaged-holds, others-hold, drop-holds, other-key}
 
--- of a row whose neighbours are so, those behind the first are
-neighbours-behind : (are : ℕ → ℕ → Bool) (place : ℕ) (row : List ℕ) → neighbours are (place ∷ row) ≡ true → neighbours are row ≡ true
+-- of a row whose neighbours are so, those after the first are
+neighbours-after : (are : ℕ → ℕ → Bool) (place : ℕ) (row : List ℕ) → neighbours are (place ∷ row) ≡ true → neighbours are row ≡ true
 unfolding neighbours
-neighbours-behind are place [] e = refl
-neighbours-behind are place (next ∷ row) e = second-of (are place next) (neighbours are (next ∷ row)) e
+neighbours-after are place [] e = refl
+neighbours-after are place (next ∷ row) e = second-of (are place next) (neighbours are (next ∷ row)) e
 
--- .. and so are the first two
+-- of a row whose neighbours are so, the first two are
 neighbours-first : (are : ℕ → ℕ → Bool) (earlier later : ℕ) (row : List ℕ) → neighbours are (earlier ∷ later ∷ row) ≡ true → are earlier later ≡ true
 unfolding neighbours
 neighbours-first are earlier later row e = first-of (are earlier later) (neighbours are (later ∷ row)) e
@@ -40,7 +40,7 @@ abbrev handed : Message → Event → Told → State → List (List ℕ)
 handed m event answer then = pick (isFor m event && eqb (asAnswer answer .complete) 1) (textBy answer then ∷ []) []
 
 module _ (m : Message) (event : Event) (answer : Told) (then : State) where
-  -- nothing where nothing is complete
+  -- nothing is handed out where no text is complete
   handed-none : (asAnswer answer .complete ≡ 1 → ⊥) → handed m event answer then ≡ []
   handed-none unfinished = none (isFor m event) (ne-eqb (asAnswer answer .complete) 1 unfinished)
     where
@@ -48,39 +48,41 @@ module _ (m : Message) (event : Event) (answer : Told) (then : State) where
       none true e = rw e
       none false e = refl
 
-  -- .. or where it is not for the message
+  -- nothing is handed out where an event is not for the message
   handed-others : isFor m event ≡ false → handed m event answer then ≡ []
   handed-others e = rw e
 
-  -- the text where it is
+  -- the text is handed out where it is complete and for the message
   handed-whole : isFor m event ≡ true → asAnswer answer .complete ≡ 1 → textBy answer then ≡ m .text → handed m event answer then ≡ m .text ∷ []
   handed-whole own complete text = rw (own, eq-eqb (asAnswer answer .complete) 1 complete, text)
 
 -- ---- a good copy
 
--- the copies that come are behind the last one that a chain has joined
-abbrev Behind : ℕ → List ℕ → Type 0
-Behind joined row = (last : ℕ) → joined ≡ suc last → (inOrder (last ∷ row) ≡ true) × (losesFew (last ∷ row) ≡ true)
+-- the copies that come follow the last one that a chain has joined
+abbrev ComesAfter : ℕ → List ℕ → Type 0
+ComesAfter joined row = (last : ℕ) → joined ≡ suc last → (inOrder (last ∷ row) ≡ true) × (losesFew (last ∷ row) ≡ true)
 
--- .. and so are those behind a copy
-behind-now : (count joined place : ℕ) (row : List ℕ) → inOrder (place ∷ row) ≡ true → losesFew (place ∷ row) ≡ true → Behind (joinedAfter count joined place) row
-behind-now count joined place row order few last =
+-- the copies that come after a copy follow the last one that a chain has joined then
+comes-after-now : (count joined place : ℕ) (row : List ℕ) → inOrder (place ∷ row) ≡ true → losesFew (place ∷ row) ≡ true
+    → ComesAfter (joinedAfter count joined place) row
+comes-after-now count joined place row order few last =
     ⊎-elim
     (λ taken. rw taken (λ is. let same : last ≡ place = omega arith in rw same (order, few)))
     (λ lost. rw lost (λ is. absurd (omega arith)))
     (decided (isTaken joined place && not (eqb (place + 1) count)))
 
--- a text more, or none
+-- one text more, or none, before so many
 texts-join : (one : Bool) (rest : ℕ) (text : List ℕ) → replicate (bitOf one) text ++ replicate rest text ≡ replicate (bitOf one + rest) text
 texts-join true rest text = let more : 1 + rest ≡ suc rest = omega arith in rw more
 texts-join false rest text = rw (zero-add rest)
 
 -- what a state makes of a copy is what the receiver makes of its place
-copy-step : (m : Message) → isCut m ≡ true → (s : State) (joined place : ℕ) (row : List ℕ) → Holding m s joined → place < countOf m → mayCome m s (copy place) ≡ true → Behind joined (place ∷ row)
+copy-step : (m : Message) → isCut m ≡ true → (s : State) (joined place : ℕ) (row : List ℕ)
+    → Holding m s joined → place < countOf m → mayCome m s (copy place) ≡ true → ComesAfter joined (place ∷ row)
     → let event = came (m .address) (part m place) in
     Holding m (after s event) (joinedAfter (countOf m) joined place)
     × (handed m event (answerTo s event) (after s event) ≡ replicate (bitOf (handsOut (countOf m) joined place)) (m .text))
-copy-step m cuts s joined place row h within may behind =
+copy-step m cuts s joined place row h within may coming =
     ⊎-elim (λ is. when-taken is (meets is)) when-not (decided (isTaken joined place))
   where
     event : Event
@@ -138,7 +140,7 @@ copy-step m cuts s joined place row h within may behind =
         opened : eqb joined 0 ≡ false → Goal 0 0
         opened some =
             let is = eqb-false joined 0 some in
-            let follows = behind (joined - 1) (omega (arith, is)) in
+            let follows = coming (joined - 1) (omega (arith, is)) in
             let least = leb-true (joined - 1) place (neighbours-first leb (joined - 1) place row (follows .0)) in
             let most = leb-true (between (joined - 1) place) 2 (neighbours-first (λ earlier later. leb (between earlier later) 2) (joined - 1) place row (follows .1)) in
             ends (out-of-turn-closes m cuts s joined h place within (omega (arith, is)) later (λ same. other-number joined place (omega (arith, is)) later (omega (arith, least)) (omega (arith, most)) apart same))
@@ -169,24 +171,26 @@ other-step m s joined (dropped whose n) h may = (
 
 -- the row, seen through the message's key, is the receiver: over any arrivals it hands out the text as often
 simulated : (m : Message) → isCut m ≡ true → (s : State) (joined : ℕ) (air : List Arrival) → Holding m s joined
-    → all (λ place. ltb place (countOf m)) (places air) ≡ true → inOrder (places air) ≡ true → losesFew (places air) ≡ true → Behind joined (places air) → undisturbed ours m s air ≡ true
+    → all (λ place. ltb place (countOf m)) (places air) ≡ true → inOrder (places air) ≡ true → losesFew (places air) ≡ true
+    → ComesAfter joined (places air) → undisturbed ours m s air ≡ true
     → textsOut ours m s air ≡ replicate (delivered (countOf m) joined (places air)) (m .text)
 unfolding textsOut delivered places undisturbed all
-simulated m cuts s joined [] h below order few behind quiet = refl
-simulated m cuts s joined (other event ∷ air) h below order few behind quiet =
+simulated m cuts s joined [] h below order few coming quiet = refl
+simulated m cuts s joined (other event ∷ air) h below order few coming quiet =
     let may = first-of (mayCome m s (other event)) (undisturbed ours m (after s event) air) quiet in
     let one = other-step m s joined event h may in
     rw (one .1)
-    (simulated m cuts (after s event) joined air (one .0) below order few behind (second-of (mayCome m s (other event)) (undisturbed ours m (after s event) air) quiet))
-simulated m cuts s joined (copy place ∷ air) h below order few behind quiet =
+    (simulated m cuts (after s event) joined air (one .0) below order few coming
+    (second-of (mayCome m s (other event)) (undisturbed ours m (after s event) air) quiet))
+simulated m cuts s joined (copy place ∷ air) h below order few coming quiet =
     let event = eventOf m (copy place) in
     let may = first-of (mayCome m s (copy place)) (undisturbed ours m (after s event) air) quiet in
     let within = ltb-true place (countOf m) (first-of (ltb place (countOf m)) (all (λ place. ltb place (countOf m)) (places air)) below) in
     let now = joinedAfter (countOf m) joined place in
-    let one = rw (← part-cut m place within) at (copy-step m cuts s joined place (places air) h within may behind) in
+    let one = rw (← part-cut m place within) at (copy-step m cuts s joined place (places air) h within may coming) in
     let rest = simulated m cuts (after s event) now air (one .0) (second-of (ltb place (countOf m)) (all (λ place. ltb place (countOf m)) (places air)) below)
-    (neighbours-behind leb place (places air) order) (neighbours-behind (λ earlier later. leb (between earlier later) 2) place (places air) few)
-    (behind-now (countOf m) joined place (places air) order few) (second-of (mayCome m s (copy place)) (undisturbed ours m (after s event) air) quiet) in
+    (neighbours-after leb place (places air) order) (neighbours-after (λ earlier later. leb (between earlier later) 2) place (places air) few)
+    (comes-after-now (countOf m) joined place (places air) order few) (second-of (mayCome m s (copy place)) (undisturbed ours m (after s event) air) quiet) in
     ap₂ _++_ (one .1) rest ∙ texts-join (handsOut (countOf m) joined place) (delivered (countOf m) now (places air)) (m .text)
 
 -- ---- demand 3
@@ -220,7 +224,7 @@ eight-ready bytes before room =
     let long = run-length start before in
     rw (fresh-run-sound slotCount bytes before, long .0, long .1) (le-leb (slotCount * mostCharacters) (length bytes) room)
 
--- .. so that of them that premise need not be asked
+-- of eight slots that began free the premise that the start is ready need not be asked
 pub eight-slots : (bytes : List ℕ) (before : List Event) → slotCount * mostCharacters ≤ length bytes
     → let start = afterAll (record { chains = fresh slotCount; bytes = bytes }) before in
     (m : Message) (air : List Arrival) → (isReady start ≡ true → Premises ours m start air) → Promised ours m start air

@@ -30,11 +30,11 @@ module _ (m : Message) where
   abbrev pub countOf : ℕ
   countOf = fragmentsFor (m .largest) (length (m .text))
 
-  -- the one at a place
+  -- the fragment at a place
   abbrev pub part : ℕ → List ℕ
   part place = fragmentAt (m .marks) (m .largest) (m .text) place
 
-  -- its text in the first fragments, so many of them
+  -- the text of the first fragments, so many of them
   abbrev pub textBefore : ℕ → List ℕ
   textBefore joined = textSoFar (m .largest) (m .text) joined
 
@@ -43,7 +43,7 @@ module _ (m : Message) where
   chainWith next sum characters =
       record { «is_open» = 1; address = m .address; «message_number» = m .marks .«message_number»; «next_fragment» = next; sum = sum; characters = characters }
 
-  -- the one that has joined so many: it awaits the next of them
+  -- the chain that has joined so many fragments: it awaits the next
   abbrev pub chainAt : ℕ → Chain
   chainAt joined = chainWith (fragmentNumber joined) (sumSoFar (m .largest) (m .text) joined) (length (textBefore joined))
 
@@ -51,7 +51,7 @@ module _ (m : Message) where
   pub count-cut : length (fragments m) ≡ countOf
   count-cut = count (m .marks) (m .largest) (m .text)
 
-  -- .. and this is the one at a place
+  -- the fragment that is cut for a place is the one at that place
   pub part-cut : (place : ℕ) → place < countOf → getD (fragments m) place [] ≡ part place
   part-cut place within = at-place (m .marks) (m .largest) (m .text) place within
 
@@ -59,12 +59,12 @@ module _ (m : Message) where
   pub none-before : textBefore 0 ≡ []
   none-before = rw (mul-zero (3 * (m .largest - 1)))
 
-  -- .. and that is the chain that is not begun
+  -- the chain before the first fragment is the one that is not begun
   pub begins : unbegun (m .address) (m .marks .«message_number») ≡ chainAt 0
   unfolding sumBy
   begins = rw (mul-zero (3 * (m .largest - 1)))
 
--- F behind the F of a place is that of the next place
+-- the F after the F of a place is that of the next place
 next-number : (place : ℕ) → nextNumber (fragmentNumber place) ≡ fragmentNumber (suc place)
 next-number place =
     rw (ne-eqb (suc place) 0 (λ e. omega arith))
@@ -92,7 +92,7 @@ module _ (m : Message) (cuts : isCut m ≡ true) where
       let each = each-of-five (isAddress (m .address)) (marked (m .marks)) (isSize (m .largest)) (leb (length (m .text)) mostCharacters) (sendable (m .text)) cuts in
       record { numbers = each .1; size = each .2; short = leb-true (length (m .text)) mostCharacters (each .3); characters = each .4 }
 
-  -- .. and the address number
+  -- a message that is cut by 01's rules has an address number
   pub address-small : m .address ≤ 31
   address-small =
       leb-true (m .address) 31
@@ -106,7 +106,7 @@ module _ (m : Message) (cuts : isCut m ≡ true) where
   pub short-before : (joined : ℕ) → length (textBefore m joined) ≤ 1008
   short-before joined = rw length-take (omega (arith, cuttable .short))
 
-  -- all fragments have all of it
+  -- all fragments together have all of the text
   pub all-before : textBefore m (countOf m) ≡ m .text
   all-before = text-ends cuttable
 
@@ -115,23 +115,23 @@ module _ (m : Message) (cuts : isCut m ≡ true) where
     pub part-good : Good (part m place)
     part-good = accepted (part m place) .0 (ap numberTold (good cuttable place within))
 
-    -- .. and says what its place says
+    -- the fragment says what its place says
     says : headingIn (part m place) ≡ asFragment (headingWith (m .marks) (m .largest) (m .text) place (length (textIn (part m place))))
     says = ap asFragment (sym (heading-told (part m place) part-good) ∙ good cuttable place within)
 
-    -- its N is the message's
+    -- the fragment's N is the message's
     pub says-message : headingIn (part m place) .«message_number» ≡ m .marks .«message_number»
     says-message = ap (λ (h : FragmentRead). h .«message_number») says
 
-    -- its F is that of its place
+    -- the fragment's F is that of its place
     pub says-number : headingIn (part m place) .«fragment_number» ≡ fragmentNumber place
     says-number = ap (λ (h : FragmentRead). h .«fragment_number») says
 
-    -- .. so that the one at 0 is a first one, and no other
+    -- the fragment at 0 is a first one, and no other is
     pub says-first : isFirst (headingIn (part m place)) ≡ eqb place 0
     says-first = rw says-number (first-number place)
 
-    -- more follows where it is not the last
+    -- more follows where the fragment is not the last
     pub says-more : goesOn (headingIn (part m place)) ≡ not (eqb (place + 1) (countOf m))
     says-more =
         rw (ap (λ (h : FragmentRead). h .continued) says)
@@ -162,7 +162,7 @@ module _ (m : Message) (cuts : isCut m ≡ true) where
             (λ before. absurd (not-both (goesOn (headingIn (part m place))) (says-more ∙ ap not before) ends))
             (decided (eqb (place + 1) (countOf m)))
 
-    -- .. and has joined it then
+    -- a chain that takes the fragment has joined it then
     pub part-grown : grown (chainAt m place) (headingIn (part m place)) ≡ chainAt m (suc place)
     part-grown =
         let h = headingIn (part m place) in

@@ -19,11 +19,11 @@ use Rattle.air.specs.Demand.{neighbours, inOrder, fromFirst, ArrivesWhol
 abbrev pub isTaken : ℕ → ℕ → Bool
 isTaken joined place = eqb place 0 || eqb place joined
 
--- .. and is the last, so that the text is handed out
+-- whether a copy is taken and is the last, so that the text is handed out
 abbrev pub handsOut : ℕ → ℕ → ℕ → Bool
 handsOut count joined place = isTaken joined place && eqb (place + 1) count
 
--- how many fragments are joined then
+-- how many fragments are joined after a copy
 abbrev pub joinedAfter : ℕ → ℕ → ℕ → ℕ
 joinedAfter count joined place = pick (isTaken joined place && not (eqb (place + 1) count)) (place + 1) 0
 
@@ -38,34 +38,34 @@ delivered count joined (place ∷ row) = bitOf (handsOut count joined place) + d
 next-taken : (next : ℕ) → isTaken next next ≡ true
 next-taken next = rw (eq-eqb next next refl) (or-true (eqb next 0))
 
--- a row in order is so behind the first place
-behind-first : (row : List ℕ) → inOrder row ≡ true → inOrder (0 ∷ row) ≡ true
+-- a row in order is so after the first place
+after-first : (row : List ℕ) → inOrder row ≡ true → inOrder (0 ∷ row) ≡ true
 unfolding neighbours
-behind-first [] order = refl
-behind-first (place ∷ row) order = rw (le-leb 0 place (omega arith)) order
+after-first [] order = refl
+after-first (place ∷ row) order = rw (le-leb 0 place (omega arith)) order
 
 module _ (count : ℕ) where
-  -- a copy that is not taken leaves no chain open;
+  -- a copy that is not taken leaves no chain open
   not-taken : (joined place : ℕ) (row : List ℕ) → isTaken joined place ≡ false → delivered count joined (place ∷ row) ≡ delivered count 0 row
   unfolding delivered
   not-taken joined place row other = rw other (zero-add (delivered count 0 row))
 
-  -- .. the next one is joined, where it is not the last,
+  -- the next copy is joined, where it is not the last
   joins : (next : ℕ) (row : List ℕ) → suc next < count → delivered count next (next ∷ row) ≡ delivered count (suc next) row
   unfolding delivered
   joins next row more = rw (next-taken next, ne-eqb (next + 1) count (λ e. omega arith), add-one) (zero-add (delivered count (suc next) row))
 
-  -- .. else the text is handed out
+  -- where the next copy is the last, the text is handed out
   hands-out : (next : ℕ) (row : List ℕ) → next + 1 ≡ count → 1 ≤ delivered count next (next ∷ row)
   unfolding delivered
   hands-out next row is = rw (next-taken next, eq-eqb (next + 1) count is) (omega arith)
 
-  -- a row behind a place: no place falls, and each is one of the message's
+  -- a row after a place: no place falls, and each is one of the message's
   unfoldable Rises : ℕ → List ℕ → Type 0
   Rises earlier [] = Unit
   Rises earlier (place ∷ row) = (earlier ≤ place) × (place < count) × Rises place row
 
-  -- a row in order, of places that there are, is such a row
+  -- in a row in order after a place, of places that there are, no place falls
   row-rises : (earlier : ℕ) (row : List ℕ) → inOrder (earlier ∷ row) ≡ true → all (λ place. ltb place count) row ≡ true → Rises earlier row
   unfolding Rises neighbours all
   row-rises earlier [] order within = tt
@@ -74,7 +74,7 @@ module _ (count : ℕ) where
       let inside = and-eq-true-iff (ltb place count) (all (λ place. ltb place count) row) .0 within in
       (leb-true earlier place (risen .0), ltb-true place count (inside .0), row-rises place row (risen .1) (inside .1))
 
-  -- behind the last place there is only that one again
+  -- after the last place there is only that one again
   only-last : (earlier : ℕ) (row : List ℕ) → count ≤ earlier + 1 → Rises earlier row → row ≡ replicate (length row) (count - 1)
   unfolding Rises
   only-last earlier [] least r = refl
@@ -82,7 +82,7 @@ module _ (count : ℕ) where
       let is : place ≡ count - 1 = omega (arith, r .0, r .1) in
       rw is (ap (λ (rest : List ℕ). (count - 1) ∷ rest) (only-last place row (omega (arith, r .0)) (r .2)))
 
-  -- behind a later place there is no first one, so that no text is handed out where no chain is open
+  -- after a later place there is no first one, so that no text is handed out where no chain is open
   no-first : (earlier : ℕ) (row : List ℕ) → 1 ≤ earlier → Rises earlier row → (delivered count 0 row ≡ 0) × (anyOf (eqb 0) row ≡ false) × (fromFirst row ≡ [])
   unfolding Rises delivered anyOf fromFirst
   no-first earlier [] later r = (refl, refl, refl)
@@ -134,7 +134,7 @@ module _ (last : ℕ) where
   unfolding fromFirst
   one-first row r = rw (no-first (suc last) 1 row (omega arith) r .1) (from-next (suc last) 0 last 1 row (omega arith) (omega arith) (omega arith) r)
 
-  -- .. and of more than one first fragment the last alone counts
+  -- of more than one first fragment the last alone counts
   whole-exactly : (row : List ℕ) → Rises (suc last) 0 row → (1 ≤ delivered (suc last) 0 row) ↔ ArrivesWhole (suc last) row
   unfolding delivered fromFirst Rises anyOf
   whole-exactly [] r = no-text [] tt
@@ -147,4 +147,4 @@ module _ (last : ℕ) where
 pub delivers : (count : ℕ) (row : List ℕ) → 1 ≤ count → all (λ place. ltb place count) row ≡ true → inOrder row ≡ true
     → (1 ≤ delivered count 0 row) ↔ ArrivesWhole count row
 delivers zero row some within order = absurd (omega arith)
-delivers (suc last) row some within order = whole-exactly last row (row-rises (suc last) 0 row (behind-first row order) within)
+delivers (suc last) row some within order = whole-exactly last row (row-rises (suc last) 0 row (after-first row order) within)

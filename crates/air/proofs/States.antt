@@ -77,7 +77,7 @@ module _ (m : Message) (cuts : isCut m ≡ true) (s : State) (joined : ℕ) (h :
   abbrev lent : ℕ
   lent = length (s .bytes)
 
-  -- its key is open where the message's is
+  -- the fragment's key is open where the message's is
   key-known : known (s .chains) (m .address) (headingIn words) ≡ isOpen m s
   key-known = rw (says-message m cuts place within)
 
@@ -92,7 +92,7 @@ module _ (m : Message) (cuts : isCut m ≡ true) (s : State) (joined : ℕ) (h :
         has = λ later. key-known ∙ has (sym (says-first m cuts place within) ∙ later);
       }
 
-  -- ---- one that is taken
+  -- ---- a copy that is taken
 
   -- the chain that it meets has joined those before it, and so has its text
   pub record Meets : Type 0 where
@@ -100,7 +100,7 @@ module _ (m : Message) (cuts : isCut m ≡ true) (s : State) (joined : ℕ) (h :
     pub before : chainBefore (s .chains) (m .address) (headingIn words) ≡ chainAt m place
     pub text : textAt (s .bytes) (slotFor (s .chains) (m .address) (headingIn words)) (length (textBefore m place)) ≡ textBefore m place
 
-  -- .. which is so where the chain is that one, and there is a slot
+  -- a copy meets its chain where the chain is that one, and there is a slot
   meets-with : (eqb place 0 ≡ false → isOpen m s ≡ true) → chainBefore (s .chains) (m .address) (headingIn words) ≡ chainAt m place
       → slotFor (s .chains) (m .address) (headingIn words) < length (s .chains)
       → textAt (s .bytes) (slotFor (s .chains) (m .address) (headingIn words)) (length (textBefore m place)) ≡ textBefore m place → Meets
@@ -131,7 +131,7 @@ module _ (m : Message) (cuts : isCut m ≡ true) (s : State) (joined : ℕ) (h :
           let out = not-found (m .address) (m .marks .«message_number») (s .chains) none in
           rw (is-first, says-message m cuts place within, set-out (s .chains) (slotOf m s) blank (omega arith)) some
 
-  -- the next one meets the chain that has joined those before it
+  -- the next copy meets the chain that has joined those before it
   pub meets-next : place ≡ joined → 1 ≤ joined → Meets
   meets-next next some =
       meets-with
@@ -154,11 +154,11 @@ module _ (m : Message) (cuts : isCut m ≡ true) (s : State) (joined : ℕ) (h :
   found-then = ap (λ (n : ℕ). find (m .address) n (chainsAfter lent (s .chains) (m .address) words)) (sym (says-message m cuts place within))
 
   module _ (meets : Meets) where
-    -- how long its chain is then
+    -- how long its chain is after the copy
     long-then : charactersAfter (chainBefore (s .chains) (m .address) (headingIn words)) (headingIn words) ≡ length (textBefore m (suc place))
     long-then = ap (λ (c : Chain). charactersAfter c (headingIn words)) (meets .before) ∙ length-next m cuts place within
 
-    -- .. and the text of its slot
+    -- the text of its slot after the copy
     text-then : textAt (bufferAfter (s .chains) (m .address) words (s .bytes)) (slotFor (s .chains) (m .address) (headingIn words)) (length (textBefore m (suc place))) ≡ textBefore m (suc place)
     text-then =
         let slot = slotFor (s .chains) (m .address) (headingIn words) in
@@ -168,7 +168,7 @@ module _ (m : Message) (cuts : isCut m ≡ true) (s : State) (joined : ℕ) (h :
         ∙ ap (λ (text : List ℕ). text ++ textIn words) (meets .text)
         ∙ text-step (cuttable m cuts) place within
 
-    -- .. where it is not the last, the chain has joined it then, and nothing is handed out
+    -- where the copy is not of the last fragment, the chain has joined it then, and nothing is handed out
     pub taken-on : (place + 1 ≡ countOf m → ⊥) → Holding m (after s event) (suc place) × (asAnswer (answerTo s event) .complete ≡ 1 → ⊥)
     taken-on more = (
       holding-after m s joined event (suc place) h
@@ -195,7 +195,7 @@ module _ (m : Message) (cuts : isCut m ≡ true) (s : State) (joined : ℕ) (h :
         found : slotOf m (after s event) ≡ slot
         found = found-then ∙ grows .1
 
-    -- .. where it is, the text is handed out, and no chain is open then
+    -- where the copy is of the last fragment, the text is handed out, and no chain is open then
     pub taken-whole : place + 1 ≡ countOf m
         → let answer = answerTo s event in
         Holding m (after s event) 0 × (asAnswer answer .complete ≡ 1) × (textBy answer (after s event) ≡ m .text)
@@ -214,7 +214,7 @@ module _ (m : Message) (cuts : isCut m ≡ true) (s : State) (joined : ℕ) (h :
         ends : goesOn (headingIn words) ≡ false
         ends = says-more m cuts place within ∙ ap not (eq-eqb (place + 1) (countOf m) last)
 
-  -- ---- one that is not taken
+  -- ---- a copy that is not taken
 
   -- where a chain is open, another than the next is out of turn: the chain is lost, and nothing handed out
   pub out-of-turn-closes : 1 ≤ joined → 1 ≤ place → (fragmentNumber place ≡ fragmentNumber joined → ⊥) → Holding m (after s event) 0 × (asAnswer (answerTo s event) .complete ≡ 1 → ⊥)

@@ -1,4 +1,4 @@
--- Demand 3, in the order of its words. What is quoted is the demand; the definition behind it says the same. The demand as a whole is `Demand`, at the end.
+-- Demand 3, in the order of its words. What is quoted is the demand; the definition after it says the same. The demand as a whole is `Demand`, at the end.
 --
 -- How to read a line. `f : A → B → C` says that f takes an A and a B and gives a C, and the lines below it what it gives. `x .part` is a part of x. `≡` says that two
 -- things are the same, `↔` exactly if; `(k : ℕ) → ..` is said of every number k, `(k : ℕ) × ..` of some number k. `eqb`, `leb` and `ltb` ask whether a number is equal to,
@@ -125,7 +125,7 @@ mayCome m s (other (came whose words)) = isDamaged words || not (isKey m whose (
 -- a drop: of another key, or where there is no chain to drop
 mayCome m s (other (dropped whose n)) = not (isKey m whose n) || not (isOpen m s)
 
--- .. and so until the end, each time with the state that the host left
+-- whether what comes may come so until the end, each time with the state that the host left
 unfoldable pub undisturbed : Host → Message → State → List Arrival → Bool
 undisturbed host m s [] = true
 undisturbed host m s (arrival ∷ air) = mayCome m s arrival && undisturbed host m (host .next s (eventOf m arrival)) air

@@ -16,7 +16,7 @@ use Rattle.capcode.specs.declared.Class.the-variants.{Short, Information
 use Rattle.capcode.specs.declared.Classed.{Classed}
 use Rattle.capcode.specs.declared.Worded.{Worded}
 use Rattle.capcode.specs.declared.Addressed.{Addressed}
-use Rattle.capcode.specs.Ranges.{rows, classIn, classOf}
+use Rattle.capcode.specs.Ranges.{rows, classIn, classOf, found, accepted}
 use Rattle.capcode.proofs.Bounds.{rowOf, class-bounds}
 use Rattle.capcode.specs.Words.{pair12, pair13, pair23, layoutOf, wordsAs, wordsBy, wordsOf, same, gives, fromWord, fromPair, confirmed, addressOf, toldWorded, toldAddressed}
 use Rattle.capcode.proofs.Fits.{known-class}
@@ -127,6 +127,14 @@ unfolding wordsOf classOf classIn rows
 no-words address words e w =
     let zero-words : wordsOf 0 ≡ given words = ap wordsOf e ∙ w in
     given-not-refused words Range (sym zero-words)
+
+-- an address that has words is an accepted one
+pub words-accepted : (address : ℕ) (words : List ℕ) → wordsOf address ≡ given words → accepted address ≡ true
+words-accepted address words e = by-class (classOf address) refl
+  where
+    by-class : (class : Classed) → classOf address ≡ class → found class ≡ true
+    by-class (Classed.In class) is = refl
+    by-class (Classed.Refused r) is = absurd (given-not-refused words r (sym (known-class address is ∙ e)))
 
 -- 01: "The way back answers the address for the words of an accepted address": for each accepted address the way back gives it
 pub there-and-back : (address : ℕ) (words : List ℕ) → wordsOf address ≡ given words → addressOf words ≡ given (address ∷ [])

@@ -1,12 +1,13 @@
 -- Ours keeps what is demanded of any host.
-use Prim.Native.Nat.{ℕ, _*_}
+use Prim.Native.Nat.{ℕ, _*_, _≤_, _<_}
 use mathlib.Core.Bool.{Bool, true, false, not, _&&_, false≢true}
 use mathlib.Core.List.{List, [], _∷_, map}
-use mathlib.Core.Logic.{inl, inr, ⊎-elim}
+use mathlib.Core.Logic.{⊎-elim}
 use mathlib.Core.Path.{_≡_, refl, sym}
-use borrow.Author.Tests.{leb-true, leb-false}
+use native.Mathlib.Omega.{arith}
+use borrow.Author.Tests.{leb-true, leb-false, le-leb}
 use lib.Dec.{leb, ltb, eqb}
-use lib.ListN.{length}
+use lib.ListN.{length, set}
 use Rattle.laws.specs.Choice.{pick}
 use Rattle.laws.proofs.Tests.{decided}
 use Rattle.refusal.specs.declared.Refusal.{Refusal}
@@ -17,22 +18,22 @@ use Rattle.capcode.specs.declared.Classed.{Classed}
 use Rattle.capcode.specs.Ranges.{classOf, found}
 use Rattle.capcode.specs.Words.{layoutOf, wordsAs, wordsOf, addressOf}
 use Rattle.capcode.proofs.Fits.{known-class}
-use Rattle.capcode.proofs.WordLaws.{there-and-back}
+use Rattle.capcode.proofs.WordLaws.{words-accepted, there-and-back, others-refused}
 use Rattle.frames.specs.Listening.{heard, countOf}
 use Rattle.frames.proofs.Laws.{counted}
 use Rattle.sums.specs.Words.{undamaged}
 use Rattle.fragment.specs.Fragments.{mostCharacters, isSize, checked}
 use Rattle.fragment.specs.declared.FragmentRead.{FragmentRead}
 use Rattle.chain.specs.declared.Chain.{Chain}
-use Rattle.chain.specs.Chains.{isAddress, isMessage, holds, sound}
+use Rattle.chain.specs.Chains.{isAddress, isMessage, blank, find, holds, sound}
 use Rattle.chain.specs.Steps.{headingIn, isFirst, goesOn, grows, whole, losing, grown, sumAfter, charactersAfter, chainBefore, fate}
 use Rattle.chain.specs.Answers.{known, full, toldOf, stepOf, dropOf}
 use Rattle.chain.specs.Runs.{Event, came, dropped, State, answerTo}
-use Rattle.chain.proofs.Laws.{refused-stays, lost-closes}
+use Rattle.chain.proofs.Laws.{refused-stays, number-most, lost-closes}
 use Rattle.chain.proofs.Texts.{refused-writes-nothing}
 use Rattle.chain.proofs.Runs.{drop-refused}
 use Rattle.air.specs.Demand.{ours}
-use Rattle.cases.specs.Demands.{Line, numberBy, linesFor, AsTheTable, KeepsWhatItHas, WordsAndBack, FrameRule}
+use Rattle.cases.specs.Demands.{Line, numberBy, linesFor, AsTheTable, whose, message, chainsRefused, KeepsWhatItHas, WordsAndBack, FrameRule}
 
 -- ---- demand 1: the table
 
@@ -73,16 +74,47 @@ table-kept s (dropped address n) =
     (number-asked (not (isAddress address)) refusals.Address _ _
     (number-asked (not (holds address n (s .chains))) refusals.NoChain (given []) 0 refl)))
 
--- after a refusal all is as it was, but for a chain that 14, 15 or 16 closes
+-- a refused drop has a number under 14
+drop-early : (row : List Chain) (address n : ℕ) → numberTold (dropOf row address n) < 14
+unfolding dropOf
+drop-early row address n =
+    early (not (sound row)) refusals.State _ (omega arith)
+    (early (not (isMessage n)) refusals.Packet _ (omega arith)
+    (early (not (isAddress address)) refusals.Address _ (omega arith)
+    (early (not (holds address n row)) refusals.NoChain (given []) (omega arith) (omega arith))))
+  where
+    early : (test : Bool) (r : Refusal) (rest : Told) → numberOf r < 14 → numberTold rest < 14 → numberTold (ask test r rest) < 14
+    early true r rest this others = this
+    early false r rest this others = others
+
+-- records are those after a refusal where they are so for a number of 14 to 16, and for one under 14
+by-number : (number : ℕ) (s : State) (event : Event) (row : List Chain) → number ≤ 16
+    → (14 ≤ number → row ≡ set (s .chains) (find (whose event) (message event) (s .chains)) blank)
+    → (number < 14 → row ≡ s .chains)
+    → row ≡ chainsRefused number s event
+by-number number s event row most late early =
+    ⊎-elim
+    (λ is. rw is (rw (le-leb number 16 most) (late (leb-true 14 number is))))
+    (λ none. rw none (early (leb-false 14 number none)))
+    (decided (leb 14 number))
+
+-- after a refusal all is as it was, but for the chain that 14, 15 or 16 closes
 pub state-kept : KeepsWhatItHas ours
 state-kept s (came address words) some = (
   refused-writes-nothing (s .chains) address words (s .bytes) some,
-  ⊎-elim
-      (λ is. let late = leb-true 14 (numberTold (answerTo s (came address words))) is in inr (late, lost-closes (length (s .bytes)) (s .chains) address words late .0))
-      (λ none. let early = leb-false 14 (numberTold (answerTo s (came address words))) none in inl (refused-stays (length (s .bytes)) (s .chains) address words some early))
-      (decided (leb 14 (numberTold (answerTo s (came address words))))),
+  by-number (numberTold (answerTo s (came address words))) s (came address words) _
+      (number-most (length (s .bytes)) (s .chains) address words)
+      (λ late. lost-closes (length (s .bytes)) (s .chains) address words late .0)
+      (λ early. refused-stays (length (s .bytes)) (s .chains) address words some early),
 )
-state-kept s (dropped address n) some = (refl, inl (drop-refused (s .chains) address n some))
+state-kept s (dropped address n) some =
+    let early = drop-early (s .chains) address n in (
+      refl,
+      by-number (numberTold (answerTo s (dropped address n))) s (dropped address n) _
+          (omega (arith, early))
+          (λ late. absurd (omega (arith, early)))
+          (λ none. drop-refused (s .chains) address n some),
+    )
 
 -- the lines stand in the table's order: its numbers, some left out
 pub lines-in-order : (s : State) (event : Event) → isPartOf (map {A = Line} {B = ℕ} (λ line. numberOf (line .refusal)) (linesFor s event)) (map numberOf order) ≡ true
@@ -92,16 +124,20 @@ lines-in-order s (dropped address n) = refl
 
 -- ---- demand 2: words and back
 
--- an accepted address has words, which lead back to it
+-- an accepted address has words, which lead back to it; all other words are refused
 pub words-kept : WordsAndBack wordsOf addressOf
-words-kept address is = by-class (classOf address) refl is
+words-kept = (
+  λ address is. by-class address (classOf address) refl is,
+  λ row none. others-refused row (λ address words. none address (words-accepted address row words) words),
+)
   where
-    by-class : (class : Classed) → classOf address ≡ class → found class ≡ true → (row : List ℕ) × (wordsOf address ≡ given row) × (addressOf row ≡ given (address ∷ []))
-    by-class (Classed.In class) e is =
+    by-class : (address : ℕ) (class : Classed) → classOf address ≡ class → found class ≡ true
+        → (row : List ℕ) × (wordsOf address ≡ given row) × (addressOf row ≡ given (address ∷ []))
+    by-class address (Classed.In class) e is =
         let row = wordsAs (layoutOf class) address in
         let words : wordsOf address ≡ given row = sym (known-class address e) in
         (row, words, there-and-back address row words)
-    by-class (Classed.Refused r) e is = absurd (false≢true is)
+    by-class address (Classed.Refused r) e is = absurd (false≢true is)
 
 -- ---- the frame rule
 

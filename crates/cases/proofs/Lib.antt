@@ -1,3 +1,4 @@
+pub mod CallTable
 pub mod Cases
 pub mod Kept
 pub mod Idle

@@ -17,7 +17,7 @@ pub record Case : Type 0 where
   pub answered : Told
   pub expected : Told
 
--- .. written in that order
+-- a case, written in that order
 abbrev case : ℕ → Told → Told → Case
 case number answered expected = record { number = number; answered = answered; expected = expected }
 

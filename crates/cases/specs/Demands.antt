@@ -1,20 +1,20 @@
 -- What is demanded of any host: of its answers, of its words, of its count of frames. Demand 3, of a text through the air, is `Demand` in air/specs/Demand.
-use Prim.Native.Nat.{ℕ, _*_, _≤_}
+use Prim.Native.Nat.{ℕ, _*_}
 use mathlib.Core.Bool.{Bool, true, not, _&&_}
 use mathlib.Core.List.{List, [], _∷_}
-use mathlib.Core.Logic.{_⊎_}
 use mathlib.Core.Path.{_≡_}
-use lib.Dec.{ltb, eqb}
+use lib.Dec.{leb, ltb, eqb}
 use lib.ListN.{length, set}
 use Rattle.laws.specs.Choice.{pick}
 use Rattle.refusal.specs.declared.Refusal.{Refusal}
 use Rattle.refusal.specs.declared.Refusal.the-variants as refusals
-use Rattle.refusal.specs.Told.{Told, given, numberOf, numberTold}
+use Rattle.refusal.specs.Told.{Told, refused, given, numberOf, numberTold}
 use Rattle.capcode.specs.Ranges.{accepted}
 use Rattle.frames.specs.declared.Listener.{Listener}
 use Rattle.frames.specs.Listening.{heard, masksOf, onesOf}
 use Rattle.sums.specs.Words.{undamaged}
 use Rattle.fragment.specs.Fragments.{mostCharacters, isSize, checked}
+use Rattle.chain.specs.declared.Chain.{Chain}
 use Rattle.chain.specs.Chains.{isAddress, isMessage, blank, find, holds, sound}
 use Rattle.chain.specs.Steps.{headingIn, isFirst, goesOn, sumAfter, charactersAfter, slotFor, chainBefore}
 use Rattle.chain.specs.Runs.{Event, came, dropped, State}
@@ -32,8 +32,8 @@ unfoldable pub numberBy : List Line → ℕ
 numberBy [] = 0
 numberBy (line ∷ lines) = pick (line .applies) (numberOf (line .refusal)) (numberBy lines)
 
--- .. written in that order
-abbrev line : Refusal → Bool → Line
+-- a line of the table, written in that order
+abbrev pub line : Refusal → Bool → Line
 line r applies = record { refusal = r; applies = applies }
 
 -- the lines that tell of a fragment and of a drop, in the table's order
@@ -83,28 +83,37 @@ abbrev pub whose : Event → ℕ
 whose (came address words) = address
 whose (dropped address n) = address
 
--- .. and its N
+-- the N that an event is of
 abbrev pub message : Event → ℕ
 message (came address words) = headingIn words .«message_number»
 message (dropped address n) = n
 
--- "After a refusal lent bytes read as before, and state changes only where the table says": where 14, 15 or 16 closes a chain
+-- whether a refusal closes a chain: 01's table says so of 14, 15 and 16
+abbrev pub closesChain : ℕ → Bool
+closesChain number = leb 14 number && leb number 16
+
+-- the records after a refusal: 14, 15 and 16 close the chain of the event's key, and every other refusal leaves the
+-- records as they were. Where no chain of the key is open, the place found is the one past the row, and there is none
+-- to close
+abbrev pub chainsRefused : ℕ → State → Event → List Chain
+chainsRefused number s event = pick (closesChain number) (set (s .chains) (find (whose event) (message event) (s .chains)) blank) (s .chains)
+
+-- "After a refusal lent bytes read as before, and state changes only where the table says": where 14, 15 or 16 closes a chain, and there it does
 abbrev pub KeepsWhatItHas : Host → Type 0
 KeepsWhatItHas host =
     (s : State) (event : Event) → (numberTold (host .answer s event) ≡ 0 → ⊥)
-    → (host .next s event .bytes ≡ s .bytes)
-    × ((host .next s event .chains ≡ s .chains)
-    ⊎ ((14 ≤ numberTold (host .answer s event)) × (host .next s event .chains ≡ set (s .chains) (find (whose event) (message event) (s .chains)) blank)))
+    → (host .next s event .bytes ≡ s .bytes) × (host .next s event .chains ≡ chainsRefused (numberTold (host .answer s event)) s event)
 
 -- ---- demand 2: "address to words and back"
 
--- of every accepted address there are words, from which the way back leads to it
+-- of every accepted address there are words, from which the way back leads to it; and, as 01 says, the way back "refuses all other words"
 abbrev pub WordsAndBack : (ℕ → Told) → (List ℕ → Told) → Type 0
 WordsAndBack words back =
-    (address : ℕ) → accepted address ≡ true → (row : List ℕ) × (words address ≡ given row) × (back row ≡ given (address ∷ []))
+    ((address : ℕ) → accepted address ≡ true → (row : List ℕ) × (words address ≡ given row) × (back row ≡ given (address ∷ [])))
+    × ((row : List ℕ) → ((address : ℕ) → accepted address ≡ true → words address ≡ given row → ⊥) → back row ≡ refused refusals.Range)
 
 -- ---- the frame rule: "The reported number of frames listened to is the count of marked bits over all eight packets"
 
--- of a count that is reported for listeners
+-- the number that is reported for listeners is the count of their marked bits
 abbrev pub FrameRule : (List Listener → ℕ) → Type 0
 FrameRule count = (listeners : List Listener) → count listeners ≡ onesOf (masksOf (heard listeners))

@@ -1,2 +1,3 @@
+pub mod CallDemands
 pub mod Cases
 pub mod Demands

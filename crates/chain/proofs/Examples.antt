@@ -39,7 +39,8 @@ two = 0x00A616 ∷ 0x13E64C ∷ []
 abbrev pub three : List ℕ
 three = 0x00AA40 ∷ 0x1166A0 ∷ []
 
--- .. their sums: 89, 72 and 69 make 230, of which 102 is left; 76, 76 and 79 make 231, of which 103 is left; 32, 77 and 69 make 178, of which 50 is left
+-- the sums of the three: 89, 72 and 69 make 230, of which 102 is left; 76, 76 and 79 make 231, of which 103 is left; 32,
+-- 77 and 69 make 178, of which 50 is left
 pub told-of-three : map headingOf (one ∷ two ∷ three ∷ []) ≡ given (1 ∷ 3 ∷ 5 ∷ 0 ∷ 0 ∷ 89 ∷ 102 ∷ 2 ∷ []) ∷ given (1 ∷ 0 ∷ 5 ∷ 0 ∷ 0 ∷ 0 ∷ 103 ∷ 3 ∷ []) ∷ given (0 ∷ 1 ∷ 5 ∷ 0 ∷ 0 ∷ 0 ∷ 50 ∷ 3 ∷ []) ∷ []
 unfolding headingOf cellsOf withoutFill digits sumBy all
 told-of-three = refl
@@ -62,18 +63,18 @@ begun = record { chains = opened 3 5 2 9 4 ∷ blank ∷ []; bytes = replicate 2
 abbrev joining : List Event
 joining = came 7 one ∷ came 7 two ∷ came 7 three ∷ []
 
--- .. the answers: the first is begun, R and M are 0; the last hands out slot 1, from byte 1,008 on, 8 characters
+-- the answers to the three: the first is begun, R and M are 0; the last hands out slot 1, from byte 1,008 on, 8 characters
 pub joined-told : answers begun joining ≡ given (0 ∷ 1 ∷ 0 ∷ 0 ∷ []) ∷ given (0 ∷ 0 ∷ 0 ∷ 0 ∷ []) ∷ given (0 ∷ 0 ∷ 0 ∷ 0 ∷ 1 ∷ 1 ∷ 1008 ∷ 8 ∷ []) ∷ []
 unfolding answers stepOf chainsAfter bufferAfter sound fate cellsOf withoutFill digits sumBy all firstThat
 joined-told = refl
 
--- .. the records after one, two and three of them: 102 and 103 make 205, of which 77 is left; 77 and 50 make 127
+-- the records after one, two and three of them: 102 and 103 make 205, of which 77 is left; 77 and 50 make 127
 pub joined-records : map (λ events. afterAll begun events .chains) (take 1 joining ∷ take 2 joining ∷ joining ∷ [])
     ≡ (opened 3 5 2 9 4 ∷ opened 7 5 0 102 2 ∷ []) ∷ (opened 3 5 2 9 4 ∷ opened 7 5 1 77 5 ∷ []) ∷ (opened 3 5 2 9 4 ∷ blank ∷ []) ∷ []
 unfolding afterAll stepOf chainsAfter bufferAfter sound fate cellsOf withoutFill digits sumBy all firstThat
 joined-records = refl
 
--- .. and the text at the place that is told
+-- the text at the place that is told
 pub joined-text : take 8 (drop 1008 (afterAll begun joining .bytes)) ≡ bytesOf "HELLO ME"
 unfolding afterAll stepOf chainsAfter bufferAfter sound fate cellsOf withoutFill digits sumBy all firstThat
 joined-text = refl
@@ -83,7 +84,7 @@ pub single : stepOf 1008 (fresh 1) 7 hi ≡ given (0 ∷ 1 ∷ 0 ∷ 0 ∷ 1 ∷
 unfolding stepOf sound fate cellsOf withoutFill digits sumBy all firstThat
 single = refl
 
--- .. which leaves no open chain
+-- a page of one fragment leaves no open chain
 pub single-closed : chainsAfter 1008 (fresh 1) 7 hi ≡ fresh 1
 unfolding chainsAfter sound fate cellsOf withoutFill digits sumBy all firstThat
 single-closed = refl
@@ -99,7 +100,7 @@ pub newer-told : stepOf 3024 older 7 one ≡ given (1 ∷ 1 ∷ 0 ∷ 0 ∷ [])
 unfolding stepOf sound fate cellsOf withoutFill digits sumBy all firstThat
 newer-told = refl
 
--- .. and takes the lowest free slot
+-- the newer first fragment takes the lowest free slot
 pub newer-records : chainsAfter 3024 older 7 one ≡ opened 3 5 2 9 4 ∷ opened 7 5 0 102 2 ∷ blank ∷ []
 unfolding chainsAfter sound fate cellsOf withoutFill digits sumBy all firstThat
 newer-records = refl
@@ -109,7 +110,7 @@ pub newer-in-place : chainsAfter 2016 (opened 3 5 2 9 4 ∷ opened 7 5 1 77 5 �
 unfolding chainsAfter sound fate cellsOf withoutFill digits sumBy all firstThat
 newer-in-place = refl
 
--- .. so that the text of the older one is lost: a chain's text stays only where another key's fragment comes
+-- the text of the older one is lost then: a chain's text stays only where another key's fragment comes
 pub older-overwritten : take 5 (bufferAfter (opened 7 5 1 77 5 ∷ []) 7 one (bytesOf "abcde" ++ replicate 1003 0)) ≡ bytesOf "HEcde"
 unfolding bufferAfter stepOf sound fate cellsOf withoutFill digits sumBy all firstThat
 older-overwritten = refl
@@ -227,7 +228,7 @@ pub loss-examples : map {A = Told × Told} {B = Told} (λ row. row .0) losses �
 unfolding losses stepOf sound fate cellsOf withoutFill digits sumBy all firstThat
 loss-examples = refl
 
--- .. and its record is all zero
+-- the record of a chain that is lost is all zero
 pub lost-records : chainsAfter 1008 (opened 7 5 0 102 2 ∷ []) 7 three ∷ chainsAfter 1008 (long 1006) 7 three ∷ chainsAfter 1008 (opened 7 5 1 76 5 ∷ []) 7 three ∷ chainsAfter 1008 (opened 7 5 1 76 5 ∷ []) 7 unsigned ∷ [] ≡ fresh 1 ∷ fresh 1 ∷ fresh 1 ∷ fresh 1 ∷ []
 unfolding chainsAfter sound fate cellsOf withoutFill digits sumBy all firstThat
 lost-records = refl
@@ -237,7 +238,7 @@ pub refused-records : chainsAfter 1008 (opened 7 5 0 102 2 ∷ []) 7 (0x00A617 �
 unfolding chainsAfter sound fate cellsOf withoutFill digits sumBy all firstThat
 refused-records = refl
 
--- .. and each leaves the lent bytes, here 16
+-- each refusal leaves the lent bytes, here 16
 pub refused-bytes : bufferAfter (opened 7 5 1 76 5 ∷ []) 7 three (bytesOf "HELLO" ++ replicate 1003 0) ≡ bytesOf "HELLO" ++ replicate 1003 0
 unfolding bufferAfter stepOf sound fate cellsOf withoutFill digits sumBy all firstThat
 refused-bytes = refl
@@ -269,7 +270,7 @@ pub drop-records : droppedFrom older 7 5 ≡ opened 3 5 2 9 4 ∷ blank ∷ blan
 unfolding dropOf sound firstThat
 drop-records = refl
 
--- .. a refused one none
+-- a refused drop changes no record
 pub drop-refused-records : droppedFrom older 7 6 ≡ older
 unfolding dropOf sound firstThat
 drop-refused-records = refl
@@ -280,22 +281,22 @@ drop-refused-records = refl
 abbrev twice : List Chain
 twice = opened 7 5 0 102 2 ∷ opened 7 5 1 77 5 ∷ []
 
--- .. of which the lower is found, though the other is the key's too
+-- of the two the lower is found, though the other is the key's too
 pub found-lower : (find 7 5 twice ≡ 0) × (isOf 7 5 (getD twice 1 blank) ≡ true)
 unfolding firstThat
 found-lower = (refl, refl)
 
--- .. and with that one closed the key is still open
+-- with the lower one closed the key is still open
 pub still-open : holds 7 5 (set twice (find 7 5 twice) blank) ≡ true
 unfolding firstThat
 still-open = refl
 
--- .. so that a first fragment would leave two again
+-- a first fragment would leave two again
 pub two-again : rowAfter twice 7 (headingIn one) ≡ twice
 unfolding fate cellsOf withoutFill digits sumBy firstThat
 two-again = refl
 
--- .. but every fragment and every drop is refused, so that a row that is not sound stays as it is
+-- every fragment and every drop is refused, so that a row that is not sound stays as it is
 pub unsound-stays : afterAll (record { chains = twice; bytes = replicate 2016 0 }) (came 7 one ∷ dropped 7 5 ∷ came 7 three ∷ []) .chains ≡ twice
 unfolding afterAll stepOf dropOf chainsAfter bufferAfter sound fate cellsOf withoutFill digits sumBy all firstThat
 unsound-stays = refl
@@ -320,7 +321,7 @@ pub alone-needed : sound (set (opened 7 5 0 102 2 ∷ blank ∷ []) 1 (opened 7 
 unfolding sound firstThat
 alone-needed = refl
 
--- a fragment that is not accepted: its text would end behind its slot, 1,006 and 3, or there is no slot for it
+-- a fragment that is not accepted: its text would end past its slot, 1,006 and 3, or there is no slot for it
 pub accepted-needed : (endPlace (long 1006) 7 (headingIn three) ≡ 1006) × (length (textIn three) ≡ 3) × (slotFor (opened 3 5 0 0 0 ∷ []) 7 (headingIn one) ≡ 1)
 unfolding cellsOf withoutFill digits firstThat
 accepted-needed = (refl, refl, refl)

@@ -1,4 +1,4 @@
--- What becomes of one chain: the questions of 01's table, 14, 15 and 16, and the record behind a fragment.
+-- What becomes of one chain: the questions of 01's table, 14, 15 and 16, and the record after a fragment.
 use Prim.Native.Nat.{ℕ, _+_, _≤_, _<_}
 use mathlib.Core.Bool.{true, false, not, true≢false, false≢true}
 use mathlib.Core.List.{List}
@@ -25,15 +25,15 @@ module _ (words : List ℕ) where
   pub fragment-small : headingIn words .«fragment_number» ≤ 3
   fragment-small = omega arith
 
-  -- N has six
+  -- N of any row of words has six bits
   pub message-small : headingIn words .«message_number» ≤ 63
   message-small = omega arith
 
-  -- .. and the sum seven
+  -- the sum of a fragment has seven bits
   pub sum-small : headingIn words .sum ≤ 127
   sum-small = omega arith
 
--- the F behind one is 0, 1 or 2
+-- the F after one is 0, 1 or 2
 pub next-small : (f : ℕ) → nextNumber f ≤ 2
 next-small f = ⊎-elim (λ less. let below = ltb-true f 2 less in rw less (omega arith)) (λ not-less. rw not-less (omega arith)) (decided (ltb f 2))
 
@@ -92,18 +92,18 @@ module _ (c : Chain) (h : FragmentRead) where
   wrong-total turn fits ends other =
       rw (eq-eqb (h .«fragment_number») (c .«next_fragment») turn, le-ltb mostCharacters (charactersAfter c h) fits, ends, ne-eqb (sumAfter c h) 127 other)
 
-  -- one of which all holds goes on where C is 1
+  -- a chain that takes a fragment goes on where C is 1
   pub goes-on : Taken → goesOn h ≡ true → fate c h ≡ grows (grown c h)
   unfolding fate
   goes-on t on = rw (eq-eqb (h .«fragment_number») (c .«next_fragment») (t .turn), le-ltb mostCharacters (charactersAfter c h) (t .fits), on)
 
-  -- .. and is whole where it is 0
+  -- a chain that takes a fragment is whole where C is 0
   pub is-whole : Taken → goesOn h ≡ false → fate c h ≡ whole
   unfolding fate
   is-whole t ends =
       rw (eq-eqb (h .«fragment_number») (c .«next_fragment») (t .turn), le-ltb mostCharacters (charactersAfter c h) (t .fits), ends, eq-eqb (sumAfter c h) 127 (t .total ends))
 
-  -- 15: 1,008 characters have room and one more has not: of a fragment in its turn the text is too long exactly if
+  -- 15: of a fragment in its turn the text is too long exactly if it comes to more than 1,008 characters
   pub join-room : h .«fragment_number» ≡ c .«next_fragment» → (fate c h ≡ lost TooLong) ↔ (1008 < c .characters + h .characters)
   unfolding fate
   join-room turn = (there, back)
@@ -125,7 +125,7 @@ module _ (c : Chain) (h : FragmentRead) where
       back : 1008 < c .characters + h .characters → fate c h ≡ lost TooLong
       back over = rw (eq-eqb (h .«fragment_number») (c .«next_fragment») turn, lt-ltb mostCharacters (charactersAfter c h) over)
 
-  -- ---- the record behind a fragment
+  -- ---- the record after a fragment
 
   -- a record that goes on is within its limits
   grown-limits : c .address ≤ 31 → c .«message_number» ≤ 63 → charactersAfter c h ≤ 1008 → Limits (grown c h)
@@ -140,7 +140,7 @@ module _ (c : Chain) (h : FragmentRead) where
       grown-slot : Taken → goesOn h ≡ true → Slot (grown c h)
       grown-slot t on = record { opened = λ is. grown-limits address message (t .fits); closed = λ shut. absurd (true≢false shut) }
 
-  -- .. and is the chain's, or closed
+  -- the record that a fragment leaves is of the chain's key, or closed
   pub record-key : isOpen (recordAfter (fate c h)) ≡ true → (recordAfter (fate c h) .address ≡ c .address) × (recordAfter (fate c h) .«message_number» ≡ c .«message_number»)
   record-key =
       fate-by (λ f. isOpen (recordAfter f) ≡ true → (recordAfter f .address ≡ c .address) × (recordAfter f .«message_number» ≡ c .«message_number»))

@@ -40,7 +40,7 @@ ofChain n = leb 14 n || eqb n 0 || eqb n 12
 abbrev tellsOfChain : Told → Bool
 tellsOfChain t = ofChain (numberTold t)
 
--- a first fragment, or one whose key is open
+-- where no fragment but a first one comes without an open chain, a later one has its chain
 has-chain : (first open-key : Bool) → (not first && not open-key) ≡ false → first ≡ false → open-key ≡ true
 has-chain true open-key e later = absurd (not-both true refl later)
 has-chain false true e later = refl
@@ -72,13 +72,13 @@ module _ (lent : ℕ) (row : List Chain) (address : ℕ) (words : List ℕ) wher
       either true r t refusal here = refusal
       either false r t refusal here = here
 
-  -- then all these questions are passed
+  -- a fragment that is heard passes all these questions
   heard-passes : (rest : Told) → Heard → whenHeard lent row address words rest ≡ rest
   heard-passes rest a =
       rw (le-ltb lent (length row * 1008) (a .room), a .right, le-leb address 31 (a .small), a .good .size, a .good .intact, a .good .sum)
       (⊎-elim (λ first. rw first) (λ later. rw later (rw (a .has later))) (decided (isFirst (headingIn words))))
 
-  -- .. and they are passed then only
+  -- all these questions are passed only by a fragment that is heard
   passed-heard : (rest : Told) → ofChain (numberTold (whenHeard lent row address words rest)) ≡ true → Heard
   passed-heard rest e =
       let room = passed-test tellsOfChain (ltb lent (length row * 1008)) refusals.Room _ refl e in
@@ -96,24 +96,24 @@ module _ (lent : ℕ) (row : List Chain) (address : ℕ) (words : List ℕ) wher
         has = has-chain (isFirst (headingIn words)) (known row address (headingIn words)) (chain .0);
       }
 
-  -- a chain is touched exactly then
+  -- a chain is touched exactly if the fragment is heard
   pub touched : (touches lent row address words ≡ true) ↔ Heard
   touched = (
     λ e. passed-heard (given []) (rw (eqb-true (numberTold (whenHeard lent row address words (given []))) 0 e)),
     λ a. rw (heard-passes (given []) a),
   )
 
-  -- the records then, and the records else
+  -- what holds of the records where the fragment is heard, and of the records as they were, holds of the records after it
   pub chains-by : (P : List Chain → Type 0) → (Heard → P (rowAfter row address (headingIn words))) → P row → P (chainsAfter lent row address words)
   unfolding chainsAfter
   chains-by P there else = ⊎-elim (λ is. rw is (there (touched .0 is))) (λ none. rw none else) (decided (touches lent row address words))
 
-  -- .. as an equation
+  -- the records where a chain is touched, as an equation
   pub chains-heard : Heard → chainsAfter lent row address words ≡ rowAfter row address (headingIn words)
   unfolding chainsAfter
   chains-heard a = rw (touched .1 a)
 
-  -- the answer then is what is told of the chain
+  -- the answer to a fragment that is heard is what is told of the chain
   pub step-heard : Heard → stepOf lent row address words ≡ toldOf row address (headingIn words) (fateOf row address (headingIn words))
   unfolding stepOf
   step-heard a = heard-passes _ a
@@ -132,7 +132,7 @@ module _ (lent : ℕ) (row : List Chain) (address : ℕ) (words : List ℕ) wher
       (λ a. after-sound row address (headingIn words) (a .right) (a .small) (message-small words) (a .has))
       right
 
-  -- .. and as long
+  -- a fragment leaves a row as long as it was
   pub chains-length : length (chainsAfter lent row address words) ≡ length row
   chains-length = chains-by (λ r. length r ≡ length row) (λ a. after-length row address (headingIn words)) refl
 
@@ -147,12 +147,12 @@ module _ (lent : ℕ) (row : List Chain) (address : ℕ) (words : List ℕ) wher
   others-stay whose n other =
       chains-by (Kept whose n row) (λ a. others-kept row address (headingIn words) whose n other) (kept-same whose n row)
 
-  -- .. its chain's record stays
+  -- the record of another key's chain stays
   pub other-record : (whose n i : ℕ) → OtherKey whose n address (headingIn words .«message_number») → isOf whose n (getD row i blank) ≡ true
       → getD (chainsAfter lent row address words) i blank ≡ getD row i blank
   other-record whose n i other is = kept-chain whose n row (chainsAfter lent row address words) (others-stay whose n other) i is
 
-  -- .. and none of it appears or goes
+  -- no chain of another key appears or goes
   pub other-slot : (whose n : ℕ) → OtherKey whose n address (headingIn words .«message_number») → find whose n (chainsAfter lent row address words) ≡ find whose n row
   other-slot whose n other = kept-find whose n row (chainsAfter lent row address words) (others-stay whose n other)
 
@@ -171,19 +171,19 @@ module _ (lent : ℕ) (row : List Chain) (address : ℕ) (words : List ℕ) wher
       ∙ rw (goes-on (chainBefore row address (headingIn words)) (headingIn words) (a .taken) on)
       (rw (ne-eqb (slotFor row address (headingIn words)) (length row) (λ e. omega (arith, a .free))))
 
-  -- .. and of one that ends its text
+  -- what is told of a fragment that ends its text
   pub told-whole : Accepted → goesOn (headingIn words) ≡ false → stepOf lent row address words ≡ given (beginning row address (headingIn words) (handingOut row address (headingIn words)))
   told-whole a ends =
       step-heard (a .heard)
       ∙ rw (is-whole (chainBefore row address (headingIn words)) (headingIn words) (a .taken) ends)
       (rw (ne-eqb (slotFor row address (headingIn words)) (length row) (λ e. omega (arith, a .free))))
 
-  -- of either: whether a first one closed an older chain of its key, and whether it is a first one
+  -- what is told of a fragment that is accepted: whether a first one closed an older chain of its key, and whether it is a first one
   pub beginning-told : Accepted → (valueTold (stepOf lent row address words) 0 ≡ bitOf (isFirst (headingIn words) && known row address (headingIn words))) × (valueTold (stepOf lent row address words) 1 ≡ bitOf (isFirst (headingIn words)))
   beginning-told a =
       ⊎-elim (λ on. rw (told-on a on) (refl, refl)) (λ ends. rw (told-whole a ends) (refl, refl)) (decided (goesOn (headingIn words)))
 
-  -- nothing is refused exactly then
+  -- nothing is refused exactly if the fragment is accepted
   pub accepted : (numberTold (stepOf lent row address words) ≡ 0) ↔ Accepted
   accepted = (there, back)
     where
@@ -239,7 +239,7 @@ module _ (lent : ℕ) (row : List Chain) (address : ℕ) (words : List ℕ) wher
           (λ t on some early. without _ some)
           (λ t ends some early. without _ some)
 
-  -- the others are 14, 15 and 16
+  -- no number is over 16, so that the refusals from 14 on are 14, 15 and 16
   pub number-most : numberTold (stepOf lent row address words) ≤ 16
   unfolding stepOf
   number-most =
@@ -255,11 +255,11 @@ module _ (lent : ℕ) (row : List Chain) (address : ℕ) (words : List ℕ) wher
       asked : (values : List ℕ) → numberTold (ask (full row address h) refusals.Full (given values)) ≤ 16
       asked values = ⊎-elim (λ is. rw is (omega arith)) (λ none. rw none (omega arith)) (decided (full row address h))
 
-  -- .. and are told of a chain that is touched
+  -- 14, 15 and 16 are told of a chain that is touched
   lost-heard : 14 ≤ numberTold (stepOf lent row address words) → Heard
   lost-heard late = of-chain (rw (le-leb 14 (numberTold (stepOf lent row address words)) late))
 
-  -- with them the key's chain is closed, if it was open, and nothing else changes; the answer tells whether it was
+  -- with 14, 15 and 16 the key's chain is closed, if it was open, and nothing else changes; the answer tells whether it was
   pub lost-closes : 14 ≤ numberTold (stepOf lent row address words)
       → (chainsAfter lent row address words ≡ set row (find address (headingIn words .«message_number») row) blank)
       × (stepOf lent row address words ≡ told (numberTold (stepOf lent row address words)) (bitOf (known row address (headingIn words)) ∷ []))
@@ -289,21 +289,21 @@ module _ (lent : ℕ) (row : List Chain) (address : ℕ) (words : List ℕ) wher
       chains-heard (a .heard)
       ∙ closes row address (headingIn words) (a .heard .right) (rw (is-whole (chainBefore row address (headingIn words)) (headingIn words) (a .taken) ends))
 
-  -- after such a refusal no chain of the key is open
+  -- after 14, 15 or 16 no chain of the key is open
   pub lost-not-found : 14 ≤ numberTold (stepOf lent row address words) → find address (headingIn words .«message_number») (chainsAfter lent row address words) ≡ length row
   lost-not-found late =
       let heard = lost-heard late in
       rw (lost-closes late .0) (cleared-not-found row address (headingIn words .«message_number») (heard .right))
 
-  -- .. and its slot's record is all zero
+  -- after 14, 15 or 16 the record of the chain's slot is all zero
   pub lost-zero : 14 ≤ numberTold (stepOf lent row address words) → getD (chainsAfter lent row address words) (find address (headingIn words .«message_number») row) blank ≡ blank
   lost-zero late = rw (lost-closes late .0) (zero-there row (find address (headingIn words .«message_number») row))
 
-  -- after a text handed out neither
+  -- after a text handed out no chain of the key is open
   pub whole-not-found : Accepted → goesOn (headingIn words) ≡ false → find address (headingIn words .«message_number») (chainsAfter lent row address words) ≡ length row
   whole-not-found a ends = rw (whole-closes a ends) (cleared-not-found row address (headingIn words .«message_number») (a .heard .right))
 
-  -- .. and the record of the slot that is told is all zero
+  -- after a text handed out the record of the slot that is told is all zero
   pub whole-zero : Accepted → goesOn (headingIn words) ≡ false → getD (chainsAfter lent row address words) (slotFor row address (headingIn words)) blank ≡ blank
   whole-zero a ends =
       rw (chains-heard (a .heard), is-whole (chainBefore row address (headingIn words)) (headingIn words) (a .taken) ends)

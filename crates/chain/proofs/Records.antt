@@ -26,12 +26,12 @@ pub record Limits (c : Chain) : Type 0 where
   pub of-sum : c .sum ≤ 127
   pub of-characters : c .characters ≤ 1008
 
--- .. and what a slot's record is: an open one within its limits, a closed one all zero
+-- what a slot's record is: an open one within its limits, a closed one all zero
 pub record Slot (c : Chain) : Type 0 where
   pub opened : isOpen c ≡ true → Limits c
   pub closed : isOpen c ≡ false → c ≡ blank
 
--- a record that is all zero is such a one
+-- a record that is all zero is a slot's
 pub blank-slot : Slot blank
 blank-slot = record { opened = λ is. absurd (false≢true is); closed = λ shut. refl }
 
@@ -48,7 +48,7 @@ module _ (c : Chain) where
         of-characters = leb-true (c .characters) 1008 (each .4);
       }
 
-  -- .. and back
+  -- a record within its limits passes the test of them
   pub in-limits : Limits c → inLimits c ≡ true
   in-limits l =
       rw (le-leb (c .address) 31 (l .of-address), le-leb (c .«message_number») 63 (l .of-message), le-leb (c .«next_fragment») 2 (l .of-next), le-leb (c .sum) 127 (l .of-sum), le-leb (c .characters) 1008 (l .of-characters))
@@ -87,7 +87,7 @@ pub record Key (address n : ℕ) (c : Chain) : Type 0 where
   pub same-address : c .address ≡ address
   pub same-message : c .«message_number» ≡ n
 
--- .. as it is tested
+-- a slot has the open chain of a key exactly if it is tested so
 pub is-of : (address n : ℕ) (c : Chain) → (isOf address n c ≡ true) ↔ Key address n c
 is-of address n c = (there, back)
   where
@@ -111,7 +111,7 @@ closed-of-none address n c shut = rw shut
 pub of-own : (c : Chain) → isOpen c ≡ true → isOf (c .address) (c .«message_number») c ≡ true
 of-own c is = is-of (c .address) (c .«message_number») c .1 (record { opened = is; same-address = refl; same-message = refl })
 
--- a slot of the row, and not one behind it, can be open
+-- a slot of the row, and not one past it, can be open
 pub open-within : (row : List Chain) (i : ℕ) → isOpen (getD row i blank) ≡ true → i < length row
 open-within row i is = ⊎-elim (λ within. ltb-true i (length row) within) (λ out. absurd (not-both (isOpen (getD row i blank)) is (rw (List·getD-eq-default row blank (ltb-false i (length row) out))))) (decided (ltb i (length row)))
 
@@ -120,19 +120,19 @@ module _ (address n : ℕ) (row : List Chain) where
   pub holds-at : (i : ℕ) → isOf address n (getD row i blank) ≡ true → holds address n row ≡ true
   holds-at i is = is-found (isOf address n) row blank i (open-within row i (is-of address n (getD row i blank) .0 is .opened)) is
 
-  -- .. and then it is the one that is found
+  -- where a key has an open chain, it is the one that is found
   pub held : holds address n row ≡ true → (find address n row < length row) × (isOf address n (getD row (find address n row) blank) ≡ true)
   held = found-passes (isOf address n) row blank
 
-  -- .. else no slot has it
+  -- where a key has no open chain, no slot has it
   pub none-held : holds address n row ≡ false → (i : ℕ) → isOf address n (getD row i blank) ≡ false
   none-held none i = ⊎-elim (λ is. absurd (not-both (holds address n row) (holds-at i is) none)) (λ other. other) (decided (isOf address n (getD row i blank)))
 
-  -- .. and what is found is the row's length
+  -- where a key has no open chain, what is found is the row's length
   pub not-found : holds address n row ≡ false → find address n row ≡ length row
   not-found = none-at (isOf address n) row
 
-  -- where no slot has it, it has no open chain
+  -- where no slot has a key's open chain, the key has none
   pub none-holds : ((i : ℕ) → i < length row → isOf address n (getD row i blank) ≡ false) → holds address n row ≡ false
   none-holds = is-none (isOf address n) row blank
 
@@ -147,7 +147,7 @@ pub record Sound (row : List Chain) : Type 0 where
   pub slots : (i : ℕ) → i < length row → Slot (getD row i blank)
   pub apart : Apart row
 
--- a row that is sound is that
+-- a row that is sound is as 01 has it
 sound-says : (row : List Chain) → sound row ≡ true → Sound row
 unfolding sound
 sound-says [] e = record { slots = λ i within. absurd (omega arith); apart = λ i j before within. absurd (omega arith) }
@@ -169,7 +169,7 @@ sound-says (c ∷ row) e =
     apart-each none rest zero (suc j) before within is = none-held (c .address) (c .«message_number») row (rw is at none) j
     apart-each none rest (suc i) (suc j) before within is = rest .apart i j (omega arith) (omega arith) is
 
--- .. and one that is that is sound
+-- a row whose slots are sound, and of which no two open chains are of one key, is sound
 says-sound : (row : List Chain) → Sound row → sound row ≡ true
 unfolding sound
 says-sound [] s = refl
@@ -195,11 +195,11 @@ fresh-sound zero = refl
 fresh-sound (suc count) = fresh-sound count
 
 module _ (row : List Chain) (good : sound row ≡ true) where
-  -- the record at any place, one behind the row too: it is within its limits where it is open
+  -- the record at any place, one past the row too: it is within its limits where it is open
   pub open-limits : (i : ℕ) → isOpen (getD row i blank) ≡ true → Limits (getD row i blank)
   open-limits i is = sound-row row .0 good .slots i (open-within row i is) .opened is
 
-  -- .. and all zero where it is closed
+  -- a closed record at any place is all zero
   pub closed-blank : (i : ℕ) → isOpen (getD row i blank) ≡ false → getD row i blank ≡ blank
   closed-blank i shut =
       ⊎-elim
@@ -223,7 +223,7 @@ module _ (row : List Chain) (good : sound row ≡ true) where
 -- ---- slot by slot
 
 module _ (row : List Chain) (i : ℕ) where
-  -- whether the row from a slot on is sound: the slot is, no slot behind it is of its key, and those behind it are
+  -- whether the row from a slot on is sound: the slot is, no slot after it is of its key, and those after it are
   pub sound-from : i < length row
       → let c = getD row i blank in
       sound (drop i row) ≡ (isSound c && not (isOpen c && holds (c .address) (c .«message_number») (drop (i + 1) row)) && sound (drop (i + 1) row))

@@ -31,7 +31,7 @@ module _ (row : List Chain) (address n : ℕ) where
     pub small : address ≤ 31
     pub is-open : holds address n row ≡ true
 
-  -- nothing is refused exactly then
+  -- nothing is refused exactly if the chain can be dropped so
   pub drop-accepted : (numberTold (dropOf row address n) ≡ 0) ↔ Droppable
   unfolding dropOf
   drop-accepted = (there, back)
@@ -56,11 +56,11 @@ module _ (row : List Chain) (address n : ℕ) where
   pub drop-closes : Droppable → droppedFrom row address n ≡ set row (find address n row) blank
   drop-closes a = rw (drop-accepted .1 a)
 
-  -- .. so that no chain of the key is open
+  -- after a drop no chain of the key is open
   pub drop-not-found : Droppable → find address n (droppedFrom row address n) ≡ length row
   drop-not-found a = rw (drop-closes a) (cleared-not-found row address n (a .right))
 
-  -- .. and its slot's record is all zero
+  -- after a drop the record of the chain's slot is all zero
   pub drop-zero : Droppable → getD (droppedFrom row address n) (find address n row) blank ≡ blank
   drop-zero a = rw (drop-closes a) (zero-there row (find address n row))
 
@@ -76,20 +76,20 @@ module _ (row : List Chain) (address n : ℕ) where
   pub drop-sound : sound row ≡ true → sound (droppedFrom row address n) ≡ true
   drop-sound right = drop-by (λ r. sound r ≡ true) (clear-sound row (find address n row) right) right
 
-  -- .. and as long
+  -- a drop leaves a row as long as it was
   pub drop-length : length (droppedFrom row address n) ≡ length row
   drop-length = drop-by (λ r. length r ≡ length row) (length-set row (find address n row) blank) refl
 
-  -- of another key nothing changes
+  -- a drop changes nothing of another key
   pub drop-others : (whose number : ℕ) → OtherKey whose number address n → Kept whose number row (droppedFrom row address n)
   drop-others whose number other =
       drop-by (Kept whose number row) (kept-set whose number row (find address n row) blank (other-found whose number row address n other) refl) (kept-same whose number row)
 
-  -- .. its chain's record stays
+  -- a drop of one key leaves the record of another key's chain
   pub drop-other-record : (whose number i : ℕ) → OtherKey whose number address n → isOf whose number (getD row i blank) ≡ true → getD (droppedFrom row address n) i blank ≡ getD row i blank
   drop-other-record whose number i other is = kept-chain whose number row (droppedFrom row address n) (drop-others whose number other) i is
 
-  -- .. and none of it appears or goes
+  -- with a drop of one key no chain of another appears or goes
   pub drop-other-slot : (whose number : ℕ) → OtherKey whose number address n → find whose number (droppedFrom row address n) ≡ find whose number row
   drop-other-slot whose number other = kept-find whose number row (droppedFrom row address n) (drop-others whose number other)
 
@@ -100,13 +100,13 @@ pub event-sound : (s : State) (event : Event) → sound (s .chains) ≡ true →
 event-sound s (came address words) right = stays-sound (length (s .bytes)) (s .chains) address words right
 event-sound s (dropped address n) right = drop-sound (s .chains) address n right
 
--- .. and so does a run
+-- a run keeps sound records sound
 pub run-sound : (s : State) (events : List Event) → sound (s .chains) ≡ true → sound (afterAll s events .chains) ≡ true
 unfolding afterAll
 run-sound s [] right = right
 run-sound s (event ∷ events) right = run-sound (after s event) events (event-sound s event right)
 
--- .. so that a run that begins with closed slots has sound records after each event
+-- a run that begins with closed slots has sound records after each event
 pub fresh-run-sound : (count : ℕ) (bytes : List ℕ) (events : List Event) → sound (afterAll (record { chains = fresh count; bytes = bytes }) events .chains) ≡ true
 fresh-run-sound count bytes events = run-sound (record { chains = fresh count; bytes = bytes }) events (fresh-sound count)
 
@@ -115,7 +115,7 @@ pub event-length : (s : State) (event : Event) → (length (after s event .chain
 event-length s (came address words) = (chains-length (length (s .bytes)) (s .chains) address words, buffer-length (s .chains) address words (s .bytes))
 event-length s (dropped address n) = (drop-length (s .chains) address n, refl)
 
--- .. and so does a run
+-- a run keeps the number of records and of bytes
 pub run-length : (s : State) (events : List Event) → (length (afterAll s events .chains) ≡ length (s .chains)) × (length (afterAll s events .bytes) ≡ length (s .bytes))
 unfolding afterAll
 run-length s [] = (refl, refl)
@@ -131,12 +131,12 @@ abbrev pub Others : ℕ → ℕ → Event → Type 0
 Others whose n (came address words) = OtherKey whose n address (headingIn words .«message_number»)
 Others whose n (dropped address number) = OtherKey whose n address number
 
--- .. of which the key's chain stays in its slot, and where it has none it gets none
+-- with an event of another key a key's chain stays in its slot, and where it has none it gets none
 pub other-slot-of : (s : State) (event : Event) (whose n : ℕ) → Others whose n event → find whose n (after s event .chains) ≡ find whose n (s .chains)
 other-slot-of s (came address words) whose n other = other-slot (length (s .bytes)) (s .chains) address words whose n other
 other-slot-of s (dropped address number) whose n other = drop-other-slot (s .chains) address number whose n other
 
--- .. and a run of such events
+-- a run of events that are all of another key
 unfoldable pub AllOthers : ℕ → ℕ → List Event → Type 0
 AllOthers whose n [] = Unit
 AllOthers whose n (event ∷ events) = Others whose n event × AllOthers whose n events
@@ -156,7 +156,7 @@ event-others s (came address words) whose n i other is =
 event-others s (dropped address number) whose n i other is =
     record { same-record = drop-other-record (s .chains) address number whose n i other is; same-text = refl }
 
--- .. and so does a run of any length
+-- a run of any length of other keys' events leaves a key's chain and its text
 pub run-others : (s : State) (events : List Event) (whose n i : ℕ) → AllOthers whose n events → isOf whose n (getD (s .chains) i blank) ≡ true → Same i s (afterAll s events)
 unfolding afterAll AllOthers
 run-others s [] whose n i others is = record { same-record = refl; same-text = refl }

@@ -41,7 +41,7 @@ module _ (row : List Chain) (address : ℕ) (h : FragmentRead) where
   pub cleared-length : length (cleared row address h) ≡ length row
   cleared-length = ⊎-elim (λ first. rw first (simp length-set)) (λ later. rw later) (decided (isFirst h))
 
-  -- .. and with the record that the fragment leaves
+  -- the row keeps its length with the record that the fragment leaves
   pub after-length : length (rowAfter row address h) ≡ length row
   after-length = simp length-set cleared-length
 
@@ -49,11 +49,11 @@ module _ (row : List Chain) (address : ℕ) (h : FragmentRead) where
   pub before-first : isFirst h ≡ true → chainBefore row address h ≡ unbegun address (h .«message_number»)
   before-first first = rw first
 
-  -- .. at the slot of its key
+  -- the chain of a later fragment stands at the slot of its key
   pub before-later : isFirst h ≡ false → chainBefore row address h ≡ getD row (find address (h .«message_number») row) blank
   before-later later = rw later
 
-  -- .. which is open and of its key where the fragment is a first one, or finds one
+  -- the chain before is open and of its key where the fragment is a first one, or finds one
   pub before-of : (isFirst h ≡ false → known row address h ≡ true)
       → (isOpen (chainBefore row address h) ≡ true) × (chainBefore row address h .address ≡ address) × (chainBefore row address h .«message_number» ≡ h .«message_number»)
   before-of has =
@@ -67,7 +67,7 @@ module _ (row : List Chain) (address : ℕ) (h : FragmentRead) where
   -- ---- the row stays sound
 
   module _ (good : sound row ≡ true) where
-    -- with the older chain of its key closed
+    -- the row is sound with the older chain of its key closed
     pub cleared-sound : sound (cleared row address h) ≡ true
     cleared-sound = ⊎-elim (λ first. rw first (clear-sound row (olderSlot row address h) good)) (λ later. rw later good) (decided (isFirst h))
 
@@ -85,7 +85,7 @@ module _ (row : List Chain) (address : ℕ) (h : FragmentRead) where
         (decided (isFirst h))
 
     module _ (small : address ≤ 31) (message : h .«message_number» ≤ 63) (has : isFirst h ≡ false → known row address h ≡ true) where
-      -- with the record that the fragment leaves
+      -- the row is sound with the record that the fragment leaves
       pub after-sound : sound (rowAfter row address h) ≡ true
       after-sound =
           let before = before-of has in
@@ -95,7 +95,7 @@ module _ (row : List Chain) (address : ℕ) (h : FragmentRead) where
           let key = record-key (chainBefore row address h) h is in
           rw (key .0 ∙ before .1, key .1 ∙ before .2) (alone j other))
 
-    -- a record that is all zero then: the key's chain is closed, and nothing else changed
+    -- where the fragment leaves a record that is all zero, the key's chain is closed, and nothing else changed
     pub closes : recordAfter (fateOf row address h) ≡ blank → rowAfter row address h ≡ set row (olderSlot row address h) blank
     closes shut =
         rw shut
@@ -115,7 +115,7 @@ module _ (row : List Chain) (address : ℕ) (h : FragmentRead) where
 
   -- ---- other keys
 
-  -- of another key nothing changes
+  -- a fragment changes nothing of another key
   pub others-kept : (whose n : ℕ) → OtherKey whose n address (h .«message_number») → Kept whose n row (rowAfter row address h)
   others-kept whose n other = ⊎-elim as-first as-later (decided (isFirst h))
     where
@@ -155,7 +155,7 @@ module _ (row : List Chain) (address : ℕ) (h : FragmentRead) where
           (kept-same whose n row))
           (decided (known row address h)))
 
-  -- .. whose slot is not the fragment's
+  -- the slot of another key's chain is not the fragment's
   pub slot-other : (whose n i : ℕ) → OtherKey whose n address (h .«message_number») → isOf whose n (getD row i blank) ≡ true → i ≡ slotFor row address h → ⊥
   slot-other whose n i other is here = ⊎-elim as-first as-later (decided (isFirst h))
     where

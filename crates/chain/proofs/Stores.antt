@@ -15,7 +15,7 @@ use Rattle.chain.specs.declared.Chain.{Chain}
 use Rattle.chain.specs.Chains.{blank, isOpen, isOf, find, holds, firstFree, sound}
 use Rattle.chain.proofs.Records.{Slot, blank-slot, is-of, Apart, Sound, sound-row, found-at, held, not-found, none-holds, closed-blank}
 
--- ---- it stays sound
+-- ---- the row stays sound
 
 -- a chain that is not of another's key has another key than that
 apart-back : (a b : Chain) → isOpen a ≡ true → (isOpen b ≡ true → isOf (b .address) (b .«message_number») a ≡ false) → isOf (a .address) (a .«message_number») b ≡ false
@@ -55,23 +55,23 @@ module _ (row : List Chain) (i : ℕ) (c : Chain) where
           let first = getD-set-other row i j c blank not-first in
           rw (there, first) (apart-back (getD row j blank) c (rw first at is) (λ opened. alone opened j not-first)))
           (λ other.
-          let behind = getD-set-other row i k c blank (eqb-false k i other) in
+          let there = getD-set-other row i k c blank (eqb-false k i other) in
           ⊎-elim
           (λ same.
           let first : j ≡ i = eqb-true j i same in
           let here : getD (set row i c) j blank ≡ c = ap (λ (m : ℕ). getD (set row i c) m blank) first ∙ getD-set-same row i c blank (omega arith) in
-          rw (here, behind) (alone (rw here at is) k (eqb-false k i other)))
+          rw (here, there) (alone (rw here at is) k (eqb-false k i other)))
           (λ neither.
           let first = getD-set-other row i j c blank (eqb-false j i neither) in
-          rw (first, behind) (before .apart j k less inside (rw first at is)))
+          rw (first, there) (before .apart j k less inside (rw first at is)))
           (decided (eqb j i)))
           (decided (eqb k i))
 
--- a slot closed
+-- a sound row is sound with a slot closed
 pub clear-sound : (row : List Chain) (i : ℕ) → sound row ≡ true → sound (set row i blank) ≡ true
 clear-sound row i good = set-sound row i blank good blank-slot (λ is. absurd (false≢true is))
 
--- .. is all zero then, also behind the row, where nothing is
+-- the record of a slot that is closed is all zero then, also past the row, where nothing is
 pub zero-there : (row : List Chain) (i : ℕ) → getD (set row i blank) i blank ≡ blank
 zero-there row i =
     ⊎-elim
@@ -82,7 +82,7 @@ zero-there row i =
 -- ---- a key's chain closed
 
 module _ (row : List Chain) (address n : ℕ) (good : sound row ≡ true) where
-  -- no slot is of the key then
+  -- with a key's chain closed no slot is of the key
   pub cleared-of-none : (i : ℕ) → isOf address n (getD (set row (find address n row) blank) i blank) ≡ false
   cleared-of-none i =
       ⊎-elim
@@ -100,18 +100,18 @@ module _ (row : List Chain) (address n : ℕ) (good : sound row ≡ true) where
       (⊎-elim (λ is. absurd (apart (sym (found-at row good address n i is)))) (λ none. none) (decided (isOf address n (getD row i blank)))))
       (decided (eqb i (find address n row)))
 
-  -- .. so that it has no open chain
+  -- with its chain closed a key has no open chain
   pub cleared-holds-none : holds address n (set row (find address n row) blank) ≡ false
   cleared-holds-none = none-holds address n (set row (find address n row) blank) (λ i within. cleared-of-none i)
 
-  -- .. and none is found
+  -- with its chain closed none is found for a key
   pub cleared-not-found : find address n (set row (find address n row) blank) ≡ length row
   cleared-not-found = not-found address n (set row (find address n row) blank) cleared-holds-none ∙ length-set row (find address n row) blank
 
 -- ---- a free slot
 
 module _ (row : List Chain) where
-  -- the slot that is found free is closed; behind the row too
+  -- the slot that is found free is closed; one past the row too
   pub free-closed : isOpen (getD row (firstFree row) blank) ≡ false
   free-closed =
       ⊎-elim
@@ -119,7 +119,7 @@ module _ (row : List Chain) where
       (λ out. rw (List·getD-eq-default row blank (ltb-false (firstFree row) (length row) out)))
       (decided (ltb (firstFree row) (length row)))
 
-  -- .. so that to close it changes nothing
+  -- to close a slot that is free changes nothing
   pub free-cleared : sound row ≡ true → set row (firstFree row) blank ≡ row
   free-cleared good = ap (set row (firstFree row)) (sym (closed-blank row good (firstFree row) free-closed)) ∙ set-getD row (firstFree row) blank
 
@@ -135,11 +135,11 @@ pub record Kept (address n : ℕ) (row after : List Chain) : Type 0 where
   pub each : (i : ℕ) → (getD after i blank ≡ getD row i blank) ⊎ ((isOf address n (getD row i blank) ≡ false) × (isOf address n (getD after i blank) ≡ false))
 
 module _ (address n : ℕ) where
-  -- a row as it was
+  -- of a row that is as it was nothing of a key changed
   pub kept-same : (row : List Chain) → Kept address n row row
   kept-same row = record { long = refl; each = λ i. inl refl }
 
-  -- one change after another
+  -- where neither of two changes changed anything of a key, both together did not
   pub kept-on : (row middle after : List Chain) → Kept address n row middle → Kept address n middle after → Kept address n row after
   kept-on row middle after first second =
       record { long = second .long ∙ first .long; each = λ i. joined i (first .each i) (second .each i) }
@@ -153,7 +153,7 @@ module _ (address n : ℕ) where
       joined i (inr a) (inl b) = inr (a .0, rw b (a .1))
       joined i (inr a) (inr b) = inr (a .0, b .1)
 
-  -- a slot changed that is not the key's and was not
+  -- a slot that is not the key's and was not changes nothing of the key
   pub kept-set : (row : List Chain) (i : ℕ) (c : Chain) → isOf address n (getD row i blank) ≡ false → isOf address n c ≡ false → Kept address n row (set row i c)
   kept-set row i c was is = record { long = length-set row i c; each = at-each }
     where
@@ -172,11 +172,11 @@ module _ (address n : ℕ) where
           (decided (eqb j i))
 
   module _ (row after : List Chain) (kept : Kept address n row after) where
-    -- then the key's chain is as it was
+    -- where nothing of a key changed, its chain is as it was
     pub kept-chain : (i : ℕ) → isOf address n (getD row i blank) ≡ true → getD after i blank ≡ getD row i blank
     kept-chain i is = ⊎-elim (λ same. same) (λ none. absurd (not-both (isOf address n (getD row i blank)) is (none .0))) (kept .each i)
 
-    -- .. and none of it appears
+    -- where nothing of a key changed, its chain is found where it was, or none is
     pub kept-find : find address n after ≡ find address n row
     kept-find =
         found-alike (isOf address n) after row blank (kept .long)

@@ -41,11 +41,11 @@ module _ (row : List Chain) (address : ℕ) (words buffer : List ℕ) where
     unfolding bufferAfter
     writes-at-end = rw (accepted (length buffer) row address words .1 a)
 
-    -- .. which is within its slot
+    -- the end of the fragment's text is within its slot
     pub within-slot : endPlace row address (headingIn words) + length (textIn words) ≤ (slotFor row address (headingIn words) + 1) * 1008
     within-slot = omega (arith, a .taken .fits)
 
-    -- .. and its slot within the lent bytes
+    -- the fragment's slot is within the lent bytes
     pub slot-within : (slotFor row address (headingIn words) + 1) * 1008 ≤ length buffer
     slot-within = omega (arith, a .free, a .heard .room)
 
@@ -59,7 +59,7 @@ module _ (row : List Chain) (address : ℕ) (words buffer : List ℕ) where
         rw writes-at-end
         (put-grows buffer (textIn words) (slotFor row address (headingIn words) * 1008) (chainBefore row address (headingIn words) .characters) (omega (arith, within-slot, slot-within)))
 
-    -- .. so that of a first fragment it is the fragment's alone
+    -- the text of a first fragment's chain is the fragment's alone
     pub text-begins : isFirst (headingIn words) ≡ true → textAt (bufferAfter row address words buffer) (slotFor row address (headingIn words)) (length (textIn words)) ≡ textIn words
     text-begins first =
         let none : chainBefore row address (headingIn words) .characters ≡ 0 = rw first in
@@ -96,7 +96,10 @@ module _ (row : List Chain) (address : ℕ) (words buffer : List ℕ) where
           let inside = slot-within a in
           ⊎-elim
           (λ lower. let before = ltb-true i (slotFor row address (headingIn words)) lower in put-keeps-before buffer (textIn words) (endPlace row address (headingIn words)) (getD row i blank .characters) (i * 1008) (omega arith) (omega arith))
-          (λ higher. let behind = ltb-false i (slotFor row address (headingIn words)) higher in ap (take (getD row i blank .characters)) (put-keeps-behind buffer (textIn words) (endPlace row address (headingIn words)) (i * 1008) (omega arith) (omega arith)))
+          (λ higher.
+          let above = ltb-false i (slotFor row address (headingIn words)) higher in
+          ap (take (getD row i blank .characters))
+          (put-keeps-behind buffer (textIn words) (endPlace row address (headingIn words)) (i * 1008) (omega arith) (omega arith)))
           (decided (ltb i (slotFor row address (headingIn words))))
 
   -- ---- a text handed out

@@ -27,7 +27,7 @@ module _ (row : List Chain) (address : ℕ) (h : FragmentRead) where
   abbrev pub beginning : List ℕ → List ℕ
   beginning rest = bitOf (isFirst h && known) ∷ bitOf (isFirst h) ∷ h .retrieval ∷ h .«mail_drop» ∷ rest
 
-  -- .. and a last one: that the text is whole, its slot, its place and its length
+  -- what a last fragment that is taken tells besides: that the text is whole, its slot, its place and its length
   abbrev pub handingOut : List ℕ
   handingOut = 1 ∷ slotFor row address h ∷ textPlace row address h ∷ charactersAfter (chainBefore row address h) h ∷ []
 
@@ -59,11 +59,11 @@ stepOf lent row address words = whenHeard lent row address words (toldOf row add
 abbrev pub touches : ℕ → List Chain → ℕ → List ℕ → Bool
 touches lent row address words = eqb (numberTold (whenHeard lent row address words (given []))) 0
 
--- what the records are then
+-- the records after a fragment
 unfoldable pub chainsAfter : ℕ → List Chain → ℕ → List ℕ → List Chain
 chainsAfter lent row address words = pick (touches lent row address words) (rowAfter row address (headingIn words)) row
 
--- what the lent bytes are then: a fragment that is not refused has written its text at its chain's end
+-- the lent bytes after a fragment: one that is not refused has written its text at its chain's end
 unfoldable pub bufferAfter : List Chain → ℕ → List ℕ → List ℕ → List ℕ
 bufferAfter row address words buffer =
     pick (eqb (numberTold (stepOf (length buffer) row address words)) 0) (put buffer (endPlace row address (headingIn words)) (textIn words)) buffer
@@ -77,11 +77,11 @@ dropOf row address n =
     (ask (not (holds address n row)) NoChain
     (given []))))
 
--- what the records are then
+-- the records after a drop
 abbrev pub droppedFrom : List Chain → ℕ → ℕ → List Chain
 droppedFrom row address n = pick (eqb (numberTold (dropOf row address n)) 0) (set row (find address n row) blank) row
 
--- the answer: 01's number, and what is told
+-- the answer to a fragment: 01's number, and what is told
 abbrev pub asAnswer : Told → ChainAnswer
 asAnswer t =
     record {
@@ -96,10 +96,10 @@ asAnswer t =
       characters = valueTold t 7;
     }
 
--- .. with the records then
+-- the answer to a fragment, with the records then
 abbrev pub asStep : Told → List Chain → ChainStep
 asStep t row = record { answer = asAnswer t; chains = record { slots = row } }
 
--- the answer to a drop
+-- the answer to a drop, with the records then
 abbrev pub asDrop : Told → List Chain → ChainDrop
 asDrop t row = record { number = numberTold t; chains = record { slots = row } }

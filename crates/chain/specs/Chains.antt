@@ -30,12 +30,12 @@ abbrev pub inLimits : Chain → Bool
 inLimits c =
     isAddress (c .address) && isMessage (c .«message_number») && leb (c .«next_fragment») 2 && leb (c .sum) 127 && leb (c .characters) mostCharacters
 
--- .. of a closed one: "a closed slot's record not all zero" (that it is closed says the first number)
+-- 01's table, 2, of a closed slot: "a closed slot's record not all zero" (that it is closed says the first number)
 abbrev pub isBlank : Chain → Bool
 isBlank c =
     eqb (c .address) 0 && eqb (c .«message_number») 0 && eqb (c .«next_fragment») 0 && eqb (c .sum) 0 && eqb (c .characters) 0
 
--- .. of one slot
+-- 01's table, 2, of one slot, open or closed
 abbrev pub isSound : Chain → Bool
 isSound c = pick (isOpen c) (inLimits c) (isBlank c)
 

@@ -4,7 +4,7 @@ use Rattle.refusal.specs.Told.{numberOf}
 use Rattle.chain.specs.Steps.{Fate, lost, grows, whole, recordAfter}
 use Rattle.chain.specs.declared.ChainFate.{ChainFate}
 
--- the number that becomes of a chain: that of the refusal, or 0
+-- the number of what becomes of a chain: that of the refusal with which it is lost, or 0
 abbrev pub fateNumber : Fate → ℕ
 fateNumber (lost r) = numberOf r
 fateNumber (grows c) = 0

@@ -32,11 +32,11 @@ orphan row address h = not (isFirst h) && not (known row address h)
 abbrev pub joinOf : List Chain → ℕ → FragmentRead → Told
 joinOf row address h = ask (orphan row address h) NoChain (toldOf row address h (fateOf row address h))
 
--- .. the records then
+-- the records after a good fragment
 abbrev pub joinedRow : List Chain → ℕ → FragmentRead → List Chain
 joinedRow row address h = pick (orphan row address h) row (rowAfter row address h)
 
--- .. and the lent bytes
+-- the lent bytes after a good fragment
 abbrev pub joinedBytes : List Chain → ℕ → List ℕ → List ℕ → List ℕ
 joinedBytes row address words buffer =
     pick (eqb (numberTold (joinOf row address (headingIn words))) 0) (put buffer (endPlace row address (headingIn words)) (textIn words)) buffer

@@ -22,7 +22,7 @@ abbrev pub answerTo : State → Event → Told
 answerTo s (came address words) = stepOf (length (s .bytes)) (s .chains) address words
 answerTo s (dropped address n) = dropOf (s .chains) address n
 
--- the state after it
+-- the state after an event
 abbrev pub after : State → Event → State
 after s (came address words) =
     record { chains = chainsAfter (length (s .bytes)) (s .chains) address words; bytes = bufferAfter (s .chains) address words (s .bytes) }

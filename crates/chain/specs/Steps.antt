@@ -1,4 +1,5 @@
--- What a fragment does to a chain and to a row of chains, and what a drop does (document 01, "A good first fragment closes ..").
+-- What a fragment does to a chain and to a row of chains (document 01, "A good first fragment closes an open chain of
+-- its key"). What a drop does is in specs/Answers.
 use Prim.Native.Nat.{ℕ, _+_, _*_, _%_, _^_}
 use mathlib.Core.Bool.{Bool, true, false, not}
 use mathlib.Core.List.{List}
@@ -18,7 +19,7 @@ use Rattle.chain.specs.Chains.{blank, find, firstFree}
 abbrev pub headingIn : List ℕ → FragmentRead
 headingIn words = asFragment (headingTold words)
 
--- whether it is a first one
+-- whether a fragment is a first one
 abbrev pub isFirst : FragmentRead → Bool
 isFirst h = eqb (h .«fragment_number») firstNumber
 
@@ -39,19 +40,19 @@ abbrev pub losing : Bool → Refusal → Fate → Fate
 losing true r rest = lost r
 losing false r rest = rest
 
--- 01: "F is 3 in a first fragment, then 0, 1, 2, 0 and so on": the F behind one
+-- 01: "F is 3 in a first fragment, then 0, 1, 2, 0 and so on": the F after one
 abbrev pub nextNumber : ℕ → ℕ
 nextNumber f = pick (ltb f 2) (f + 1) 0
 
--- the running sum behind a fragment
+-- the running sum after a fragment
 abbrev pub sumAfter : Chain → FragmentRead → ℕ
 sumAfter c h = (c .sum + h .sum) % 2 ^ cellBits
 
--- the length of the text behind a fragment
+-- the length of the text after a fragment
 abbrev pub charactersAfter : Chain → FragmentRead → ℕ
 charactersAfter c h = c .characters + h .characters
 
--- the record of a chain that goes on behind a fragment
+-- the record of a chain that goes on after a fragment
 abbrev pub grown : Chain → FragmentRead → Chain
 grown c h =
     record {
@@ -72,7 +73,7 @@ fate c h =
     (losing (not (eqb (sumAfter c h) 127)) Signature
     whole)))
 
--- the record of the slot then
+-- the record that the slot has then
 abbrev pub recordAfter : Fate → Chain
 recordAfter (lost r) = blank
 recordAfter (grows c) = c
@@ -94,7 +95,7 @@ module _ (row : List Chain) (address : ℕ) (h : FragmentRead) where
   abbrev pub cleared : List Chain
   cleared = pick (isFirst h) (set row olderSlot blank) row
 
-  -- .. "and takes the lowest-numbered free slot"; a continuation stays in its chain's
+  -- 01: a first fragment "takes the lowest-numbered free slot"; a continuation stays in its chain's
   abbrev pub slotFor : ℕ
   slotFor = pick (isFirst h) (firstFree cleared) olderSlot
 
@@ -102,11 +103,11 @@ module _ (row : List Chain) (address : ℕ) (h : FragmentRead) where
   abbrev pub chainBefore : Chain
   chainBefore = pick (isFirst h) (unbegun address (h .«message_number»)) (getD row olderSlot blank)
 
-  -- what becomes of it
+  -- what becomes of that chain
   abbrev pub fateOf : Fate
   fateOf = fate chainBefore h
 
-  -- the records then
+  -- the records after the fragment
   abbrev pub rowAfter : List Chain
   rowAfter = set cleared slotFor (recordAfter fateOf)
 

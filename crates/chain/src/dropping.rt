@@ -33,14 +33,14 @@ fn first_refusal(is_sound: bool, address: u32, message_number: u32) -> u32
     0
 }
 
-// The slot to look from: the first, or behind the last after a refusal, when none is looked at.
+// The slot to look from: the first, or the one past the last after a refusal, when none is looked at.
 fn first_slot(refusal: u32) -> usize
     ensures { λ r. ⌜ r ≡ pick (eqb refusal 0) 0 slotCount ⌝ }
 {
     if refusal == 0 { 0 } else { SLOTS }
 }
 
-// The number told where the search ended at a slot: 13 where it ended behind the last, unless another refusal comes first.
+// The number told where the search ended at a slot: 13 where it ended past the last, unless another refusal comes first.
 fn number_at(refusal: u32, slot: usize) -> u32
     ensures { λ r. ⌜ r ≡ pick (eqb refusal 0) (numberUnless NoChain (ltb slot slotCount)) refusal ⌝ }
 {

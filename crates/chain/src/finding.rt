@@ -103,7 +103,7 @@ pub(crate) fn judge(slots: [Chain; SLOTS]) -> Judged
     judged
 }
 
-// The same, where the slots are not wanted again.
+// Whether eight slots are sound, where they are not wanted again.
 pub(crate) fn sound(slots: [Chain; SLOTS]) -> bool
     ensures { λ r. ⌜ r ≡ sound slots ⌝ }
 {

@@ -14,7 +14,7 @@ use fragment::FragmentRead;
 use fragment::MOST_CHARACTERS;
 use refusal::Refusal;
 
-// F counts 3, 0, 1, 2, 0 and so on: the one behind.
+// F counts 3, 0, 1, 2, 0 and so on: the one after.
 fn next_number(fragment_number: u32) -> u32
     ensures { λ r. ⌜ r ≡ nextNumber «fragment_number» ⌝ }
 {
@@ -34,7 +34,7 @@ fn lost(refusal: Refusal, after: Chain) -> ChainFate
     }
 }
 
-// What a fragment makes of its chain: 14, 15 or 16 of 01's table, or its record behind it.
+// What a fragment makes of its chain: 14, 15 or 16 of 01's table, or its record after the fragment.
 pub fn fate(chain: Chain, heading: FragmentRead) -> ChainFate
     ensures { λ r. ⌜ r ≡ asFate (fate chain heading) ⌝ }
 {

@@ -45,7 +45,7 @@ not-sound = (refl, refl, refl)
 pub not-silent : talks (stepOf talking 0x00400117) ≡ true
 not-silent = refl
 
--- .. and at a checksum that holds the register: the decoder talks
+-- `other-silent` at a checksum that holds the register: the decoder talks
 pub not-wrong : talks (stepOf silent 0x00400116) ≡ true
 not-wrong = refl
 
@@ -53,7 +53,7 @@ not-wrong = refl
 pub not-checksum : stepOf talking 0x02000001 ≡ record { register = 0x400117; talking = 0 }
 not-checksum = refl
 
--- .. and at a decoder that is silent: the checksum that holds the register wakes it
+-- `talking-kept` at a decoder that is silent: the checksum that holds the register wakes it
 pub not-talking : stepOf silent 0x00400116 ≡ talking
 not-talking = refl
 

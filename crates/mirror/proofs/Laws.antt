@@ -59,7 +59,7 @@ unfolding runOf
 run-joined m [] ys = refl
 run-joined m (x ∷ xs) ys = run-joined (stepOf m x) xs ys
 
--- .. and so may a sum, which is the register of a run from 0
+-- a sum may be taken in two parts, as a run may: it is the register of a run from 0
 pub sum-joined : (xs ys : List ℕ) → sumOf (xs ++ ys) ≡ bitXor (sumOf xs) (sumOf ys)
 sum-joined xs ys =
     let start : Mirror = record { register = 0; talking = 0 } in
@@ -80,7 +80,7 @@ summed-by m next bits true special e = absurd (true≢false e)
 summed-by m next bits false true e = absurd (true≢false e)
 summed-by m next bits false false e = refl
 
--- .. is summed, and silences the decoder
+-- a packet that is not left out is summed, and silences the decoder
 pub step-summed : (m : Mirror) (n : ℕ) → leftOut n ≡ false → stepOf m n ≡ record { register = bitXor (m .register) (dataOf n); talking = 0 }
 step-summed m n summed = summed-by m (afterChecksum m n) (dataOf n) (isChecksum n) (isSpecial n) summed
 
@@ -110,7 +110,7 @@ matches register (n ∷ ns) = eqb (dataOf n) register || matches register ns
 pub other-silences : (m : Mirror) (n : ℕ) → isChecksum n ≡ false → (stepOf m n) .talking ≡ 0
 other-silences m n other = rw other
 
--- .. so does a packet 1CH to 1FH, which is none
+-- a packet 1CH to 1FH, which is no checksum, silences the decoder too
 pub special-silences : (m : Mirror) (n : ℕ) → isSpecial n ≡ true → (stepOf m n) .talking ≡ 0
 special-silences m n special =
     let large : firstSpecialID ≤ idOf n = leb-true firstSpecialID (idOf n) (first-of (leb firstSpecialID (idOf n)) _ special) in
@@ -126,7 +126,7 @@ talks-by m false false silent = refl
 pub checksum-talks : (m : Mirror) (n : ℕ) → isChecksum n ≡ true → talks (stepOf m n) ≡ (talks m || eqb (dataOf n) (m .register))
 checksum-talks m n check = rw check (talks-by m (talks m) (eqb (dataOf n) (m .register)) refl)
 
--- .. and its register is as it was
+-- after a checksum the register is as it was
 checksum-leaves : (m : Mirror) (n : ℕ) → isChecksum n ≡ true → (stepOf m n) .register ≡ m .register
 checksum-leaves m n check = step-register m n ∙ rw check
 
@@ -140,7 +140,7 @@ talks-of-checksums m (n ∷ ns) all =
     ∙ ap₂ (λ (t : Bool) (r : ℕ). t || matches r ns) (checksum-talks m n check) (checksum-leaves m n check)
     ∙ or-assoc (talks m) (eqb (dataOf n) (m .register)) (matches (m .register) ns)
 
--- after a list with another packet in it, the checksums behind the last such packet decide, against the sum up to it
+-- after a list with another packet in it, the checksums after the last such packet decide, against the sum up to it
 pub talks-after : (m : Mirror) (before : List ℕ) (n : ℕ) (after : List ℕ) → isChecksum n ≡ false → allChecksums after ≡ true
     → talks (runOf m (before ++ n ∷ after)) ≡ matches (bitXor (m .register) (sumOf (before ++ n ∷ []))) after
 unfolding runOf
@@ -151,7 +151,7 @@ talks-after m before n after other all =
     ∙ talks-of-checksums reached after all
     ∙ ap₂ (λ (t r : ℕ). not (eqb t 0) || matches r after) silent (register-after m (before ++ n ∷ []))
 
--- the last packet of a list that is no checksum, with what stands before and behind it
+-- the last packet of a list that is no checksum, with what stands before and after it
 pub record LastOther (ns : List ℕ) : Type 0 where
   pub before : List ℕ
   pub packet : ℕ
@@ -160,7 +160,7 @@ pub record LastOther (ns : List ℕ) : Type 0 where
   pub other : isChecksum packet ≡ false
   pub checksums : allChecksums after ≡ true
 
--- .. stands one place further behind a packet more
+-- with one packet more before the list, its last packet that is no checksum stands one place further on
 further : (n : ℕ) (ns : List ℕ) → LastOther ns → LastOther (n ∷ ns)
 further n ns last =
     record {
@@ -172,7 +172,7 @@ further n ns last =
       checksums = last .checksums;
     }
 
--- .. or is the first, before checksums alone
+-- of a list with one packet more before it, the last that is no checksum is that of the list, or the packet itself before checksums alone
 last-by : (n : ℕ) (ns : List ℕ) (check : Bool) → isChecksum n ≡ check → (allChecksums ns ≡ true) ⊎ LastOther ns → (allChecksums (n ∷ ns) ≡ true) ⊎ LastOther (n ∷ ns)
 unfolding allChecksums
 last-by n ns true e (inl all) = inl (rw (e, all))
@@ -190,7 +190,7 @@ last-other (n ∷ ns) = last-by n ns (isChecksum n) refl (last-other ns)
 pub talking-kept : (m : Mirror) (n : ℕ) → isChecksum n ≡ true → talks m ≡ true → stepOf m n ≡ m
 talking-kept m n check talking = rw (check, talking)
 
--- by whether the packet is a checksum
+-- a silent decoder stays silent under a packet that does not hold the register, by whether it is a checksum
 silent-by : (m : Mirror) (n : ℕ) (check : Bool) → isChecksum n ≡ check → talks m ≡ false → (dataOf n ≡ m .register → ⊥) → talks (stepOf m n) ≡ false
 silent-by m n true check silent wrong = checksum-talks m n check ∙ rw (silent, ne-eqb (dataOf n) (m .register) wrong)
 silent-by m n false other silent wrong = ap (λ (t : ℕ). not (eqb t 0)) (other-silences m n other)
@@ -206,7 +206,7 @@ pub closing-given : (m : Mirror) → sound m ≡ true → (closingOf m) .number 
 unfolding builtOf
 closing-given m small = rw small
 
--- .. and holds the register
+-- the closing checksum holds the register
 closing-holds : (m : Mirror) → sound m ≡ true → (closingOf m) .packet .bits ≡ m .register
 unfolding builtOf
 closing-holds m small = rw small
@@ -235,7 +235,7 @@ stays-sound m (n ∷ ns) small =
     (ap (λ (r : ℕ). ltb r (2 ^ 24)) (step-register m n)
     ∙ sound-by (leftOut n) (m .register) (dataOf n) (ltb-true (m .register) (2 ^ 24) small) (omega arith))
 
--- 24 data bits or none
+-- the data bits of a packet, or 0 in their place, are 24 bits
 kept-sound : (good : Bool) (n : ℕ) → ltb (kept good (dataOf n)) (2 ^ 24) ≡ true
 kept-sound true n = lt-ltb (dataOf n) (2 ^ 24) (omega arith)
 kept-sound false n = refl

@@ -16,11 +16,11 @@ use Rattle.packet.specs.declared.Built.{Built}
 use Rattle.mirror.specs.declared.Mirror.{Mirror}
 use Rattle.mirror.specs.declared.Mirrored.{Mirrored}
 
--- S8.4.6
+-- whether a packet is a checksum (S8.4.6)
 abbrev pub isChecksum : ℕ → Bool
 isChecksum n = eqb (idOf n) checksumID
 
--- 1CH to 1FH
+-- whether a packet is one of 1CH to 1FH
 abbrev pub isSpecial : ℕ → Bool
 isSpecial n = among firstSpecialID lastSpecialID (idOf n)
 
@@ -58,7 +58,7 @@ sumOf (n ∷ ns) = pick (isChecksum n || isSpecial n) (sumOf ns) (bitXor (dataOf
 abbrev pub sound : Mirror → Bool
 sound m = ltb (m .register) (2 ^ 24)
 
--- an answer with a mirror: after a refusal it is as it was handed in
+-- the answer to packets: after a 2 the mirror is as it was handed in
 abbrev pub answered : Mirror → Mirror → Mirrored
 answered m next = record { number = numberUnless State (sound m); mirror = pick (sound m) next m }
 

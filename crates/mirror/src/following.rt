@@ -65,6 +65,7 @@ pub fn step(mirror: Mirror, packet: Packet) -> Mirrored
     }
 }
 
+// The loop of a run: the register, and whether the decoder talks, packet by packet.
 fn stepped_through(register: u32, talking: u32, packets: &[u32]) -> Mirrored
     ensures { λ r. ⌜ r ≡ record { number = 0; mirror = runOf (record { register = register; talking = talking }) (now (packets .entry)) } ⌝ }
 {

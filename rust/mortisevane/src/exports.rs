@@ -928,7 +928,8 @@ pub struct Mirror {
     pub talking: u32,
 }
 
-/// The mirror after what was done; `number` is 0, or the refusal's and the mirror is as it was.
+/// The mirror after what was done; `number` is 0, or the refusal's. After a refusal the mirror is the one that was handed in;
+/// `reset`, which is handed none, gives one of zeros.
 #[repr(C)]
 #[derive(Clone, Copy, Debug, Default, PartialEq, Eq)]
 pub struct Mirrored {

@@ -27,9 +27,9 @@ within-row true = omega arith
 within-row false = omega arith
 
 module _ (row : List Chain) (eight : length row ≡ 8) (address n : ℕ) where
-  -- with a slot behind the last no record is changed, whatever is told
+  -- with a slot past the last no record is changed, whatever is told
   unchanged : (number slot : ℕ) → length row ≤ slot → _≡_ {A = ChainDrop} (record { number = number; chains = record { slots = set row slot blank } }) (record { number = number; chains = record { slots = row } })
-  unchanged number slot behind = ap (λ (slots : List Chain). record { number = number; chains = record { slots = slots } }) (set-out row slot blank behind)
+  unchanged number slot out = ap (λ (slots : List Chain). record { number = number; chains = record { slots = slots } }) (set-out row slot blank out)
 
   -- 13, or the chain is closed
   searched : (held : Bool) (slot : ℕ) → ltb slot (length row) ≡ held

@@ -10,23 +10,25 @@ use Rattle.chain.specs.declared.Chain.{Chain}
 use Rattle.chain.specs.Chains.{blank, isOpen, isSound, find, holds, sound}
 use Rattle.chain.proofs.Records.{sound-from}
 
--- an open slot whose key is met again spoils the row,
+-- an open slot whose key is met again spoils the row
 spoils : (good opened met rest : Bool) → opened ≡ true → met ≡ true → (good && not (opened && met) && rest) ≡ false
 spoils true opened met rest is again = rw (is, again)
 spoils false opened met rest is again = refl
 
--- .. and a sound one whose key is not leaves the answer to the rest
+-- a sound slot whose key is not met again leaves the answer to the rest
 leaves : (good opened met rest : Bool) → good ≡ true → (opened && met) ≡ false → (good && not (opened && met) && rest) ≡ rest
 leaves good opened met rest sane alone = rw (sane, alone)
 
 module _ (row : List Chain) (slot : ℕ) (within : slot < length row) where
-  -- the slot, and its key behind it
+  -- the record of the slot
   abbrev here : Chain
   here = getD row slot blank
 
+  -- the place where its key is found again; the row's length where it is not
   abbrev pub Again : ℕ
   Again = slot + 1 + find (here .address) (here .«message_number») (drop (slot + 1) row)
 
+  -- whether its key is found again
   abbrev met : Bool
   met = holds (here .address) (here .«message_number») (drop (slot + 1) row)
 
@@ -34,12 +36,12 @@ module _ (row : List Chain) (slot : ℕ) (within : slot < length row) where
   pub unsound : isSound here ≡ false → sound (drop slot row) ≡ false
   unsound bad = rw (sound-from row slot within, bad)
 
-  -- a closed one has no key
+  -- a closed slot has no key: those after it are still to be asked
   pub closed : isSound here ≡ true → here .«is_open» ≡ 0 → sound (drop slot row) ≡ sound (drop (slot + 1) row)
   closed good shut =
       rw (sound-from row slot within) (leaves (isSound here) (isOpen here) met (sound (drop (slot + 1) row)) good (rw (eq-eqb (here .«is_open») 0 shut)))
 
-  -- an open one whose key is found behind it: the row is not sound
+  -- an open slot whose key is found after it: the row is not sound
   pub twice : (here .«is_open» ≡ 0 → ⊥) → Again < length row → sound (drop slot row) ≡ false
   twice opened found =
       let left : length (drop (slot + 1) row) ≡ length row - (slot + 1) = length-drop (slot + 1) row in
@@ -47,7 +49,7 @@ module _ (row : List Chain) (slot : ℕ) (within : slot < length row) where
       (spoils (isSound here) (isOpen here) met (sound (drop (slot + 1) row)) (ap not (ne-eqb (here .«is_open») 0 opened))
       (lt-ltb (find (here .address) (here .«message_number») (drop (slot + 1) row)) (length (drop (slot + 1) row)) (omega arith)))
 
-  -- .. and one whose key is not: those behind it are still to be asked
+  -- an open slot whose key is not found after it: those after it are still to be asked
   pub alone : isSound here ≡ true → (here .«is_open» ≡ 0 → ⊥) → Again ≡ length row → sound (drop slot row) ≡ sound (drop (slot + 1) row)
   alone good opened none =
       let left : length (drop (slot + 1) row) ≡ length row - (slot + 1) = length-drop (slot + 1) row in

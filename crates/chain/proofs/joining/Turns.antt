@@ -49,7 +49,7 @@ free-cleared (c ∷ row) (suc k) within = rw (← free-cleared row k (omega arit
         (decided (ltb k later))
 
 module _ (row : List Chain) (address : ℕ) (h : FragmentRead) (eight : length row ≡ 8) (older : ℕ) (found : older ≡ find address (h .«message_number») row) where
-  -- a key's chain is found in one of the slots, or behind them
+  -- a key's chain is found in one of the slots, or past them
   older-most : older ≤ length row
   older-most = omega (arith, found, first-most (isOf address (h .«message_number»)) row)
 
@@ -60,12 +60,12 @@ module _ (row : List Chain) (address : ℕ) (h : FragmentRead) (eight : length r
       let lowest : slot ≡ firstFree (set row older blank) = there ∙ ap (λ (n : ℕ). pick (ltb older n) older n) is ∙ free-cleared row older older-most in
       rw (eq-eqb (h .«fragment_number») 3 first, eight, lowest, found)
 
-  -- a later one goes to its chain's slot,
+  -- a later fragment goes to its chain's slot
   pub turn-later : (before : Chain) (some : Bool) → (h .«fragment_number» ≡ 3 → ⊥) → before ≡ getD row older blank → some ≡ ltb older 8
       → _≡_ {A = Turn} (record { older = older; slot = older; chain = before; known = some }) (turnOf row address h)
   turn-later before some later is whether = rw (ne-eqb (h .«fragment_number») 3 later, eight, whether, is, found)
 
--- the records then: in a chain's own slot it does not matter that the older record was cleared
+-- the records after a fragment: in a chain's own slot it does not matter that the older record was cleared
 pub settled : (row : List Chain) (address : ℕ) (h : FragmentRead) (x : Chain) → set (set row (olderSlot row address h) blank) (slotFor row address h) x ≡ set (cleared row address h) (slotFor row address h) x
 settled row address h x = by-kind (isFirst h)
   where
@@ -101,7 +101,7 @@ module _ (row : List Chain) (address : ℕ) (h : FragmentRead) where
       let none = not-true (known row address h) (second-of (not (isFirst h)) (not (known row address h)) is) in
       rw later (set-out row (olderSlot row address h) _ (ltb-false (olderSlot row address h) (length row) none))
 
-  -- 13: it is refused
+  -- 13: a later fragment of a key that has no open chain is refused
   pub joins-none : orphan row address h ≡ true → asStep (joinOf row address h) (joinedRow row address h) ≡ asStep (told 13 []) (rowAfter row address h)
   joins-none is = rw (orphan-stays is, is)
 
@@ -121,7 +121,7 @@ module _ (row : List Chain) (address : ℕ) (h : FragmentRead) where
       pub joins-full : slotFor row address h ≡ length row → asStep (joinOf row address h) (joinedRow row address h) ≡ asStep (told 12 []) (rowAfter row address h)
       joins-full there = rw (is, told-taken none, eq-eqb (slotFor row address h) (length row) there)
 
-      -- .. or one is taken
+      -- where a slot is free, the fragment is taken
       pub joins-taken : (slotFor row address h ≡ length row → ⊥) → asStep (joinOf row address h) (joinedRow row address h) ≡ asStep (takenOf (turnOf row address h) h) (rowAfter row address h)
       joins-taken there = rw (is, told-taken none, ne-eqb (slotFor row address h) (length row) there)
 
@@ -130,11 +130,11 @@ abbrev joined : List Chain → ℕ → FragmentRead → ChainStep
 joined row address h = asStep (joinOf row address h) (joinedRow row address h)
 
 module _ (row : List Chain) (address : ℕ) (words buffer : List ℕ) (h : FragmentRead) (is : h ≡ headingIn words) (r : ChainStep) (t : Told) (after : List Chain) (told : joined row address h ≡ asStep t after) (gives : r ≡ asStep t after) where
-  -- the number that is told
+  -- the number that is told of a good fragment
   number-told : numberTold t ≡ numberTold (joinOf row address (headingIn words))
   number-told = sym (ap (λ (s : ChainStep). s .answer .number) told) ∙ ap (λ (f : FragmentRead). numberTold (joinOf row address f)) is
 
-  -- the answer
+  -- the answer to a good fragment
   answered : r ≡ joined row address (headingIn words)
   answered = gives ∙ sym told ∙ ap (joined row address) is
 
@@ -142,7 +142,7 @@ module _ (row : List Chain) (address : ℕ) (words buffer : List ℕ) (h : Fragm
   pub refused-joins : (numberTold t ≡ 0 → ⊥) → (r ≡ joined row address (headingIn words)) × (buffer ≡ joinedBytes row address words buffer)
   refused-joins some = (answered, rw (ne-eqb (numberTold (joinOf row address (headingIn words))) 0 (λ none. some (number-told ∙ none))))
 
-  -- .. and one that is not, its text
+  -- a good fragment that is not refused writes its text
   pub taken-joins : (exit : List ℕ) → numberTold t ≡ 0 → exit ≡ put buffer (endPlace row address h) (textIn words) → (r ≡ joined row address (headingIn words)) × (exit ≡ joinedBytes row address words buffer)
   taken-joins exit none written = (
     answered,

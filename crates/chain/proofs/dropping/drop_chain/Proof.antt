@@ -68,7 +68,7 @@ loop-again c =
     let args = judged .before .before .args in
     (omega arith, turn .loop .inv .1 ∙ found-later (isOf (args .address) (args .message-number)) (judged .judge .result .slots) blank (turn .loop .slot) (omega (arith, long judged)) (sym (c .before .is-of .ensures) ∙ c .if1 .left))
 
--- the search ended where the key is found, or behind the last slot
+-- the search ended where the key is found, or past the last slot
 found : (c : tie.Left-loop Inv-loop μ-loop) → let turn = c .before in let judged = turn .before .before .before in let args = judged .before .before .args in turn .loop .slot ≡ turn .before .first-slot .result + find (args .address) (args .message-number) (drop (turn .before .first-slot .result) (judged .judge .result .slots))
 found c =
     let turn = c .before in
@@ -87,7 +87,7 @@ mul-t19 c = search needs
 element-set-from-judged : tie.Need-element-set-from-judged Inv-loop μ-loop
 element-set-from-judged c = search needs
 
--- its record is cleared, where there is one
+-- the record of the slot found is cleared, where there is one
 cleared : (c : tie.Joined2 Inv-loop μ-loop) → let turn = c .before .before in c .if2 .judged .slots ≡ set (turn .before .before .before .judge .result .slots) (turn .loop .slot) blank
 cleared c =
     let turn = c .before .before in

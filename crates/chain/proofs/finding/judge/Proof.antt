@@ -1,5 +1,5 @@
 -- `judge` meets its contract: what is sound from a slot on is sound from the start, and the key of an open slot is
--- looked for behind it from place to place.
+-- looked for after it from place to place.
 use Prim.Native.Nat.{_+_, _-_, _≤_}
 use mathlib.Core.Bool.{Bool}
 use mathlib.Core.Logic.{⊎-elim}
@@ -33,7 +33,7 @@ abbrev μ-loop : tie.MeasureT-loop
 long : (c : tie.Start Inv-loop2 μ-loop2 Inv-loop μ-loop) → length (c .args .slots) ≡ 8
 long c = search needs
 
--- the answer by whether they are sound
+-- the answer by whether the slots are sound
 abbrev answer : tie.Start Inv-loop2 μ-loop2 Inv-loop μ-loop → Bool → Judged
 answer c is = record { slots = c .args .slots; «is_sound» = is }
 
@@ -71,7 +71,7 @@ element-copy-out-other c = search needs
 is-of-requires : tie.Need-is-of-requires Inv-loop2 μ-loop2 Inv-loop μ-loop
 is-of-requires c κs = search needs
 
--- a slot behind it is of its key
+-- a later slot is of the key
 returns-2 : tie.Need-returns-2 Inv-loop2 μ-loop2 Inv-loop μ-loop
 returns-2 c =
     let at = c .before .before .before .before in
@@ -88,7 +88,7 @@ add-j-2 c = search needs
 loop2-less : tie.Need-loop2-less Inv-loop2 μ-loop2 Inv-loop μ-loop
 loop2-less c = search needs
 
--- .. is not
+-- a later slot is not of the key
 loop2-again : tie.Need-loop2-again Inv-loop2 μ-loop2 Inv-loop μ-loop
 loop2-again c =
     let at = c .before .before .before .before in
@@ -103,7 +103,7 @@ add-i c = search needs
 loop-less : tie.Need-loop-less Inv-loop2 μ-loop2 Inv-loop μ-loop
 loop-less c = search needs
 
--- no slot behind it is, or it is closed
+-- no later slot is of the key, or the slot is closed
 loop-again : tie.Need-loop-again Inv-loop2 μ-loop2 Inv-loop μ-loop
 loop-again c =
     let asked = c .before .before .before in

@@ -31,25 +31,38 @@ long : (c : tie.Start) → length (c .args .slots) ≡ 8
 long c = search needs
 
 -- where the fragment goes
-there : (c : tie.After-turn-of) → let start = c .before .before .before in c .turn-of .result ≡ turnOf (start .args .slots) (start .args .address) (start .args .heading)
+there : (c : tie.After-turn-of)
+    → let start = c .before .before .before in
+    c .turn-of .result ≡ turnOf (start .args .slots) (start .args .address) (start .args .heading)
 there c = c .turn-of .ensures
 
--- it is none of a key without a chain
-no-orphan : (c : tie.Else1) → let start = c .before .before .before .before .before .before .before .before .before in orphan (start .args .slots) (start .args .address) (start .args .heading) ≡ false
+-- the fragment is no later one of a key without a chain
+no-orphan : (c : tie.Else1)
+    → let stored = c .before .before .before in
+    let found = stored .before .before .before in
+    let start = found .before .before .before in
+    orphan (start .args .slots) (start .args .address) (start .args .heading) ≡ false
 no-orphan c =
-    let found = c .before .before .before .before .before .before in
+    let stored = c .before .before .before in
+    let found = stored .before .before .before in
     let h = found .before .before .before .args .heading in
     ap (λ (t : Turn). not (isFirst h) && not (t .known)) (sym (there found)) ∙ c .if1 .left
 
 -- what becomes of the chain
-fate-is : (c : tie.After-fate) → let start = c .before .before .before .before in c .fate .result ≡ asFate (fateOf (start .args .slots) (start .args .address) (start .args .heading))
+fate-is : (c : tie.After-fate)
+    → let found = c .before in
+    let start = found .before .before .before in
+    c .fate .result ≡ asFate (fateOf (start .args .slots) (start .args .address) (start .args .heading))
 fate-is c =
     let found = c .before in
     let h = found .before .before .before .args .heading in
     c .fate .ensures ∙ ap (λ (t : Turn). asFate (fate (t .chain) h)) (there found)
 
--- the records then
-row-is : (c : tie.After-stored2) → let start = c .before .before .before .before .before .before in c .stored2 .result ≡ rowAfter (start .args .slots) (start .args .address) (start .args .heading)
+-- the records after the fragment
+row-is : (c : tie.After-stored2)
+    → let found = c .before .before .before in
+    let start = found .before .before .before in
+    c .stored2 .result ≡ rowAfter (start .args .slots) (start .args .address) (start .args .heading)
 row-is c =
     let found = c .before .before .before in
     let start = found .before .before .before in
@@ -61,17 +74,33 @@ row-is c =
     ∙ settled row (start .args .address) (start .args .heading) (recordAfter (fateOf row (start .args .address) (start .args .heading)))
 
 -- the chain is not lost
-not-lost : (c : tie.Else2) → let start = c .before .before .before .before .before .before .before .before .before .before .before in fateNumber (fateOf (start .args .slots) (start .args .address) (start .args .heading)) ≡ 0
-not-lost c = sym (ap (λ (g : ChainFate). g .number) (fate-is (c .before .before .before .before .before .before .before))) ∙ c .if2 .left
+not-lost : (c : tie.Else2)
+    → let stored = c .before .before .before .before .before in
+    let found = stored .before .before .before in
+    let start = found .before .before .before in
+    fateNumber (fateOf (start .args .slots) (start .args .address) (start .args .heading)) ≡ 0
+not-lost c =
+    let stored = c .before .before .before .before .before in
+    let fated = stored .before .before in
+    sym (ap (λ (g : ChainFate). g .number) (fate-is fated)) ∙ c .if2 .left
 
 -- the slot is one of eight, and has room for the text
-bounds : (c : tie.Else3) → let found = c .before .before .before .before .before .before .before .before .before .before in
+bounds : (c : tie.Else3)
+    → let kept = c .before .before in
+    let stored = kept .before .before .before .before .before in
+    let found = stored .before .before .before in
     (found .turn-of .result .slot < 8) × (found .turn-of .result .chain .characters + found .before .before .before .args .heading .characters ≤ 1008)
 bounds c =
-    let found = c .before .before .before .before .before .before .before .before .before .before in
+    let kept = c .before .before in
+    let stored = kept .before .before .before .before .before in
+    let found = stored .before .before .before in
     let start = found .before .before .before in
-    let most : found .turn-of .result .slot ≤ 8 = rw (there found, ← long start) (slot-most (start .args .slots) (start .args .address) (start .args .heading)) in
-    (⊎-elim (λ same. absurd (c .if3 .left same)) (λ less. less) (eq-or-lt-of-le most), rw (there found) (has-room (chainBefore (start .args .slots) (start .args .address) (start .args .heading)) (start .args .heading) (not-lost (c .before .before))))
+    let most : found .turn-of .result .slot ≤ 8 =
+    rw (there found, ← long start) (slot-most (start .args .slots) (start .args .address) (start .args .heading)) in
+    let before = chainBefore (start .args .slots) (start .args .address) (start .args .heading) in (
+      ⊎-elim (λ same. absurd (c .if3 .left same)) (λ less. less) (eq-or-lt-of-le most),
+      rw (there found) (has-room before (start .args .heading) (not-lost kept)),
+    )
 
 turn-of-requires : tie.Need-turn-of-requires
 turn-of-requires c κs = search needs
@@ -93,15 +122,19 @@ unchanged-requires c κs = search needs
 
 returns : tie.Need-returns
 returns c =
-    let step = c .before .before .before .before .before in
-    let found = step .before .before .before in
+    let stored = c .before .before .before .before .before in
+    let found = stored .before .before .before in
     let start = found .before .before .before in
     let row = start .args .slots in
+    let address = start .args .address in
+    let words = start .args .words .now in
+    let buffer = start .args .buffer .now in
     let h = start .args .heading in
-    let is : orphan row (start .args .address) h ≡ true = ap (λ (t : Turn). not (isFirst h) && not (t .known)) (sym (there found)) ∙ c .before .before .if1 .taken in
-    refused-joins row (start .args .address) (start .args .words .now) (start .args .buffer .now) h (start .pre .1 .1) (c .unchanged .result) (refused NoChain) (rowAfter row (start .args .address) h)
-    (joins-none row (start .args .address) h is)
-    (c .unchanged .ensures ∙ rw (c .before .number .ensures, row-is step))
+    let is : orphan row address h ≡ true =
+    ap (λ (t : Turn). not (isFirst h) && not (t .known)) (sym (there found)) ∙ c .before .before .if1 .taken in
+    refused-joins row address words buffer h (start .pre .1 .1) (c .unchanged .result) (refused NoChain) (rowAfter row address h)
+    (joins-none row address h is)
+    (c .unchanged .ensures ∙ rw (c .before .number .ensures, row-is stored))
     (λ none. omega arith)
 
 refused-requires : tie.Need-refused-requires
@@ -109,16 +142,20 @@ refused-requires c κs = search needs
 
 returns-2 : tie.Need-returns-2
 returns-2 c =
-    let found = c .before .before .before .before .before .before .before .before .before in
+    let chained = c .before .before .before in
+    let stored = chained .before .before .before in
+    let fated = stored .before .before in
+    let found = fated .before in
     let start = found .before .before .before in
     let row = start .args .slots in
+    let address = start .args .address in
+    let words = start .args .words .now in
+    let buffer = start .args .buffer .now in
     let h = start .args .heading in
-    let step = c .before .before .before .before .before .before in
-    let fated = step .before .before in
-    let f = fateOf row (start .args .address) h in
-    refused-joins row (start .args .address) (start .args .words .now) (start .args .buffer .now) h (start .pre .1 .1) _ (told (fateNumber f) (bitOf (known row (start .args .address) h) ∷ [])) (rowAfter row (start .args .address) h)
-    (joins-lost row (start .args .address) h (no-orphan (c .before .before .before)) (λ none. c .before .if2 .taken (ap (λ (g : ChainFate). g .number) (fate-is fated) ∙ none)))
-    (rw (c .refused .ensures, row-is step, fate-is fated, there found))
+    let f = fateOf row address h in
+    refused-joins row address words buffer h (start .pre .1 .1) _ (told (fateNumber f) (bitOf (known row address h) ∷ [])) (rowAfter row address h)
+    (joins-lost row address h (no-orphan chained) (λ none. c .before .if2 .taken (ap (λ (g : ChainFate). g .number) (fate-is fated) ∙ none)))
+    (rw (c .refused .ensures, row-is stored, fate-is fated, there found))
     (λ none. c .before .if2 .taken (ap (λ (g : ChainFate). g .number) (fate-is fated) ∙ none))
 
 number-requires-2 : tie.Need-number-requires-2
@@ -129,66 +166,68 @@ unchanged-requires-2 c κs = search needs
 
 returns-3 : tie.Need-returns-3
 returns-3 c =
-    let found = c .before .before .before .before .before .before .before .before .before .before .before .before in
+    let kept = c .before .before .before .before in
+    let chained = kept .before .before in
+    let stored = chained .before .before .before in
+    let found = stored .before .before .before in
     let start = found .before .before .before in
     let row = start .args .slots in
+    let address = start .args .address in
+    let words = start .args .words .now in
+    let buffer = start .args .buffer .now in
     let h = start .args .heading in
-    let step = c .before .before .before .before .before .before .before .before .before in
-    refused-joins row (start .args .address) (start .args .words .now) (start .args .buffer .now) h (start .pre .1 .1) (c .unchanged2 .result) (refused Full) (rowAfter row (start .args .address) h)
-    (joins-full row (start .args .address) h (no-orphan (c .before .before .before .before .before .before)) (not-lost (c .before .before .before .before)) (sym (ap (λ (t : Turn). t .slot) (there found)) ∙ c .before .before .if3 .taken ∙ sym (long start)))
-    (c .unchanged2 .ensures ∙ rw (c .before .number2 .ensures, row-is step))
+    refused-joins row address words buffer h (start .pre .1 .1) (c .unchanged2 .result) (refused Full) (rowAfter row address h)
+    (joins-full row address h (no-orphan chained) (not-lost kept)
+    (sym (ap (λ (t : Turn). t .slot) (there found)) ∙ c .before .before .if3 .taken ∙ sym (long start)))
+    (c .unchanged2 .ensures ∙ rw (c .before .number2 .ensures, row-is stored))
     (λ none. omega arith)
 
 mul-end : tie.Need-mul-end
-mul-end c =
-    let found = c .before .before .before .before .before .before .before .before .before .before .before in
-    let start = found .before .before .before in
-    let row = start .args .slots in
-    let h = start .args .heading in
-    omega (arith, bounds (c .before) .0)
+mul-end c = omega (arith, bounds (c .before) .0)
 
 add-end : tie.Need-add-end
-add-end c =
-    let found = c .before .before .before .before .before .before .before .before .before .before .before .before in
-    let start = found .before .before .before in
-    let row = start .args .slots in
-    let h = start .args .heading in
-    omega (arith, bounds (c .before .before))
+add-end c = omega (arith, bounds (c .before .before))
 
 write-at-requires : tie.Need-write-at-requires
 write-at-requires c κs =
-    let found = c .before .before .before .before .before .before .before .before .before .before .before .before .before in
+    let slot = c .before .before .before in
+    let stored = slot .before .before .before .before .before .before .before in
+    let found = stored .before .before .before in
     let start = found .before .before .before in
-    let row = start .args .slots in
-    let h = start .args .heading in
-    let size : length (textIn (start .args .words .now)) ≡ h .characters = ap (λ (f : FragmentRead). f .characters) (sym (start .pre .1 .1)) in
-    omega (arith, bounds (c .before .before .before), start .pre .1 .0)
+    let size : length (textIn (start .args .words .now)) ≡ start .args .heading .characters =
+    ap (λ (f : FragmentRead). f .characters) (sym (start .pre .1 .1)) in
+    omega (arith, bounds slot, start .pre .1 .0)
 
 taken-requires : tie.Need-taken-requires
 taken-requires c κs =
-    let found = c .before .before .before .before .before .before .before .before .before .before .before .before .before .before .before .before in
-    let start = found .before .before .before in
-    let row = start .args .slots in
-    let h = start .args .heading in
-    bounds (c .before .before .before .before .before .before)
+    let slot = c .before .before .before .before .before .before in
+    bounds slot
 
 same-length : tie.Need-same-length
 same-length c = search needs
 
 returns-4 : tie.Need-returns-4
 returns-4 c =
-    let found = c .before .before .before .before .before .before .before .before .before .before .before .before .before .before .before .before .before in
+    let written = c .before .before .before in
+    let slot = written .before .before .before .before in
+    let kept = slot .before .before in
+    let chained = kept .before .before in
+    let stored = chained .before .before .before in
+    let found = stored .before .before .before in
     let start = found .before .before .before in
     let row = start .args .slots in
+    let address = start .args .address in
+    let words = start .args .words .now in
+    let buffer = start .args .buffer .now in
     let h = start .args .heading in
-    let slot = c .before .before .before .before .before .before .before in
-    let step = slot .before .before .before .before .before .before .before in
-    taken-joins row (start .args .address) (start .args .words .now) (start .args .buffer .now) h (start .pre .1 .1) _ (takenOf (turnOf row (start .args .address) h) h) (rowAfter row (start .args .address) h)
-    (joins-taken row (start .args .address) h (no-orphan (slot .before .before .before .before)) (not-lost (slot .before .before)) (λ same. slot .if3 .left (ap (λ (t : Turn). t .slot) (there found) ∙ same ∙ long start)))
-    (rw (c .taken .ensures, row-is step, there found))
+    taken-joins row address words buffer h (start .pre .1 .1) _ (takenOf (turnOf row address h) h) (rowAfter row address h)
+    (joins-taken row address h (no-orphan chained) (not-lost kept)
+    (λ same. slot .if3 .left (ap (λ (t : Turn). t .slot) (there found) ∙ same ∙ long start)))
+    (rw (c .taken .ensures, row-is stored, there found))
     _
     refl
-    (c .before .before .before .write-at .ensures ∙ ap (λ (t : Turn). put (start .args .buffer .now) (t .slot * 1008 + t .chain .characters) (textIn (start .args .words .now))) (there found))
+    (written .write-at .ensures
+    ∙ ap (λ (t : Turn). put buffer (t .slot * 1008 + t .chain .characters) (textIn words)) (there found))
 
 pub join-spec : {M : Type 1} → statement M
 join-spec =

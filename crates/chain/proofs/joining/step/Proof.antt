@@ -23,14 +23,22 @@ long c = sym (length-map (c .args .chains .slots) _) ∙ c .good .0 .1 .1 .0 .1 
 
 -- there is room for the texts
 room : (c : tie.Else1) → let start = c .before .before .before .before in length (start .args .chains .slots) * 1008 ≤ length (start .args .buffer .now)
-room c = omega (arith, long (c .before .before .before .before), c .if1 .left)
+room c =
+    let start = c .before .before .before .before in
+    omega (arith, long start, c .if1 .left)
 
 -- the records are sound
-right : (c : tie.Else2) → sound (c .before .before .before .before .before .before .args .chains .slots) ≡ true
+right : (c : tie.Else2)
+    → let lent = c .before .before in
+    let start = lent .before .before .before .before in
+    sound (start .args .chains .slots) ≡ true
 right c = sym (c .before .sound .ensures) ∙ not-false (c .before .sound .result) (c .if2 .left)
 
 -- what the fragment tells
-told-of : (c : tie.After-heading) → c .heading .result .number ≡ numberTold (headingOf (c .before .before .before .before .before .before .before .before .args .words .now))
+told-of : (c : tie.After-heading)
+    → let lent = c .before .before .before .before in
+    let start = lent .before .before .before .before in
+    c .heading .result .number ≡ numberTold (headingOf (start .args .words .now))
 told-of c = ap (λ (f : FragmentRead). f .number) (c .heading .ensures)
 
 mul-if1 : tie.Need-mul-if1
@@ -44,10 +52,15 @@ unchanged-requires c κs = search needs
 
 returns : tie.Need-returns
 returns c =
-    let start = c .before .before .before .before .before .before in
-    stops-early (start .args .chains .slots) (start .args .address) (start .args .words .now) (start .args .buffer .now) (c .unchanged .result) 1 (λ none. omega arith)
-    (no-room (start .args .chains .slots) (start .args .address) (start .args .words .now) (length (start .args .buffer .now)) (omega (arith, long start, c .before .before .if1 .taken)))
-    (c .unchanged .ensures ∙ ap (λ (n : ℕ). asStep (told n []) (start .args .chains .slots)) (c .before .number .ensures))
+    let short = c .before .before in
+    let start = short .before .before .before .before in
+    let row = start .args .chains .slots in
+    let address = start .args .address in
+    let words = start .args .words .now in
+    let buffer = start .args .buffer .now in
+    stops-early row address words buffer (c .unchanged .result) 1 (λ none. omega arith)
+    (no-room row address words (length buffer) (omega (arith, long start, short .if1 .taken)))
+    (c .unchanged .ensures ∙ ap (λ (n : ℕ). asStep (told n []) row) (c .before .number .ensures))
 
 sound-requires : tie.Need-sound-requires
 sound-requires c κs = search needs
@@ -60,10 +73,16 @@ unchanged-requires-2 c κs = search needs
 
 returns-2 : tie.Need-returns-2
 returns-2 c =
-    let start = c .before .before .before .before .before .before .before .before in
-    stops-early (start .args .chains .slots) (start .args .address) (start .args .words .now) (start .args .buffer .now) (c .unchanged2 .result) 2 (λ none. omega arith)
-    (unsound (start .args .chains .slots) (start .args .address) (start .args .words .now) (length (start .args .buffer .now)) (room (c .before .before .before .before)) (sym (c .before .before .before .sound .ensures) ∙ not-true (c .before .before .before .sound .result) (c .before .before .if2 .taken)))
-    (c .unchanged2 .ensures ∙ ap (λ (n : ℕ). asStep (told n []) (start .args .chains .slots)) (c .before .number2 .ensures))
+    let judged = c .before .before .before in
+    let lent = judged .before in
+    let start = lent .before .before .before .before in
+    let row = start .args .chains .slots in
+    let address = start .args .address in
+    let words = start .args .words .now in
+    let buffer = start .args .buffer .now in
+    stops-early row address words buffer (c .unchanged2 .result) 2 (λ none. omega arith)
+    (unsound row address words (length buffer) (room lent) (sym (judged .sound .ensures) ∙ not-true (judged .sound .result) (c .before .before .if2 .taken)))
+    (c .unchanged2 .ensures ∙ ap (λ (n : ℕ). asStep (told n []) row) (c .before .number2 .ensures))
 
 number-requires-3 : tie.Need-number-requires-3
 number-requires-3 c κs = search needs
@@ -73,10 +92,16 @@ unchanged-requires-3 c κs = search needs
 
 returns-3 : tie.Need-returns-3
 returns-3 c =
-    let start = c .before .before .before .before .before .before .before .before .before in
-    stops-early (start .args .chains .slots) (start .args .address) (start .args .words .now) (start .args .buffer .now) (c .unchanged3 .result) 8 (λ none. omega arith)
-    (no-address (start .args .chains .slots) (start .args .address) (start .args .words .now) (length (start .args .buffer .now)) (room (c .before .before .before .before .before)) (right (c .before .before .before)) (c .before .before .if3 .taken))
-    (c .unchanged3 .ensures ∙ ap (λ (n : ℕ). asStep (told n []) (start .args .chains .slots)) (c .before .number3 .ensures))
+    let sane = c .before .before .before in
+    let lent = sane .before .before in
+    let start = lent .before .before .before .before in
+    let row = start .args .chains .slots in
+    let address = start .args .address in
+    let words = start .args .words .now in
+    let buffer = start .args .buffer .now in
+    stops-early row address words buffer (c .unchanged3 .result) 8 (λ none. omega arith)
+    (no-address row address words (length buffer) (room lent) (right sane) (c .before .before .if3 .taken))
+    (c .unchanged3 .ensures ∙ ap (λ (n : ℕ). asStep (told n []) row) (c .before .number3 .ensures))
 
 heading-requires : tie.Need-heading-requires
 heading-requires c κs = search needs
@@ -87,29 +112,45 @@ unchanged-requires-4 c κs = search needs
 returns-4 : tie.Need-returns-4
 returns-4 c =
     let headed = c .before .before .before in
-    let start = headed .before .before .before .before .before .before .before .before in
-    let some : numberTold (headingOf (start .args .words .now)) ≡ 0 → ⊥ = λ none. c .before .if4 .taken (told-of headed ∙ none) in
-    stops-early (start .args .chains .slots) (start .args .address) (start .args .words .now) (start .args .buffer .now) (c .unchanged4 .result) (numberTold (headingOf (start .args .words .now))) some
-    (no-fragment (start .args .chains .slots) (start .args .address) (start .args .words .now) (length (start .args .buffer .now)) (room (headed .before .before .before .before)) (right (headed .before .before)) (headed .before .if3 .left) some)
-    (c .unchanged4 .ensures ∙ ap (λ (n : ℕ). asStep (told n []) (start .args .chains .slots)) (told-of headed))
+    let sane = headed .before .before in
+    let lent = sane .before .before in
+    let start = lent .before .before .before .before in
+    let row = start .args .chains .slots in
+    let address = start .args .address in
+    let words = start .args .words .now in
+    let buffer = start .args .buffer .now in
+    let some : numberTold (headingOf words) ≡ 0 → ⊥ = λ none. c .before .if4 .taken (told-of headed ∙ none) in
+    stops-early row address words buffer (c .unchanged4 .result) (numberTold (headingOf words)) some
+    (no-fragment row address words (length buffer) (room lent) (right sane) (headed .before .if3 .left) some)
+    (c .unchanged4 .ensures ∙ ap (λ (n : ℕ). asStep (told n []) row) (told-of headed))
 
 join-requires : tie.Need-join-requires
 join-requires c κs =
     let headed = c .before .before .before in
-    let start = headed .before .before .before .before .before .before .before .before in
+    let sane = headed .before .before in
+    let lent = sane .before .before in
+    let start = lent .before .before .before .before in
+    let words = start .args .words .now in
     let none = sym (told-of headed) ∙ c .before .if4 .left in
-    (right (headed .before .before), (omega (arith, long start, room (headed .before .before .before .before)), headed .heading .ensures ∙ ap asFragment (heading-told (start .args .words .now) (accepted (start .args .words .now) .0 none))))
+    (right sane, (omega (arith, long start, room lent), headed .heading .ensures ∙ ap asFragment (heading-told words (accepted words .0 none))))
 
 same-length : tie.Need-same-length
 same-length c = search needs
 
 returns-5 : tie.Need-returns-5
 returns-5 c =
-    let headed = c .before .before .before .before .before .before in
-    let start = headed .before .before .before .before .before .before .before .before in
-    goes-late (start .args .chains .slots) (start .args .address) (start .args .words .now) (start .args .buffer .now) (c .before .before .join .result) _ (room (headed .before .before .before .before)) (right (headed .before .before)) (headed .before .if3 .left) (sym (told-of headed) ∙ c .before .before .before .before .if4 .left)
-    (c .before .before .join .ensures .0)
-    (c .before .before .join .ensures .1)
+    let joined = c .before .before in
+    let good = joined .before .before in
+    let headed = good .before .before in
+    let sane = headed .before .before in
+    let lent = sane .before .before in
+    let start = lent .before .before .before .before in
+    let args = start .args in
+    goes-late (args .chains .slots) (args .address) (args .words .now) (args .buffer .now) (joined .join .result) _ (room lent) (right sane)
+    (headed .before .if3 .left)
+    (sym (told-of headed) ∙ good .if4 .left)
+    (joined .join .ensures .0)
+    (joined .join .ensures .1)
 
 pub step-spec : {M : Type 1} → statement M
 step-spec =

@@ -1,4 +1,4 @@
--- `stored` meets its contract: behind the last slot nothing is stored.
+-- `stored` meets its contract: past the last slot nothing is stored.
 use mathlib.Core.Path.{_≡_, sym}
 use native.Mathlib.Omega.{arith}
 use lib.ListN.{length}
