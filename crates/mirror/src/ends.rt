@@ -2,6 +2,7 @@
 // and the checksum packet that makes it talk.
 ghost use mathlib.Core.Path.{_≡_};
 ghost use Rattle.mirror.specs.Handshake.{resetBy, closingOf};
+use crate::DATA_VALUES;
 use crate::Mirror;
 use crate::Mirrored;
 use packet::Built;
@@ -38,7 +39,7 @@ pub fn closing(mirror: Mirror) -> Built
     ensures { λ r. ⌜ r ≡ closingOf mirror ⌝ }
 {
     let register = mirror.register;
-    if register >= 0x100_0000 {
+    if register >= DATA_VALUES {
         return Built {
             number: Refusal::State.number(),
             packet: Packet { bits: 0 },

@@ -3,6 +3,7 @@
 ghost use Prim.Native.Nat.{ℕ};
 ghost use mathlib.Core.Path.{_≡_};
 ghost use Rattle.mirror.specs.Handshake.{summed, stepOf, runOf, answered};
+use crate::DATA_VALUES;
 use crate::Mirror;
 use crate::Mirrored;
 use packet::Packet;
@@ -16,7 +17,7 @@ fn summed(register: u32, bits: u32) -> u32
     if (Packet::FIRST_SPECIAL <= id) & (id <= Packet::LAST_SPECIAL) {
         return register;
     }
-    register ^ (bits % 0x100_0000)
+    register ^ (bits % DATA_VALUES)
 }
 
 // The register after a packet, whether the decoder talks or not: a checksum is not summed.
@@ -40,7 +41,7 @@ fn talking_after(register: u32, talking: u32, bits: u32) -> u32
     if talking != 0 {
         return talking;
     }
-    (bits % 0x100_0000 == register) as u32
+    (bits % DATA_VALUES == register) as u32
 }
 
 // The mirror after one packet. Here and in a run the register and whether the decoder talks are two numbers: a struct of
@@ -50,7 +51,7 @@ pub fn step(mirror: Mirror, packet: Packet) -> Mirrored
 {
     let register = mirror.register;
     let talking = mirror.talking;
-    if register >= 0x100_0000 {
+    if register >= DATA_VALUES {
         return Mirrored {
             number: Refusal::State.number(),
             mirror: Mirror { register, talking },
@@ -90,7 +91,7 @@ pub fn run(mirror: Mirror, packets: &[u32]) -> Mirrored
 {
     let register = mirror.register;
     let talking = mirror.talking;
-    if register >= 0x100_0000 {
+    if register >= DATA_VALUES {
         return Mirrored {
             number: Refusal::State.number(),
             mirror: Mirror { register, talking },

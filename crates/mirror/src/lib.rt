@@ -15,6 +15,9 @@ pub use ends::reset;
 pub use following::run;
 pub use following::step;
 
+// How many values 24 bits have: the data bits of a packet and the register are below it.
+const DATA_VALUES: u32 = 0x100_0000;
+
 // The register, 24 bits; `talking` is 0 while the decoder sends nothing but its part ID.
 #[repr(C)]
 pub struct Mirror {
