@@ -11,7 +11,7 @@ use Rattle.call.specs.Calls.{blank, fresh, opens, sound}
 use Rattle.call.specs.Words.{lacking, wordsOf, givenTo, finished}
 use Rattle.call.specs.Answers.{openOf, openedIn, hearOf, heardIn, memoryAfter, hearNumber, endOf, endedWith, endedIn}
 use Rattle.call.specs.Runs.{Event, addressed, heard, ended, answers, afterAll}
-use Rattle.call.proofs.Premises.{waits, spans, good, bad}
+use Rattle.call.proofs.Premises.{waits, spans, brief, good, bad}
 use Rattle.call.proofs.WordExamples.{start}
 
 -- ---- the frame of Tables 54 and 55 (S8.8.2), packet by packet; packets 4 and 5 are BIWs
@@ -197,6 +197,13 @@ openings =
     ∷ (openOf (these (waits 3 88 ∷ [])) 0x01000002, 2)
     ∷ (openOf (these (spans 0 3 4 1 0 ∷ [])) 0x01000002, 0)
     ∷ (openOf (these (spans 0 3 3 1 0 ∷ [])) 0x01000002, 2)
+    -- a vector that brings words has some: of none it is over the limits, though b is right
+    ∷ (openOf (these (spans 0 3 4 0 0 ∷ [])) 0x01000002, 2)
+    -- one that brings no words has none, whatever b is; where its record names some all the same, they are held to the limits
+    ∷ (openOf (these (brief 0 3 0 0 ∷ [])) 0x01000002, 0)
+    ∷ (openOf (these (brief 0 87 88 0 ∷ [])) 0x01000002, 0)
+    ∷ (openOf (these (brief 0 3 4 1 ∷ [])) 0x01000002, 0)
+    ∷ (openOf (these (brief 0 3 3 1 ∷ [])) 0x01000002, 2)
     -- two calls of one key; of one phase alone, and of one vector alone, they may be
     ∷ (openOf (these (waits 1 3 ∷ waits 2 3 ∷ waits 1 3 ∷ [])) 0x01000002, 2)
     ∷ (openOf (these (waits 1 3 ∷ waits 2 3 ∷ waits 1 4 ∷ [])) 0x01000002, 0)
@@ -312,11 +319,14 @@ hearings =
     ∷ (hearOf (these (spans 1 2 3 1 0 ∷ [])) (enough lacking) 0x03000005, 17)
     ∷ (hearOf (these (spans 0 2 4 1 0 ∷ [])) (enough lacking) 0x03000005, 17)
     ∷ (hearOf (these (waits 0 2 ∷ [])) (enough lacking) 0x03000005, 17)
-    ∷ (hearOf (these (spans 0 2 3 0 0 ∷ [])) (enough lacking) 0x03000005, 17)
+    ∷ (hearOf (these (brief 0 2 3 0 ∷ [])) (enough lacking) 0x03000005, 17)
     -- a word too few in the memory: a vector, and a message word
     ∷ (hearOf (these (waits 0 2 ∷ [])) (short lacking) good, 1)
     ∷ (hearOf (these (spans 0 2 3 1 0 ∷ [])) (short lacking) 0x03000005, 1)
-    -- the first question that refuses decides, for a vector: 2, 7, 10, 9, 14, 1
+    -- an open call whose vector brings words and whose span has none: a vector, and a message word
+    ∷ (hearOf (these (spans 0 3 4 0 0 ∷ waits 0 2 ∷ [])) (enough lacking) good, 2)
+    ∷ (hearOf (these (spans 0 3 4 0 0 ∷ spans 0 2 3 1 0 ∷ [])) (enough lacking) 0x03000005, 2)
+    -- the first question that refuses decides, for a vector: 2, 7, 10, then 9 where its call has none yet and else 14, 1
     ∷ (hearOf (these (waits 0 88 ∷ waits 0 2 ∷ [])) (short lacking) 0x82830002, 2)
     ∷ (hearOf (these (waits 0 2 ∷ [])) (short lacking) 0x82830002, 7)
     ∷ (hearOf (these (waits 0 2 ∷ [])) (short lacking) 0x02830002, 10)
@@ -333,6 +343,8 @@ hearings =
     -- the end of the frame: 2, and last 1
     ∷ (endOf (these (waits 0 2 ∷ [])) (enough lacking), 0)
     ∷ (endOf (these (waits 0 88 ∷ [])) (enough lacking), 2)
+    ∷ (endOf (these (spans 0 2 3 0 0 ∷ [])) (enough lacking), 2)
+    ∷ (endOf (these (brief 0 2 3 0 ∷ [])) (enough lacking), 0)
     ∷ (endOf (these (waits 0 88 ∷ [])) (short lacking), 2)
     ∷ (endOf (these (waits 0 2 ∷ [])) (short lacking), 1)
     ∷ (endOf (fresh 8) (short lacking), 1)

@@ -25,9 +25,9 @@ use Rattle.packet.specs.declared.vectors.Vector.{Vector}
 use Rattle.packet.specs.Vectors.{isNumeric, isText, vectorType, vectorOf, isVector}
 use Rattle.call.specs.declared.Call.{Call}
 use Rattle.call.specs.declared.Calls.{Calls}
-use Rattle.call.specs.Calls.{blank, fresh, opens, hasVector, isLong, fits, isOf, holds, sound}
+use Rattle.call.specs.Calls.{blank, fresh, opens, hasVector, isLong, fits, bringsWords, isOf, holds, sound}
 use Rattle.call.specs.Words.{lacking, placeOf, holdsWord, wordPlace, lacks, givenTo, isHeld, isLacked}
-use Rattle.call.specs.Steps.{callOf, added, bringsWords, vectorFits, changed, removed, incompleteIn}
+use Rattle.call.specs.Steps.{callOf, added, vectorFits, changed, removed, incompleteIn}
 use Rattle.call.specs.Answers.{addressIn, telling, openingOf, openOf, openedIn, messageIn, isShort, vectorTold, wordTold, vectorPlace, isForVector, vectorCall, vectorGiven, hearOf, hearNumber, heardIn, memoryAfter, endOf, endedWith, endedIn}
 use Rattle.call.specs.Runs.{Event, addressed, heard, ended, State, after}
 use Rattle.call.proofs.Records.{InSpan, fits-span, Limits, is-of, held, sound-row, fresh-sound}
@@ -456,7 +456,7 @@ opened-limits s n o =
     record {
       of-phase = omega arith;
       of-vector = vector-small;
-      of-span = λ has some. absurd (true≢false (sym has));
+      of-span = λ has. absurd (true≢false (sym has));
     }
   where
     vector-small : addressIn n .vector ≤ 87
@@ -478,7 +478,7 @@ given-limits s memory n v =
     record {
       of-phase = old .of-phase;
       of-vector = old .of-vector;
-      of-span = λ has some. ⊎-elim (v .good) (λ none. absurd (omega (arith, some, no-words n none))) (decided (bringsWords (vectorOf n .kind)));
+      of-span = λ has. ⊎-elim (λ brings. inr (v .good brings)) (λ none. inl (none, no-words n none)) (decided (bringsWords (vectorOf n .kind)));
     }
 
 -- a vector or message packet leaves sound records sound

@@ -12,9 +12,9 @@ use lib.ListN.{length, getD, drop, drop-of-length-le}
 use lib.Seq.{drop-cons}
 use Rattle.laws.specs.Choice.{bitOf}
 use Rattle.laws.proofs.Searches.{first-passes, found-by, is-found, found-passes, none-passes, is-none, none-at}
-use Rattle.laws.proofs.Tests.{decided, not-both, first-of, second-of, either-of}
+use Rattle.laws.proofs.Tests.{decided, not-both, first-of, second-of, either-of, other-of}
 use Rattle.call.specs.declared.Call.{Call}
-use Rattle.call.specs.Calls.{blank, fresh, opens, hasVector, isLong, fits, inLimits, isOf, find, holds, sound}
+use Rattle.call.specs.Calls.{blank, fresh, opens, hasVector, isLong, fits, bringsWords, spanned, inLimits, isOf, find, holds, sound}
 
 -- ---- one call
 
@@ -53,43 +53,46 @@ fits-span long vector start words = (there, back)
         (λ both. rw (lt-ltb (vector + bitOf long) start (both .0), le-leb (start + words) (88 + bitOf long) (both .1)) (or-true (eqb words (bitOf long))))
         (s .rest))
 
--- 01's table, 2: the limits of a call; a vector that brings no words has no span
+-- 01's table, 2: the limits of a call; a vector that brings no words has a span of none
 pub record Limits (c : Call) : Type 0 where
   pub of-phase : c .phase ≤ 3
   pub of-vector : c .vector ≤ 87
-  pub of-span : hasVector c ≡ true → 0 < c .words → InSpan (isLong c) (c .vector) (c .start) (c .words)
+  pub of-span : hasVector c ≡ true → ((bringsWords (c .kind) ≡ false) × (c .words ≡ 0)) ⊎ InSpan (isLong c) (c .vector) (c .start) (c .words)
 
--- .. as they are tested
+-- the test of these limits is passed exactly by the calls within them
 pub in-limits : (c : Call) → (inLimits c ≡ true) ↔ Limits c
 in-limits c = (there, back)
   where
-    spans : Bool
-    spans = fits (isLong c) (c .vector) (c .start) (c .words)
-
     there : inLimits c ≡ true → Limits c
     there e =
-        let none = not (hasVector c) || eqb (c .words) 0 in
-        let two = first-of (leb (c .phase) 3 && leb (c .vector) 87) (none || spans) e in
-        let last = second-of (leb (c .phase) 3 && leb (c .vector) 87) (none || spans) e in
+        let has = hasVector c in
+        let brings = bringsWords (c .kind) in
+        let none = eqb (c .words) 0 in
+        let fitting = fits (isLong c) (c .vector) (c .start) (c .words) in
+        let two = first-of (leb (c .phase) 3 && leb (c .vector) 87) (not has || spanned c) e in
+        let last = second-of (leb (c .phase) 3 && leb (c .vector) 87) (not has || spanned c) e in
         record {
           of-phase = leb-true (c .phase) 3 (first-of (leb (c .phase) 3) (leb (c .vector) 87) two);
           of-vector = leb-true (c .vector) 87 (second-of (leb (c .phase) 3) (leb (c .vector) 87) two);
-          of-span = λ is some. fits-span (isLong c) (c .vector) (c .start) (c .words) .0 (rw (is, ne-eqb (c .words) 0 (λ e. omega arith)) at last);
+          of-span =
+              λ is.
+              ⊎-elim
+              (λ both. inl (not-true brings (first-of (not brings) none both), eqb-true (c .words) 0 (second-of (not brings) none both)))
+              (λ good. inr (fits-span (isLong c) (c .vector) (c .start) (c .words) .0 good))
+              (either-of (not brings && none) fitting (other-of (not has) (spanned c) last (ap not is)));
         }
 
-    with-span : Limits c → (not (hasVector c) || eqb (c .words) 0 || spans) ≡ true
-    with-span l =
-        by-tests (hasVector c) (eqb (c .words) 0) refl refl
-      where
-        by-tests : (has none : Bool) → hasVector c ≡ has → eqb (c .words) 0 ≡ none → (not has || none || spans) ≡ true
-        by-tests true true is e = refl
-        by-tests true false is e =
-            let some = eqb-false (c .words) 0 e in
-            fits-span (isLong c) (c .vector) (c .start) (c .words) .1 (l .of-span is (omega arith))
-        by-tests false none is e = refl
+    is-spanned : ((bringsWords (c .kind) ≡ false) × (c .words ≡ 0)) ⊎ InSpan (isLong c) (c .vector) (c .start) (c .words) → spanned c ≡ true
+    is-spanned (inl none) = rw (none .0, eq-eqb (c .words) 0 (none .1))
+    is-spanned (inr good) =
+        rw (fits-span (isLong c) (c .vector) (c .start) (c .words) .1 good) (or-true (not (bringsWords (c .kind)) && eqb (c .words) 0))
+
+    with-span : (has : Bool) → (has ≡ true → spanned c ≡ true) → (not has || spanned c) ≡ true
+    with-span true spans = spans refl
+    with-span false spans = refl
 
     back : Limits c → inLimits c ≡ true
-    back l = rw (le-leb (c .phase) 3 (l .of-phase), le-leb (c .vector) 87 (l .of-vector)) (with-span l)
+    back l = rw (le-leb (c .phase) 3 (l .of-phase), le-leb (c .vector) 87 (l .of-vector)) (with-span (hasVector c) (λ is. is-spanned (l .of-span is)))
 
 -- ---- a key
 

@@ -91,7 +91,11 @@ module _ (c : Call) where
 
   -- a call within its limits that has message words has a span that fits
   pub span-within : inLimits c ≡ true → hasVector c ≡ true → 1 ≤ c .words → fits (isLong c) (c .vector) (c .start) (c .words) ≡ true
-  span-within good has some = fits-span (isLong c) (c .vector) (c .start) (c .words) .1 (in-limits c .0 good .of-span has some)
+  span-within good has some =
+      ⊎-elim
+      (λ none. absurd (omega (arith, none .1, some)))
+      (fits-span (isLong c) (c .vector) (c .start) (c .words) .1)
+      (in-limits c .0 good .of-span has)
 
   module _ (word : ℕ) where
     -- which of its words a number is: none before its vector has come,

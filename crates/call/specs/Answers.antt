@@ -22,9 +22,9 @@ use Rattle.call.specs.declared.CallOpening.{CallOpening}
 use Rattle.call.specs.declared.CallHeard.{CallHeard}
 use Rattle.call.specs.declared.CallHearing.{CallHearing}
 use Rattle.call.specs.declared.FrameEnd.{FrameEnd}
-use Rattle.call.specs.Calls.{blank, fresh, opens, hasVector, find, holds, sound}
+use Rattle.call.specs.Calls.{blank, fresh, opens, hasVector, bringsWords, find, holds, sound}
 use Rattle.call.specs.Words.{lacking, memorySize, placeOf, givenTo, finished, isHeld, isLacked}
-use Rattle.call.specs.Steps.{callOf, added, bringsWords, vectorFits, withVector, nextArea, changed, removed, listed, incompleteIn}
+use Rattle.call.specs.Steps.{callOf, added, vectorFits, withVector, nextArea, changed, removed, listed, incompleteIn}
 
 -- ---- an address packet
 

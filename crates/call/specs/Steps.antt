@@ -6,10 +6,9 @@ use lib.ListN.{length, drop, set}
 use Rattle.laws.specs.Lists.{put, those}
 use Rattle.packet.specs.declared.heard.Address.{Address}
 use Rattle.packet.specs.declared.vectors.Vector.{Vector}
-use Rattle.packet.specs.Vectors.{isNumeric, isText}
 use Rattle.call.specs.declared.Call.{Call}
 use Rattle.call.specs.declared.Calls.{Calls}
-use Rattle.call.specs.Calls.{blank, fresh, opens, hasVector, isLong, fits}
+use Rattle.call.specs.Calls.{blank, fresh, opens, hasVector, isLong, fits, bringsWords}
 use Rattle.call.specs.Words.{isComplete}
 
 -- the call that an address packet opens: it awaits its vector
@@ -32,10 +31,6 @@ callOf a =
 -- the records with one call more, the last opened
 abbrev pub added : Calls → Call → Calls
 added s c = record { size = s .size + 1; calls = set (s .calls) (s .size) c }
-
--- Tables 32 and 35: the vectors that bring message words; tone-only, short message and short instruction bring none
-abbrev pub bringsWords : ℕ → Bool
-bringsWords kind = isNumeric kind || isText kind
 
 -- whether the span of a vector is one for its call
 abbrev pub vectorFits : Call → Vector → Bool

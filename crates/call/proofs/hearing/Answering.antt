@@ -20,9 +20,9 @@ use Rattle.packet.specs.Vectors.{vectorOf, isVector, vectorRead}
 use Rattle.call.specs.declared.Call.{Call}
 use Rattle.call.specs.declared.Calls.{Calls}
 use Rattle.call.specs.declared.CallHearing.{CallHearing}
-use Rattle.call.specs.Calls.{blank, opens, hasVector, sound}
+use Rattle.call.specs.Calls.{blank, opens, hasVector, bringsWords, sound}
 use Rattle.call.specs.Words.{lacking, placeOf, givenTo, finished, isHeld, isLacked}
-use Rattle.call.specs.Steps.{bringsWords, vectorFits, changed, removed}
+use Rattle.call.specs.Steps.{vectorFits, changed, removed}
 use Rattle.call.specs.Answers.{messageIn, isShort, vectorTold, wordTold, vectorPlace, isForVector, vectorCall, hearOf, heardIn, memoryAfter, asHearing}
 use Rattle.call.proofs.Rows.{opens-most}
 use Rattle.call.proofs.Laws.{vector-fits, no-words}

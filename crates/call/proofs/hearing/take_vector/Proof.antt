@@ -11,9 +11,9 @@ use Rattle.packet.specs.declared.vectors.Vector.{Vector}
 use Rattle.packet.specs.Vectors.{vectorOf}
 use Rattle.call.specs.declared.Call.{Call}
 use Rattle.call.specs.declared.CallHearing.{CallHearing}
-use Rattle.call.specs.Calls.{blank, opens, hasVector}
+use Rattle.call.specs.Calls.{blank, opens, hasVector, bringsWords}
 use Rattle.call.specs.Words.{lacking, placeOf}
-use Rattle.call.specs.Steps.{bringsWords, vectorFits, withVector, nextArea, changed}
+use Rattle.call.specs.Steps.{vectorFits, withVector, nextArea, changed}
 use Rattle.call.proofs.Rows.{opens-most}
 use Rattle.call.specs.HearingPieces.{refusing, hearingOf}
 use Rattle.call.proofs.hearing.Answering.{refusal-turn, vector-again, vector-bad, vector-no-room, vector-taken, fitting-words, read-as, open-at}
