@@ -25,16 +25,16 @@ pub record InSpan (long : Bool) (vector start words : ℕ) : Type 0 where
   pub first-word : vector + bitOf long ≤ 87
   pub rest : (words ≡ bitOf long) ⊎ ((vector + bitOf long < start) × (start + words ≤ 88 + bitOf long))
 
--- .. as it is tested
+-- the test of a span is passed exactly by those within these limits
 pub fits-span : (long : Bool) (vector start words : ℕ) → (fits long vector start words ≡ true) ↔ InSpan long vector start words
 fits-span long vector start words = (there, back)
   where
     there : fits long vector start words ≡ true → InSpan long vector start words
     there e =
         let alone = eqb words (bitOf long) in
-        let behind = ltb (vector + bitOf long) start in
+        let follows = ltb (vector + bitOf long) start in
         let ends = leb (start + words) (88 + bitOf long) in
-        let three = first-of (leb 1 words && leb words 85 && leb (vector + bitOf long) 87) (alone || (behind && ends)) e in
+        let three = first-of (leb 1 words && leb words 85 && leb (vector + bitOf long) 87) (alone || (follows && ends)) e in
         let two = first-of (leb 1 words && leb words 85) (leb (vector + bitOf long) 87) three in
         record {
           some-words = leb-true 1 words (first-of (leb 1 words) (leb words 85) two);
@@ -42,8 +42,8 @@ fits-span long vector start words = (there, back)
           first-word = leb-true (vector + bitOf long) 87 (second-of (leb 1 words && leb words 85) (leb (vector + bitOf long) 87) three);
           rest =
               ⊎-elim (λ same. inl (eqb-true words (bitOf long) same))
-              (λ both. inr (ltb-true (vector + bitOf long) start (first-of behind ends both), leb-true (start + words) (88 + bitOf long) (second-of behind ends both)))
-              (either-of alone (behind && ends) (second-of (leb 1 words && leb words 85 && leb (vector + bitOf long) 87) (alone || (behind && ends)) e));
+              (λ both. inr (ltb-true (vector + bitOf long) start (first-of follows ends both), leb-true (start + words) (88 + bitOf long) (second-of follows ends both)))
+              (either-of alone (follows && ends) (second-of (leb 1 words && leb words 85 && leb (vector + bitOf long) 87) (alone || (follows && ends)) e));
         }
 
     back : InSpan long vector start words → fits long vector start words ≡ true
@@ -101,7 +101,7 @@ pub record Key (phase vector : ℕ) (c : Call) : Type 0 where
   pub same-phase : c .phase ≡ phase
   pub same-vector : c .vector ≡ vector
 
--- .. as it is tested
+-- the test of a key is passed exactly by its calls
 pub is-of : (phase vector : ℕ) (c : Call) → (isOf phase vector c ≡ true) ↔ Key phase vector c
 is-of phase vector c = (there, back)
   where
@@ -124,15 +124,15 @@ module _ (phase vector : ℕ) (row : List Call) where
   pub holds-at : (i : ℕ) → i < length row → isOf phase vector (getD row i blank) ≡ true → holds phase vector row ≡ true
   holds-at = is-found (isOf phase vector) row blank
 
-  -- .. and then only: the place that is found has it
+  -- a key that has a call has it at the place that is found
   pub held : holds phase vector row ≡ true → (find phase vector row < length row) × (isOf phase vector (getD row (find phase vector row) blank) ≡ true)
   held = found-passes (isOf phase vector) row blank
 
-  -- .. else no place has it
+  -- a key that has no call has it at no place
   pub none-held : holds phase vector row ≡ false → (i : ℕ) → i < length row → isOf phase vector (getD row i blank) ≡ false
   none-held = none-passes (isOf phase vector) row blank
 
-  -- .. and what is found is the row's length
+  -- what is found for a key that has no call is the row's length
   pub not-found : holds phase vector row ≡ false → find phase vector row ≡ length row
   not-found = none-at (isOf phase vector) row
 
@@ -151,7 +151,7 @@ pub record Sound (row : List Call) : Type 0 where
   pub limits : (i : ℕ) → i < length row → Limits (getD row i blank)
   pub apart : Apart row
 
--- a row that is sound is that
+-- a row that passes the test is as 01 has it
 sound-says : (row : List Call) → sound row ≡ true → Sound row
 unfolding sound
 sound-says [] e = record { limits = λ i within. absurd (omega arith); apart = λ i j within inside phase vector. absurd (omega arith) }
@@ -179,7 +179,7 @@ sound-says (c ∷ row) e =
     apart-each none rest (suc i) zero within inside phase vector = absurd (only-here none i (omega arith) (sym phase) (sym vector))
     apart-each none rest (suc i) (suc j) within inside phase vector = ap suc (rest .apart i j (omega arith) (omega arith) phase vector)
 
--- .. and one that is that is sound
+-- a row that is as 01 has it passes the test
 says-sound : (row : List Call) → Sound row → sound row ≡ true
 unfolding sound
 says-sound [] s = refl
@@ -217,14 +217,14 @@ module _ (row : List Call) (good : sound row ≡ true) where
       let here = is-of phase vector (getD row i blank) .0 is in
       sound-row row .0 good .apart (find phase vector row) i inside within (found .same-phase ∙ sym (here .same-phase)) (found .same-vector ∙ sym (here .same-vector))
 
-  -- .. so that each call is what is found for its own key
+  -- each call is what is found for its own key
   pub found-at : (i : ℕ) → i < length row → find (getD row i blank .phase) (getD row i blank .vector) row ≡ i
   found-at i within = found-of (getD row i blank .phase) (getD row i blank .vector) i within (of-own (getD row i blank))
 
 -- ---- call by call
 
 module _ (row : List Call) (i : ℕ) where
-  -- whether the row from a place on is sound: the call there is within its limits, none behind it is of its key, and those behind it are sound
+  -- whether the row from a place on is sound: the call there is within its limits, no later one is of its key, and the later ones are sound
   pub sound-from : i < length row
       → let c = getD row i blank in
       sound (drop i row) ≡ (inLimits c && not (holds (c .phase) (c .vector) (drop (i + 1) row)) && sound (drop (i + 1) row))

@@ -61,7 +61,7 @@ nextArea row = length (those hasVector row)
 abbrev pub changed : Calls → ℕ → Call → Calls
 changed s place c = record { size = s .size; calls = set (s .calls) place c }
 
--- a row without the record at a place: those behind it move one place down, so that they stay in their order
+-- a row without the record at a place: those after it move one place down, so that they stay in their order
 abbrev pub without : ℕ → List Call → List Call
 without place row = put row place (drop (place + 1) row ++ blank ∷ [])
 

@@ -69,6 +69,6 @@ finished (c ∷ row) m memory = bitOf (completes c m (givenTo row m memory)) + 2
 abbrev pub isHeld : List Call → Message → Bool
 isHeld row m = anyOf (λ c. holdsWord c m) row
 
--- .. and some call still lacks it
+-- whether some call's span holds a word that the call still lacks
 abbrev pub isLacked : List Call → Message → List ℕ → Bool
 isLacked row m memory = anyOf (λ c. lacks c m memory) row

@@ -149,7 +149,8 @@ fn completed_by(kind: u32, place: usize) -> u32
     1 << place
 }
 
-// A vector for the call at a place: 14, 9 and 1 of 01's table, or the call with its span and none of its words.
+// A vector for the call at a place. Of 01's table a second vector, for a call that has one, is 14, whatever its span; a bad
+// span, for a call still without its vector, is 9; and last comes 1. Else the call has its span and none of its words.
 fn take_vector(calls: Calls, memory: &mut [u32], packet: Packet, place: usize) -> Turn
     requires { ⌜ isVector (packet .bits) ≡ true ⌝ }
     requires { ⌜ place < length (opens calls) ⌝ }
@@ -278,7 +279,7 @@ pub fn hear(calls: Calls, memory: &mut [u32], packet: Packet) -> CallHearing
     }
 }
 
-// The row without the record at a place: those behind it move one place down. It stays as it is where there is no such
+// The row without the record at a place: those after it move one place down. It stays as it is where there is no such
 // place.
 pub(crate) fn without(row: [Call; MOST_CALLS], place: usize) -> [Call; MOST_CALLS]
     ensures { λ r. ⌜ r ≡ pick (ltb place mostCalls) (without place row) row ⌝ }

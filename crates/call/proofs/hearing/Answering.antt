@@ -47,11 +47,11 @@ module _ (s : Calls) (memory : List ℕ) (m : Message) where
   told-of-none : isHeld (opens s) m ≡ false → wordTold s memory m ≡ refused refusals.NoCall
   told-of-none none = rw none
 
-  -- .. of one that all have
+  -- what is told of a word that all have that hold its place
   told-had : isHeld (opens s) m ≡ true → isLacked (opens s) m memory ≡ false → wordTold s memory m ≡ refused refusals.OutOfTurn
   told-had held had = rw (held, had)
 
-  -- .. without room, and of one that is taken
+  -- what is told of a word that a call lacks, without room and with it
   told-given : (short : Bool) → isHeld (opens s) m ≡ true → isLacked (opens s) m memory ≡ true → isShort memory ≡ short → wordTold s memory m ≡ ask short refusals.Room (given (0 ∷ 0 ∷ 0 ∷ 0 ∷ finished (opens s) m memory ∷ []))
   told-given short held lacked room = rw (held, lacked, room)
 
@@ -75,15 +75,15 @@ module _ (s : Calls) (memory : List ℕ) (m : Message) where
 -- ---- a vector
 
 module _ (s : Calls) (memory : List ℕ) (place : ℕ) (v : Vector) where
-  -- what is told to a call that has one
+  -- what is told of a second vector, for a call that has one
   told-again : hasVector (callAt s memory place v) ≡ true → vectorTold s memory place (callAt s memory place v) v ≡ refused refusals.OutOfTurn
   told-again has = rw has
 
-  -- .. of a span that does not fit
+  -- what is told of a vector whose span does not fit
   told-bad : hasVector (callAt s memory place v) ≡ false → vectorFits (callAt s memory place v) v ≡ false → vectorTold s memory place (callAt s memory place v) v ≡ refused refusals.Size
   told-bad none bad = rw (none, bad)
 
-  -- .. without room, and of one that is taken
+  -- what is told of a vector whose span fits, without room and with it
   told-fitting : (short : Bool) → hasVector (callAt s memory place v) ≡ false → vectorFits (callAt s memory place v) v ≡ true → isShort memory ≡ short
       → vectorTold s memory place (callAt s memory place v) v ≡ ask short refusals.Room (given (1 ∷ place ∷ v .kind ∷ v .span .check ∷ pick (bringsWords (v .kind)) 0 (2 ^ place) ∷ []))
   told-fitting short none good room = rw (none, good, room)

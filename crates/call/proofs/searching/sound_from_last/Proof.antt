@@ -1,4 +1,4 @@
--- `sound_from_last` meets its contract: from the last call to the first, those behind are sound and their keys are marked.
+-- `sound_from_last` meets its contract: from the last call to the first, the later ones are sound and their keys are marked.
 use Prim.Native.Nat.{ℕ, _+_, _-_, _≤_, _<_}
 use mathlib.Core.Bool.{true, false}
 use mathlib.Core.List.{List, _∷_}
@@ -70,9 +70,9 @@ there c =
 within : (c : tie.In-loop Inv-loop μ-loop) → c .before .loop .i - 1 < length (row (c .before .before))
 within c = omega (arith, long (c .before .before), c .before .loop .inv .0, c .loop-test .taken)
 
--- .. and those behind it are where the turn began
-behind : (c : tie.In-loop Inv-loop μ-loop) → c .before .loop .i - 1 + 1 ≡ c .before .loop .i
-behind c = omega (arith, c .loop-test .taken)
+-- the place after the call of a turn is the one where the turn began
+began : (c : tie.In-loop Inv-loop μ-loop) → c .before .loop .i - 1 + 1 ≡ c .before .loop .i
+began c = omega (arith, c .loop-test .taken)
 
 -- it is within its limits
 sane : (c : tie.Else1 Inv-loop μ-loop) → inLimits (getD (c .before .before .before .before .before .before .before .args .calls .calls) (c .before .before .before .before .loop .i - 1) blank) ≡ true
@@ -123,7 +123,7 @@ returns-2 c =
     let limits = limited (c .before .before .before) in
     let marked = turn .before .loop .inv .4 (call .phase) (call .vector) (limits .of-phase) (limits .of-vector) in
     let met = set-bit (holds (call .phase) (call .vector) (drop i (row count))) (sym marked ∙ c .if2 .taken) in
-    sym (ap sound (sym (opened count)) ∙ spoiled (row count) (i - 1) (twice (row count) (i - 1) call (there turn) (within turn) (rw (behind turn) met)))
+    sym (ap sound (sym (opened count)) ∙ spoiled (row count) (i - 1) (twice (row count) (i - 1) call (there turn) (within turn) (rw (began turn) met)))
 
 cast-marks : tie.Need-cast-marks Inv-loop μ-loop
 cast-marks c = omega arith
@@ -154,11 +154,11 @@ loop-again c =
     let none : holds (call .phase) (call .vector) rest ≡ false =
     ⊎-elim (λ met. absurd (c .if2 .left (marked ∙ ap bitOf met))) (λ unmet. unmet) (decided (holds (call .phase) (call .vector) rest))
     in
-    let first : drop (i - 1) (row count) ≡ call ∷ rest = call-then (row count) (i - 1) call (there turn) (within turn) ∙ rw (behind turn) in (
+    let first : drop (i - 1) (row count) ≡ call ∷ rest = call-then (row count) (i - 1) call (there turn) (within turn) ∙ rw (began turn) in (
       omega (arith, so-far .0),
       so-far .1,
       length-set marks _ _ ∙ so-far .2,
-      alone (row count) (i - 1) call (there turn) (within turn) (sane (c .before .before .before)) (rw (behind turn) none) ∙ rw (behind turn) (so-far .3),
+      alone (row count) (i - 1) call (there turn) (within turn) (sane (c .before .before .before)) (rw (began turn) none) ∙ rw (began turn) (so-far .3),
       subst (Marks (withMark marks (keyOf (call .phase) (call .vector)))) (sym first) (one-marked marks call rest (so-far .2) (limits .of-phase) (limits .of-vector) (so-far .4)),
     )
 
