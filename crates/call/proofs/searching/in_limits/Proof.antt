@@ -23,16 +23,20 @@ returns c = rw (not-true (keyed (c .before .before .before .args .call)) (c .if1
 
 returns-2 : tie.Need-returns-2
 returns-2 c =
-    let call = c .before .before .before .before .before .args .call in
-    sym (judged (keyed call) (eqb (call .«has_vector») 0) (spanned call) (not-false (keyed call) (c .before .before .if1 .left)) ∙ rw (c .if2 .taken))
+    let passed = c .before .before in
+    let start = passed .before .before .before in
+    let call = start .args .call in
+    sym (judged (keyed call) (eqb (call .«has_vector») 0) (spanned call) (not-false (keyed call) (passed .if1 .left)) ∙ rw (c .if2 .taken))
 
 spanned-requires : tie.Need-spanned-requires
 spanned-requires c κs = search needs
 
 returns-3 : tie.Need-returns-3
 returns-3 c =
-    let call = c .before .before .before .before .before .before .args .call in
-    c .spanned .ensures ∙ sym (judged (keyed call) (eqb (call .«has_vector») 0) (spanned call) (not-false (keyed call) (c .before .before .before .if1 .left)) ∙ rw (ne-eqb (call .«has_vector») 0 (c .before .if2 .left)))
+    let passed = c .before .before .before in
+    let start = passed .before .before .before in
+    let call = start .args .call in
+    c .spanned .ensures ∙ sym (judged (keyed call) (eqb (call .«has_vector») 0) (spanned call) (not-false (keyed call) (passed .if1 .left)) ∙ rw (ne-eqb (call .«has_vector») 0 (c .before .if2 .left)))
 
 pub in-limits-spec : {M : Type 1} → statement M
 in-limits-spec = tie.close (tie.spec returns returns-2 spanned-requires returns-3)

@@ -38,7 +38,8 @@ brings-words-requires c κs = search needs
 
 returns : tie.Need-returns
 returns c =
-    let call = c .before .before .before .args .call in
+    let start = c .before .before .before in
+    let call = start .args .call in
     ap not (c .brings-words .ensures) ∙ sym (wordless call (c .before .if1 .taken))
 
 fits-requires : tie.Need-fits-requires
@@ -46,7 +47,8 @@ fits-requires c κs = search needs
 
 returns-2 : tie.Need-returns-2
 returns-2 c =
-    let call = c .before .before .before .before .args .call in
+    let start = c .before .before .before .before in
+    let call = start .args .call in
     c .fits2 .ensures ∙ sym (worded call (c .before .before .if1 .left))
 
 pub spanned-spec : {M : Type 1} → statement M
