@@ -197,9 +197,9 @@ openings =
     ∷ (openOf (these (waits 3 88 ∷ [])) 0x01000002, 2)
     ∷ (openOf (these (spans 0 3 4 1 0 ∷ [])) 0x01000002, 0)
     ∷ (openOf (these (spans 0 3 3 1 0 ∷ [])) 0x01000002, 2)
-    -- a vector that brings words has some: of none it is over the limits, though b is right
+    -- a span of no words, of a vector that brings words: it is outside the limits, whatever b is
     ∷ (openOf (these (spans 0 3 4 0 0 ∷ [])) 0x01000002, 2)
-    -- one that brings no words has none, whatever b is; where its record names some all the same, they are held to the limits
+    -- a vector that brings no words has none, whatever b is; where its record names some all the same, they are held to the limits
     ∷ (openOf (these (brief 0 3 0 0 ∷ [])) 0x01000002, 0)
     ∷ (openOf (these (brief 0 87 88 0 ∷ [])) 0x01000002, 0)
     ∷ (openOf (these (brief 0 3 4 1 ∷ [])) 0x01000002, 0)

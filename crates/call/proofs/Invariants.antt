@@ -11,4 +11,6 @@ use Rattle.call.specs.Steps.{nextArea}
 -- calls that have their vector have areas of their own, the first ones
 pub record Placed (row : List Call) : Type 0 where
   pub below : (i : ℕ) → i < length row → hasVector (getD row i blank) ≡ true → getD row i blank .area < nextArea row
-  pub apart : (i j : ℕ) → i < length row → j < length row → hasVector (getD row i blank) ≡ true → hasVector (getD row j blank) ≡ true → getD row i blank .area ≡ getD row j blank .area → i ≡ j
+  pub apart : (i j : ℕ) → i < length row → j < length row
+      → hasVector (getD row i blank) ≡ true → hasVector (getD row j blank) ≡ true
+      → getD row i blank .area ≡ getD row j blank .area → i ≡ j

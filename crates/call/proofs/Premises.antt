@@ -28,7 +28,36 @@ spans phase vector start words area =
 -- a call whose vector has come, a short message (V 2), which brings no words: the words that its record names all the same
 abbrev pub brief : ℕ → ℕ → ℕ → ℕ → Call
 brief phase vector start words =
-    record { phase = phase; vector = vector; address = 0; priority = 0; «long_address» = 0; «has_vector» = 1; kind = 2; check = 0; start = start; words = words; area = 0 }
+    record {
+      phase = phase;
+      vector = vector;
+      address = 0;
+      priority = 0;
+      «long_address» = 0;
+      «has_vector» = 1;
+      kind = 2;
+      check = 0;
+      start = start;
+      words = words;
+      area = 0;
+    }
+
+-- a call of phase A and vector 2 whose vector has come, of a kind, with no words
+abbrev empty : ℕ → Call
+empty kind =
+    record {
+      phase = 0;
+      vector = 2;
+      address = 0;
+      priority = 0;
+      «long_address» = 0;
+      «has_vector» = 1;
+      kind = kind;
+      check = 0;
+      start = 3;
+      words = 0;
+      area = 0;
+    }
 
 -- two records, so many of them open calls
 abbrev two : ℕ → Call → Call → Calls
@@ -73,15 +102,19 @@ pub key-needed : sound (set (waits 0 2 ∷ waits 1 2 ∷ []) 0 (waits 1 2)) ∷ 
 unfolding sound firstThat
 key-needed = refl
 
--- 01's table, 2, "a span outside the limits": a vector that brings words (each of V 0 and V 3 to V 7) has a span of one word or more, and one that brings none (V 1 and V 2) has none
-pub no-words-outside : map (λ (kind : ℕ). sound (record { phase = 0; vector = 2; address = 0; priority = 0; «long_address» = 0; «has_vector» = 1; kind = kind; check = 0; start = 3; words = 0; area = 0 } ∷ [])) (0 ∷ 1 ∷ 2 ∷ 3 ∷ 4 ∷ 5 ∷ 6 ∷ 7 ∷ []) ≡ false ∷ true ∷ true ∷ false ∷ false ∷ false ∷ false ∷ false ∷ []
+-- 01's table, 2, "a span outside the limits": a vector that brings words (each of V 0 and V 3 to V 7) has a span of one word
+-- or more, and one that brings none (V 1 and V 2) has none
+pub no-words-outside : map (λ (kind : ℕ). sound (empty kind ∷ [])) (0 ∷ 1 ∷ 2 ∷ 3 ∷ 4 ∷ 5 ∷ 6 ∷ 7 ∷ [])
+    ≡ false ∷ true ∷ true ∷ false ∷ false ∷ false ∷ false ∷ false ∷ []
 unfolding sound firstThat
 no-words-outside = refl
 
 -- such records are refused 2 by an address packet, a vector or message packet and an end of frame
 pub no-words-refused :
     let s = two 1 (spans 0 2 3 0 0) blank in
-    numberTold (openOf s 0x01000005) ∷ hearNumber s (replicate 680 lacking) good ∷ hearNumber s (replicate 680 lacking) 0x03000005 ∷ numberTold (endOf s (replicate 680 lacking)) ∷ [] ≡ 2 ∷ 2 ∷ 2 ∷ 2 ∷ []
+    let memory = replicate 680 lacking in
+    numberTold (openOf s 0x01000005) ∷ hearNumber s memory good ∷ hearNumber s memory 0x03000005 ∷ numberTold (endOf s memory) ∷ []
+    ≡ 2 ∷ 2 ∷ 2 ∷ 2 ∷ []
 unfolding openOf hearOf endOf sound firstThat
 no-words-refused = refl
 

@@ -42,7 +42,9 @@ fits-span long vector start words = (there, back)
           first-word = leb-true (vector + bitOf long) 87 (second-of (leb 1 words && leb words 85) (leb (vector + bitOf long) 87) three);
           rest =
               ⊎-elim (λ same. inl (eqb-true words (bitOf long) same))
-              (λ both. inr (ltb-true (vector + bitOf long) start (first-of follows ends both), leb-true (start + words) (88 + bitOf long) (second-of follows ends both)))
+              (λ both.
+              inr
+              (ltb-true (vector + bitOf long) start (first-of follows ends both), leb-true (start + words) (88 + bitOf long) (second-of follows ends both)))
               (either-of alone (follows && ends) (second-of (leb 1 words && leb words 85 && leb (vector + bitOf long) 87) (alone || (follows && ends)) e));
         }
 

@@ -130,7 +130,10 @@ then-order place i j other less =
     rw (past, lt-ltb place j (omega arith)) (omega arith))
     (λ not-past.
     let first = ltb-false place i not-past in
-    ⊎-elim (λ second. let last = ltb-true place j second in rw (not-past, second) (omega arith)) (λ (none : ltb place j ≡ false). rw (not-past, none) less) (decided (ltb place j)))
+    ⊎-elim
+    (λ second. let last = ltb-true place j second in rw (not-past, second) (omega arith))
+    (λ (none : ltb place j ≡ false). rw (not-past, none) less)
+    (decided (ltb place j)))
     (decided (ltb place i))
 
 -- different places were different
@@ -139,10 +142,16 @@ before-apart place i j =
     ⊎-elim
     (λ first.
     let a = ltb-true i place first in
-    ⊎-elim (λ (second : ltb j place ≡ true). rw (first, second) (λ e. e)) (λ past. let b = ltb-false j place past in rw (first, past) (λ e. omega arith)) (decided (ltb j place)))
+    ⊎-elim
+    (λ (second : ltb j place ≡ true). rw (first, second) (λ e. e))
+    (λ past. let b = ltb-false j place past in rw (first, past) (λ e. omega arith))
+    (decided (ltb j place)))
     (λ later.
     let a = ltb-false i place later in
-    ⊎-elim (λ second. let b = ltb-true j place second in rw (later, second) (λ e. omega arith)) (λ (past : ltb j place ≡ false). rw (later, past) (λ e. omega arith)) (decided (ltb j place)))
+    ⊎-elim
+    (λ second. let b = ltb-true j place second in rw (later, second) (λ e. omega arith))
+    (λ (past : ltb j place ≡ false). rw (later, past) (λ e. omega arith))
+    (decided (ltb j place)))
     (decided (ltb i place))
 
 module _ (row : List Call) (place : ℕ) (within : place < length row) where
@@ -183,7 +192,11 @@ module _ (row : List Call) (place : ℕ) (within : place < length row) where
       (rw left-length (by-side i inside other), left-at (placeThen place i) ∙ ap (λ (n : ℕ). getD row n blank) (before-then place i other))
     where
       by-side : (i : ℕ) → i < length row → (i ≡ place → ⊥) → placeThen place i < length row - 1
-      by-side i inside other = ⊎-elim (λ past. let less = ltb-true place i past in rw past (omega arith)) (λ before. let most = ltb-false place i before in rw before (omega arith)) (decided (ltb place i))
+      by-side i inside other =
+          ⊎-elim
+          (λ past. let less = ltb-true place i past in rw past (omega arith))
+          (λ before. let most = ltb-false place i before in rw before (omega arith))
+          (decided (ltb place i))
 
 -- ---- it stays sound
 

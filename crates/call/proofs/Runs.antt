@@ -155,7 +155,8 @@ order s ended =
     rw (append-nil (map unheard row))
     (ended-by (s .calls) (s .memory) (λ t. Among (map unheard (opens t)) (map unheard row)) (among-none (map unheard row)) (among-same (map unheard row)))
 
--- 01: "in the order opened": after a run, in a frame or over the ends of frames, the open calls are those before and the ones that it opens after them, with some left out
+-- 01: "in the order opened": after a run, in a frame or over the ends of frames, the open calls are those before and the
+-- ones that it opens after them, with some left out
 pub run-order : (s : State) (events : List Event) → Among (map unheard (opens (afterAll s events .calls))) (map unheard (opens (s .calls)) ++ openedBy s events)
 unfolding afterAll openedBy
 run-order s [] = among-is (sym (append-nil (map unheard (opens (s .calls)))))

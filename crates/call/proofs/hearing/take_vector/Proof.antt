@@ -115,7 +115,9 @@ returns-3 c =
     let none = ap hasVector (there start) ∙ ap not (eq-eqb (call .«has_vector») 0 (waits .if1 .left)) in
     let read = read-as (start .args .packet .bits) (heard .read-vector .result) (start .pre .0) (heard .read-vector .ensures) in
     let asked = fitted .vector-fits .ensures ∙ ap (vectorFits call) read ∙ ap (λ (c : Call). vectorFits c vector) (sym (there start)) in
-    let done = vector-no-room s memory place vector none (sym asked ∙ not-false (fitted .vector-fits .result) (c .before .before .before .if2 .left)) (lt-ltb (length memory) 680 (c .before .before .if3 .taken)) in
+    let done = vector-no-room s memory place vector none
+    (sym asked ∙ not-false (fitted .vector-fits .result) (c .before .before .before .if2 .left))
+    (lt-ltb (length memory) 680 (c .before .before .if3 .taken)) in
     let turn = refusal-turn s (c .unheard3 .result) _ 1 (c .unheard3 .ensures ∙ ap (λ (n : ℕ). refusing n 0) (c .before .number3 .ensures)) refl (done .0) in
     (turn .0, (turn .1, done .1))
 
@@ -140,7 +142,8 @@ clear-requires c κs =
     let start = heard .before .before .before .before .before .before in
     let call = getD (start .args .calls .calls) (start .args .place) blank in
     let read = read-as (start .args .packet .bits) (heard .read-vector .result) (start .pre .0) (heard .read-vector .ensures) in
-    let words = fitting-words call (start .args .packet .bits) (sym (fitted .vector-fits .ensures ∙ ap (vectorFits call) read) ∙ not-false (fitted .vector-fits .result) (passed .if2 .left)) in
+    let words = fitting-words call (start .args .packet .bits)
+    (sym (fitted .vector-fits .ensures ∙ ap (vectorFits call) read) ∙ not-false (fitted .vector-fits .result) (passed .if2 .left)) in
     let given = ap (λ (g : Call). g .words) (c .before .before .before .with-vector .ensures) ∙ ap (λ (v : Vector). v .span .words) read in
     let place = c .before .place .ensures in
     omega (arith, words, given, place, room .if3 .left)
@@ -150,7 +153,8 @@ same-length c = search needs
 
 completed-by-requires : tie.Need-completed-by-requires
 completed-by-requires c κs =
-    let start = c .before .before .before .before .before .before .before .before .before .before .before .before .before .before .before .before .before .before in
+    let room = c .before .before .before .before .before .before .before .before in
+    let start = room .before .before .before .before .before .before .before .before .before .before in
     let less = small start in
     search needs
 
@@ -173,7 +177,8 @@ returns-4 c =
     let none = ap hasVector (there start) ∙ ap not (eq-eqb (call .«has_vector») 0 (waits .if1 .left)) in
     let read = read-as (start .args .packet .bits) (heard .read-vector .result) (start .pre .0) (heard .read-vector .ensures) in
     let asked = fitted .vector-fits .ensures ∙ ap (vectorFits call) read ∙ ap (λ (c : Call). vectorFits c vector) (sym (there start)) in
-    let done = vector-taken s memory place vector none (sym asked ∙ not-false (fitted .vector-fits .result) (passed .if2 .left)) (le-ltb (length memory) 680 (room .if3 .left)) in
+    let done = vector-taken s memory place vector none (sym asked ∙ not-false (fitted .vector-fits .result) (passed .if2 .left))
+    (le-ltb (length memory) 680 (room .if3 .left)) in
     let area = numbered .next-area in
     let given = made .with-vector in
     let is = given .ensures

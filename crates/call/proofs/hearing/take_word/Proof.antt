@@ -34,7 +34,9 @@ held : (c : tie.Else1) → let start = c .before .before .before .before .before
 held c = asked (c .before .before) .0 ∙ not-false (c .before .before .ask .result .held) (c .if1 .left)
 
 -- and some call lacks it
-lacked : (c : tie.Else2) → let start = c .before .before .before .before .before .before .before in isLacked (opens (start .args .calls)) (start .args .message) (start .args .memory .now) ≡ true
+lacked : (c : tie.Else2)
+    → let start = c .before .before .before .before .before .before .before in
+    isLacked (opens (start .args .calls)) (start .args .message) (start .args .memory .now) ≡ true
 lacked c =
     let found = c .before .before .before .before in
     asked found .1 ∙ not-false (found .ask .result .lacked) (c .if2 .left)
@@ -55,7 +57,8 @@ returns : tie.Need-returns
 returns c =
     let found = c .before .before .before .before in
     let start = found .before .before .before in
-    let done = word-of-none (start .args .calls) (start .args .memory .now) (start .args .message) (asked found .0 ∙ not-true (found .ask .result .held) (c .before .before .if1 .taken)) in
+    let done = word-of-none (start .args .calls) (start .args .memory .now) (start .args .message)
+    (asked found .0 ∙ not-true (found .ask .result .held) (c .before .before .if1 .taken)) in
     let turn = refusal-turn (start .args .calls) (c .unheard .result) _ 17 (c .unheard .ensures ∙ ap (λ (n : ℕ). refusing n 0) (c .before .number .ensures)) refl (done .0) in
     (turn .0, (turn .1, done .1))
 
@@ -73,7 +76,8 @@ returns-2 c =
     let holding = c .before .before .before .before in
     let found = holding .before .before in
     let start = found .before .before .before in
-    let done = word-again (start .args .calls) (start .args .memory .now) (start .args .message) (held holding) (asked found .1 ∙ not-true (found .ask .result .lacked) (c .before .before .if2 .taken)) in
+    let done = word-again (start .args .calls) (start .args .memory .now) (start .args .message) (held holding)
+    (asked found .1 ∙ not-true (found .ask .result .lacked) (c .before .before .if2 .taken)) in
     let turn = refusal-turn (start .args .calls) (c .unheard2 .result) _ 14 (c .unheard2 .ensures ∙ ap (λ (n : ℕ). refusing n 0) (c .before .number2 .ensures)) refl (done .0) in
     (turn .0, (turn .1, done .1))
 
@@ -91,7 +95,8 @@ returns-3 c =
     let wanting = c .before .before .before in
     let holding = wanting .before .before in
     let start = holding .before .before .before .before .before in
-    let done = word-no-room (start .args .calls) (start .args .memory .now) (start .args .message) (held holding) (lacked wanting) (lt-ltb (length (start .args .memory .now)) 680 (c .before .before .if3 .taken)) in
+    let done = word-no-room (start .args .calls) (start .args .memory .now) (start .args .message) (held holding) (lacked wanting)
+    (lt-ltb (length (start .args .memory .now)) 680 (c .before .before .if3 .taken)) in
     let turn = refusal-turn (start .args .calls) (c .unheard3 .result) _ 1 (c .unheard3 .ensures ∙ ap (λ (n : ℕ). refusing n 0) (c .before .number3 .ensures)) refl (done .0) in
     (turn .0, (turn .1, done .1))
 
@@ -107,7 +112,8 @@ returns-4 c =
     let wanting = room .before in
     let holding = wanting .before .before in
     let start = holding .before .before .before .before .before in
-    let done = word-taken (start .args .calls) (start .args .memory .now) (start .args .message) (held holding) (lacked wanting) (le-ltb (length (start .args .memory .now)) 680 (room .if3 .left)) in
+    let done = word-taken (start .args .calls) (start .args .memory .now) (start .args .message) (held holding) (lacked wanting)
+    (le-ltb (length (start .args .memory .now)) 680 (room .if3 .left)) in
     (ap (λ (n : ℕ). hearingOf (start .args .calls) (giving n)) (c .before .before .give .ensures .0) ∙ done .0, (omega arith, c .before .before .give .ensures .1 ∙ done .1))
 
 pub take-word-spec : {M : Type 1} → statement M

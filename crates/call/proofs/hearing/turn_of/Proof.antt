@@ -27,13 +27,17 @@ kind c =
     not-false (isVector (start .args .packet .bits)) (c .if2 .left)
 
 -- and not in error
-good : (c : tie.Else3) → let start = c .before .before .before .before .before .before .before .before in eqb (messageIn (start .args .packet .bits) .damaged) 0 ≡ true
+good : (c : tie.Else3)
+    → let start = c .before .before .before .before .before .before .before .before in
+    eqb (messageIn (start .args .packet .bits) .damaged) 0 ≡ true
 good c =
     let start = c .before .before .before .before .before .before .before .before in
     eq-eqb (messageIn (start .args .packet .bits) .damaged) 0 (sym (ap (λ (m : Message). m .damaged) (c .before .before .message-of .ensures)) ∙ c .if3 .left)
 
 -- the place that is looked at is the vector's
-there : (c : tie.After-vector-place) → let start = c .before .before .before .before .before .before .before .before .before in c .vector-place .result ≡ vectorPlace (start .args .calls) (start .args .packet .bits)
+there : (c : tie.After-vector-place)
+    → let start = c .before .before .before .before .before .before .before .before .before in
+    c .vector-place .result ≡ vectorPlace (start .args .calls) (start .args .packet .bits)
 there c =
     let start = c .before .before .before .before .before .before .before .before .before in
     c .vector-place .ensures ∙ ap (λ (m : Message). find (m .phase) (m .word) (opens (start .args .calls))) (c .before .before .before .message-of .ensures)
@@ -51,7 +55,8 @@ returns : tie.Need-returns
 returns c =
     let asked = c .before .before .before in
     let start = asked .before .before in
-    let done = hear-unsound (start .args .calls) (start .args .memory .now) (start .args .packet .bits) (sym (asked .sound .ensures) ∙ not-true (asked .sound .result) (c .before .before .if1 .taken)) in
+    let done = hear-unsound (start .args .calls) (start .args .memory .now) (start .args .packet .bits)
+    (sym (asked .sound .ensures) ∙ not-true (asked .sound .result) (c .before .before .if1 .taken)) in
     let turn = refusal-turn (start .args .calls) (c .unheard .result) _ 2 (c .unheard .ensures ∙ ap (λ (n : ℕ). refusing n 0) (c .before .number .ensures)) refl (done .0) in
     (turn .0, (turn .1, done .1))
 
@@ -65,7 +70,8 @@ returns-2 : tie.Need-returns-2
 returns-2 c =
     let passed = c .before .before .before .before in
     let start = passed .before .before .before in
-    let done = hear-foreign (start .args .calls) (start .args .memory .now) (start .args .packet .bits) (right passed) (not-true (isVector (start .args .packet .bits)) (c .before .before .if2 .taken)) in
+    let done = hear-foreign (start .args .calls) (start .args .memory .now) (start .args .packet .bits) (right passed)
+    (not-true (isVector (start .args .packet .bits)) (c .before .before .if2 .taken)) in
     let turn = refusal-turn (start .args .calls) (c .unheard2 .result) _ 7 (c .unheard2 .ensures ∙ ap (λ (n : ℕ). refusing n 0) (c .before .number2 .ensures)) refl (done .0) in
     (turn .0, (turn .1, done .1))
 
@@ -85,7 +91,8 @@ returns-3 c =
     let passed = known .before .before in
     let start = passed .before .before .before in
     let done = hear-damaged (start .args .calls) (start .args .memory .now) (start .args .packet .bits) (right passed) (kind known)
-    (ne-eqb (messageIn (start .args .packet .bits) .damaged) 0 (λ none. c .before .before .if3 .taken (ap (λ (m : Message). m .damaged) (read .message-of .ensures) ∙ none))) in
+    (ne-eqb (messageIn (start .args .packet .bits) .damaged) 0
+    (λ none. c .before .before .if3 .taken (ap (λ (m : Message). m .damaged) (read .message-of .ensures) ∙ none))) in
     let turn = refusal-turn (start .args .calls) (c .unheard3 .result) _ 10 (c .unheard3 .ensures ∙ ap (λ (n : ℕ). refusing n 0) (c .before .number3 .ensures)) refl (done .0) in
     (turn .0, (turn .1, done .1))
 

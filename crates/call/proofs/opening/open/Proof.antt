@@ -25,7 +25,9 @@ none : (c : tie.Else2) → let start = c .before .before .before .before .before
 none c = sym (ap (λ (r : AddressRead). r .number) (c .before .before .read-address .ensures)) ∙ c .if2 .left
 
 -- what it says
-says : (c : tie.Else2) → let start = c .before .before .before .before .before in c .before .before .read-address .result .fields ≡ addressIn (start .args .packet .bits)
+says : (c : tie.Else2)
+    → let start = c .before .before .before .before .before in
+    c .before .before .read-address .result .fields ≡ addressIn (start .args .packet .bits)
 says c =
     let read = c .before .before in
     let start = read .before .before .before in

@@ -68,14 +68,17 @@ asked c =
     let turn = c .before .before in
     let start = turn .before .before in
     let a = start .before .before .args in
-    ap (isOf (a .phase) (a .vector)) (getD-take (start .count .result) (a .calls .calls) (turn .before .loop .at) blank (omega arith)) ∙ sym (c .is-of .ensures)
+    ap (isOf (a .phase) (a .vector)) (getD-take (start .count .result) (a .calls .calls) (turn .before .loop .at) blank (omega arith))
+    ∙ sym (c .is-of .ensures)
 
 loop-again : tie.Need-loop-again Inv-loop μ-loop
 loop-again c =
     let turn = c .before .before .before in
     let start = turn .before .before in
     let a = start .before .before .args in
-    (omega arith, turn .before .loop .inv .1 ∙ found-later (isOf (a .phase) (a .vector)) (take (start .count .result) (a .calls .calls)) blank (turn .before .loop .at) (omega (arith, long start)) (asked (c .before) ∙ c .if1 .left))
+    let row = take (start .count .result) (a .calls .calls) in
+    let later = found-later (isOf (a .phase) (a .vector)) row blank (turn .before .loop .at) (omega (arith, long start)) (asked (c .before) ∙ c .if1 .left) in
+    (omega arith, turn .before .loop .inv .1 ∙ later)
 
 returns : tie.Need-returns Inv-loop μ-loop
 returns c =
@@ -88,7 +91,9 @@ returns-2 c =
     let turn = c .before .before .before in
     let start = turn .before .before in
     let a = start .before .before .args in
-    sym (found start ∙ turn .before .loop .inv .1 ∙ found-here (isOf (a .phase) (a .vector)) (take (start .count .result) (a .calls .calls)) blank (turn .before .loop .at) (omega (arith, long start)) (asked (c .before) ∙ c .if1 .taken))
+    let row = take (start .count .result) (a .calls .calls) in
+    let here = found-here (isOf (a .phase) (a .vector)) row blank (turn .before .loop .at) (omega (arith, long start)) (asked (c .before) ∙ c .if1 .taken) in
+    sym (found start ∙ turn .before .loop .inv .1 ∙ here)
 
 pub find-spec : {M : Type 1} → statement M
 find-spec =

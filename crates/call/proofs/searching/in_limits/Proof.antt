@@ -36,7 +36,8 @@ returns-3 c =
     let passed = c .before .before .before in
     let start = passed .before .before .before in
     let call = start .args .call in
-    c .spanned .ensures ∙ sym (judged (keyed call) (eqb (call .«has_vector») 0) (spanned call) (not-false (keyed call) (passed .if1 .left)) ∙ rw (ne-eqb (call .«has_vector») 0 (c .before .if2 .left)))
+    let by-span = judged (keyed call) (eqb (call .«has_vector») 0) (spanned call) (not-false (keyed call) (passed .if1 .left)) in
+    c .spanned .ensures ∙ sym (by-span ∙ rw (ne-eqb (call .«has_vector») 0 (c .before .if2 .left)))
 
 pub in-limits-spec : {M : Type 1} → statement M
 in-limits-spec = tie.close (tie.spec returns returns-2 spanned-requires returns-3)
