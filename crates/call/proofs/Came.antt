@@ -269,7 +269,7 @@ module _ (s : State) (placed : Placed (opens (s .calls))) (few : length (s .call
       ap (wordsOf (vectorGiven (s .calls) n)) (memory-vector (s .calls) (s .memory) n (eq-eqb (hearNumber (s .calls) (s .memory) n) 0 (taken .0)) (taken .1))
       ∙ vector-lacks-all (s .memory) (vectorGiven (s .calls) n) (given-most (s .calls) (s .memory) n v) (v .room)
 
-  -- so that its words are those that came for its places since, to the end of the frame
+  -- the words of a call whose vector was taken are those that came for its places since, to the end of the frame
   pub words-since : (events : List Event) → inFrame events ≡ true
       → let c = vectorGiven (s .calls) n in
       wordsOf c (afterAll (after s (heard n)) events .memory) ≡ map (cameFor (after s (heard n)) events (c .phase)) (numbersOf c)

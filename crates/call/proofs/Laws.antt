@@ -497,7 +497,7 @@ stays-sound s ended right = ended-by (s .calls) (s .memory) (λ t. sound (opens 
 
 -- ---- open calls stay
 
--- that a call stands at a place of a row
+-- a call stands at a place of a row
 pub record Stands (c : Call) (place : ℕ) (row : List Call) : Type 0 where
   pub within : place < length row
   pub here : getD row place blank ≡ c

@@ -75,7 +75,7 @@ module _ (m : Message) where
 
 -- ---- one call
 
--- of which word of a call it is that came, and whether the call lacks it
+-- whether the word that came is the k-th of a call, and the call lacks it
 abbrev pub goesTo : Call → ℕ → Message → List ℕ → Bool
 goesTo c k m memory =
     eqb (c .phase) (m .phase) && eqb (getD (numbersOf c) k 0) (m .word) && leb lacking (getD memory (placeOf c + k) 0)

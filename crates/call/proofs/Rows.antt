@@ -155,7 +155,7 @@ before-apart place i j =
     (decided (ltb i place))
 
 module _ (row : List Call) (place : ℕ) (within : place < length row) where
-  -- it is one shorter
+  -- a row with one call left out is one shorter
   pub left-length : length (left place row) ≡ length row - 1
   left-length =
       let front : length (take place row) ≡ place = length-take-le place row (omega arith) in

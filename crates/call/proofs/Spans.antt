@@ -160,7 +160,7 @@ module _ (c : Call) where
         let less = number-ascends (isLong c) (c .vector) (c .start) (c .words) j k the-span before within in
         omega arith
 
-    -- so that no two are one, and each is found at its own position
+    -- no two of the call's word numbers are one, and each is found at its own position
     pub position-of : (k : ℕ) → k < c .words → position c (getD (numbersOf c) k 0) ≡ k
     unfolding placeIn
     position-of k within =

@@ -445,16 +445,6 @@ const STATES: &[Case] = &[
     ("a vector over 87", |seen| {
         seen.unsound_by(|call| call.vector > 87)
     }),
-    ("two of one key", |seen| {
-        seen.refused(2) && has_two_of_one_key_by(seen.open(), |_| true)
-    }),
-    ("two of one key, neither with a vector", |seen| {
-        let awaits = |call: &Call| !call.has_vector();
-        seen.refused(2) && has_two_of_one_key_by(seen.open(), awaits)
-    }),
-    ("a record of over 85 words", |seen| {
-        seen.unsound_by(|call| call.has_vector() && call.words > 85)
-    }),
     (
         "a record of no words, of a vector that brings some",
         |seen| seen.unsound_by(without_its_words),
@@ -478,6 +468,16 @@ const STATES: &[Case] = &[
             let is_seen = seen_span(call) && call.vector <= 87;
             is_seen && !brings_words(call.kind) && !call.is_span(call.words, call.start)
         })
+    }),
+    ("two of one key", |seen| {
+        seen.refused(2) && has_two_of_one_key_by(seen.open(), |_| true)
+    }),
+    ("two of one key, neither with a vector", |seen| {
+        let awaits = |call: &Call| !call.has_vector();
+        seen.refused(2) && has_two_of_one_key_by(seen.open(), awaits)
+    }),
+    ("a record of over 85 words", |seen| {
+        seen.unsound_by(|call| call.has_vector() && call.words > 85)
     }),
     ("a record's span not behind its vector, short", |seen| {
         seen.unsound_by(|call| seen_span(call) && !call.is_long() && call.start <= call.vector)

@@ -144,8 +144,8 @@ fn give_span(random: &mut Random, call: &mut Call) {
 /// Words and b within the limits, where some are.
 fn any_span(random: &mut Random, call: &Call) -> (u32, u32) {
     let is_long = u64::from(call.is_long());
-    let behind = u64::from(call.vector) + is_long;
-    let most = (LAST_WORD - behind + is_long).min(MOST_WORDS as u64);
+    let last_before = u64::from(call.vector) + is_long;
+    let most = (LAST_WORD - last_before + is_long).min(MOST_WORDS as u64);
     let words = match random.below(4) {
         0 => random.between(1, most),
         _ => random.between(1, most.min(3)),
@@ -153,7 +153,7 @@ fn any_span(random: &mut Random, call: &Call) -> (u32, u32) {
     let rest = words - is_long;
     let start = match rest {
         0 => random.choose(&[0, 87, 88, 127, 1 << 31, u64::from(u32::MAX)]),
-        _ => random.between(behind + 1, LAST_WORD + 1 - rest),
+        _ => random.between(last_before + 1, LAST_WORD + 1 - rest),
     };
     (words as u32, start as u32)
 }

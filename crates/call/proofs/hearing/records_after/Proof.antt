@@ -28,7 +28,7 @@ returns c =
     let start = c .before .before .before .before .before in
     rw (eq-eqb (start .args .turn .answer .number) 9 (nine (c .before))) (c .removed .ensures)
 
--- it is not 9
+-- the answer is not 9
 other : (c : tie.Else1) → let start = c .before .before .before .before in eqb (start .args .turn .answer .number) 9 ≡ false
 other c =
     let start = c .before .before .before .before in

@@ -29,11 +29,11 @@ asked : (c : tie.After-ask) → Answers c (c .ask .result .held) (c .ask .result
 asked c =
     (sym (ap (λ (a : Asked). a .held) (c .ask .ensures)), sym (ap (λ (a : Asked). a .lacked) (c .ask .ensures)))
 
--- some call holds it
+-- some call's span holds the word
 held : (c : tie.Else1) → let start = c .before .before .before .before .before in isHeld (opens (start .args .calls)) (start .args .message) ≡ true
 held c = asked (c .before .before) .0 ∙ not-false (c .before .before .ask .result .held) (c .if1 .left)
 
--- and some call lacks it
+-- some call lacks the word
 lacked : (c : tie.Else2)
     → let start = c .before .before .before .before .before .before .before in
     isLacked (opens (start .args .calls)) (start .args .message) (start .args .memory .now) ≡ true

@@ -26,7 +26,7 @@ kind c =
     let start = c .before .before .before .before .before in
     not-false (isVector (start .args .packet .bits)) (c .if2 .left)
 
--- and not in error
+-- the packet is not marked in error
 good : (c : tie.Else3)
     → let start = c .before .before .before .before .before .before .before .before in
     eqb (messageIn (start .args .packet .bits) .damaged) 0 ≡ true

@@ -82,7 +82,7 @@ within c = omega (arith, long (c .before .before), c .before .loop .inv .0, c .l
 began : (c : tie.In-loop Inv-loop μ-loop) → c .before .loop .i - 1 + 1 ≡ c .before .loop .i
 began c = omega (arith, c .loop-test .taken)
 
--- it is within its limits
+-- the call of a turn that goes on is within its limits
 sane : (c : tie.Else1 Inv-loop μ-loop) → inLimits (turnCall (c .before .before .before)) ≡ true
 sane c = sym (c .before .in-limits .ensures) ∙ not-false (c .before .in-limits .result) (c .if1 .left)
 

@@ -25,7 +25,7 @@ module _ (c : Call) where
   unfit : c .words ≡ 0 → fits (isLong c) (c .vector) (c .start) (c .words) ≡ false
   unfit is = rw (lt-leb 1 (c .words) (omega (arith, is)))
 
-  -- it is one for a vector that brings no words
+  -- a span of no words is one for a vector that brings none
   wordless : c .words ≡ 0 → spanned c ≡ not (bringsWords (c .kind))
   wordless is = by-kind (bringsWords (c .kind)) (eqb (c .words) 0) _ (eq-eqb (c .words) 0 is) (unfit is)
 
