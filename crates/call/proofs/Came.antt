@@ -22,7 +22,8 @@ use Rattle.call.specs.Calls.{mostCalls, blank, fresh, opens, hasVector, 
 use Rattle.call.specs.Words.{lacking, memorySize, placeOf, wordsOf, isComplete, givenTo}
 use Rattle.call.specs.Steps.{nextArea}
 use Rattle.call.specs.Answers.{messageIn, isForVector, vectorPlace, vectorGiven, hearNumber, memoryAfter}
-use Rattle.call.specs.Runs.{Event, addressed, heard, ended, State, after, afterAll, inFrame, Placed, takenAt, bitsIn, cameFor}
+use Rattle.call.specs.Runs.{Event, addressed, heard, ended, State, after, afterAll, inFrame, takenAt, bitsIn, cameFor}
+use Rattle.call.proofs.Invariants.{Placed}
 use Rattle.call.proofs.Records.{in-limits, sound-row}
 use Rattle.call.proofs.Rows.{opens-most}
 use Rattle.call.proofs.Laws.{VectorTaken, vector-accepted, refused-memory, stays-sound, Stands, vector-stands}
@@ -46,7 +47,7 @@ module _ (s : Calls) (memory : List ℕ) (n : ℕ) where
   unfolding memoryAfter
   memory-vector taken is = rw (taken, is)
 
-  -- .. after a message word: it is given to the calls
+  -- the lent memory after a message word that was taken: the word is given to the calls
   pub memory-word : eqb (hearNumber s memory n) 0 ≡ true → isForVector s n ≡ false → memoryAfter s memory n ≡ givenTo (opens s) (messageIn n) memory
   unfolding memoryAfter
   memory-word taken none = rw (taken, none)
@@ -65,15 +66,15 @@ pub record Ready (c : Call) (s : State) : Type 0 where
   pub place : ℕ
   pub stands : Stands c place (opens (s .calls))
 
--- .. is one of at most eight
+-- a ready call is one of at most eight
 ready-few : (c : Call) (s : State) → Ready c s → length (opens (s .calls)) ≤ 8
 ready-few c s r = omega (arith, r .few, opens-most (s .calls) .0)
 
--- .. is within its limits
+-- a ready call is within its limits
 ready-limits : (c : Call) (s : State) → Ready c s → inLimits c ≡ true
 ready-limits c s r = ap inLimits (sym (r .stands .here)) ∙ sound-within (opens (s .calls)) (r .right) (r .place) (r .stands .within)
 
--- .. and its words are within the memory
+-- the words of a ready call are within the memory
 ready-words : (c : Call) (s : State) → Ready c s → placeOf c + c .words ≤ length (s .memory)
 ready-words c s r =
     let most = words-most c (ready-limits c s r) (r .has) in
@@ -132,7 +133,7 @@ module _ (c : Call) (s : State) (r : Ready c s) (n : ℕ) where
           rw (r .stands .here) at (word-given (messageIn n) (s .memory) (opens (s .calls)) (r .placed) (ready-few c s r) (sound-within (opens (s .calls)) (r .right)) (r .place) k (r .stands .within) (ap hasVector (r .stands .here) ∙ r .has) (rw (r .stands .here) inside))
 
 module _ (c : Call) (s : State) (r : Ready c s) where
-  -- .. after any event
+  -- a word of the call after any event: the one that came, if it was taken for its place and the call lacked it, and else what it was
   pub word-after : (e : Event) (k : ℕ) → k < c .words
       → let at = placeOf c + k in
       getD (after s e .memory) at 0 ≡ pick (leb lacking (getD (s .memory) at 0) && takenAt s e (c .phase) (getD (numbersOf c) k 0)) (bitsIn e) (getD (s .memory) at 0)
@@ -261,20 +262,20 @@ module _ (s : State) (placed : Placed (opens (s .calls))) (few : length (s .call
         stands = vector-stands (s .calls) (s .memory) n v;
       }
 
-  -- .. and lacks all its words
+  -- a call whose vector was taken lacks all its words
   pub vector-lacks : wordsOf (vectorGiven (s .calls) n) (after s (heard n) .memory) ≡ replicate (vectorGiven (s .calls) n .words) lacking
   vector-lacks =
       let taken = vector-accepted (s .calls) (s .memory) n .1 v in
       ap (wordsOf (vectorGiven (s .calls) n)) (memory-vector (s .calls) (s .memory) n (eq-eqb (hearNumber (s .calls) (s .memory) n) 0 (taken .0)) (taken .1))
       ∙ vector-lacks-all (s .memory) (vectorGiven (s .calls) n) (given-most (s .calls) (s .memory) n v) (v .room)
 
-  -- so that its words are those that came for its places since, to the end of the frame
+  -- the words of a call whose vector was taken are those that came for its places since, to the end of the frame
   pub words-since : (events : List Event) → inFrame events ≡ true
       → let c = vectorGiven (s .calls) n in
       wordsOf c (afterAll (after s (heard n)) events .memory) ≡ map (cameFor (after s (heard n)) events (c .phase)) (numbersOf c)
   words-since events calm = words-came (vectorGiven (s .calls) n) (after s (heard n)) vector-ready vector-lacks events calm
 
--- .. also after any run that began with no call open, in as many records as 01 has
+-- the words of a call are those that came for its places since its vector, after any run that began with no call open, in as many records as 01 has
 pub run-words : (memory : List ℕ) (before : List Event) (n : ℕ)
     → let s = afterAll (record { calls = fresh mostCalls; memory = memory }) before in
     VectorTaken (s .calls) (s .memory) n

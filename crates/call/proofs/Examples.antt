@@ -11,12 +11,12 @@ use Rattle.call.specs.Calls.{blank, fresh, opens, sound}
 use Rattle.call.specs.Words.{lacking, wordsOf, givenTo, finished}
 use Rattle.call.specs.Answers.{openOf, openedIn, hearOf, heardIn, memoryAfter, hearNumber, endOf, endedWith, endedIn}
 use Rattle.call.specs.Runs.{Event, addressed, heard, ended, answers, afterAll}
-use Rattle.call.proofs.Premises.{waits, spans, good, bad}
+use Rattle.call.proofs.Premises.{waits, spans, brief, good, bad}
 use Rattle.call.proofs.WordExamples.{start}
 
 -- ---- the frame of Tables 54 and 55 (S8.8.2), packet by packet; packets 4 and 5 are BIWs
 
--- the packets, with the words of Table 54's three messages made up: the word number, and behind it the message's
+-- the packets, with the words of Table 54's three messages made up: the word number, and after it the message's
 abbrev sheet : List Event
 sheet =
     -- 1 and 2, Table 30: phase A, address numbers 0 and 1, vectors 7 and 8
@@ -68,7 +68,7 @@ pub sheet-answers : answers start (sheet ++ ended ∷ [])
 unfolding answers openOf openedIn hearOf heardIn memoryAfter endOf givenTo finished sound firstThat placeIn anyOf those upFrom all
 sheet-answers = refl
 
--- .. the three pages' words, in the order of the message
+-- the three pages' words, in the order of the message
 pub sheet-words :
     let s = afterAll start sheet in
     map (λ (c : Call). wordsOf c (s .memory)) (opens (s .calls))
@@ -79,12 +79,12 @@ pub sheet-words :
 unfolding afterAll openOf openedIn hearOf heardIn memoryAfter givenTo finished sound firstThat placeIn anyOf those upFrom all
 sheet-words = refl
 
--- .. their addresses, kinds and K
+-- the three pages' addresses, kinds and K
 pub sheet-calls : map (λ (c : Call). c .address ∷ c .kind ∷ c .check ∷ []) (opens (afterAll start sheet .calls)) ≡ (0 ∷ 5 ∷ 0 ∷ []) ∷ (1 ∷ 3 ∷ 5 ∷ []) ∷ (3 ∷ 5 ∷ 0 ∷ []) ∷ []
 unfolding afterAll openOf openedIn hearOf heardIn memoryAfter givenTo finished sound firstThat placeIn anyOf those upFrom all
 sheet-calls = refl
 
--- .. and at the end of the frame no call is incomplete, and behind it none is open
+-- at the end of the sheet's frame no call is incomplete, and after it none is open
 pub sheet-end :
     let s = afterAll start sheet in
     (endedWith (s .calls) (s .memory) ≡ fresh 8) × (afterAll start (sheet ++ ended ∷ []) .calls ≡ fresh 8)
@@ -109,11 +109,11 @@ abbrev badly : Event
 badly = heard 0x09030009
 
 -- number 7, phase A, vector 3, and number 8, phase C, vector 2; the third one's vector, V 3, n 1, two words from 7 on; the first one's, one word from 21 on; the last one's, V 2, a short message; and word 8 of phase D
-abbrev behind : List Event
-behind = addressed 0x01000703 ∷ addressed 0x01400802 ∷ heard 0x05630087 ∷ heard 0x14230015 ∷ heard 0x02420000 ∷ heard 0x08600111 ∷ []
+abbrev afterwards : List Event
+afterwards = addressed 0x01000703 ∷ addressed 0x01400802 ∷ heard 0x05630087 ∷ heard 0x14230015 ∷ heard 0x02420000 ∷ heard 0x08600111 ∷ []
 
--- 01: "a bad span closes its call", told 9; those behind it are then one place lower; the short message completes its call, the fourth then, at once, told as 8
-pub closed-answers : answers (afterAll start three) (badly ∷ behind)
+-- 01: "a bad span closes its call", told 9; those after it are then one place lower; the short message completes its call, the fourth then, at once, told as 8
+pub closed-answers : answers (afterAll start three) (badly ∷ afterwards)
     ≡ told 9 []
     ∷ given (1 ∷ 2 ∷ 0 ∷ 0 ∷ 0 ∷ 7 ∷ 0 ∷ 3 ∷ [])
     ∷ given (1 ∷ 3 ∷ 0 ∷ 2 ∷ 0 ∷ 8 ∷ 0 ∷ 2 ∷ [])
@@ -127,7 +127,7 @@ closed-answers = refl
 
 -- 01: "lists those incomplete, in the order opened": the first, whose word has not come; the third, which has its second word; the fourth, which awaits its vector; and not the fifth
 pub closed-listed :
-    let s = afterAll (afterAll start three) (badly ∷ behind) in
+    let s = afterAll (afterAll start three) (badly ∷ afterwards) in
     map (λ (c : Call). c .address ∷ wordsOf c (s .memory)) (opens (endedWith (s .calls) (s .memory))) ≡ (4 ∷ lacking ∷ []) ∷ (6 ∷ lacking ∷ 0x111 ∷ []) ∷ (7 ∷ []) ∷ []
 unfolding afterAll openOf openedIn hearOf heardIn memoryAfter endOf endedWith givenTo finished sound firstThat placeIn anyOf those upFrom all
 closed-listed = refl
@@ -138,7 +138,7 @@ closed-listed = refl
 abbrev crossed : List Event
 crossed = addressed 0x01000002 ∷ addressed 0x01000104 ∷ heard 0x02030103 ∷ []
 
--- .. word 4 twice, which as a vector is V 3 and one word, 6; and words 3, 5 and 6
+-- word 4 twice, which as a vector is V 3 and one word, 6; and words 3, 5 and 6
 abbrev crossing : List Event
 crossing = heard 0x04030006 ∷ heard 0x04030006 ∷ heard 0x03000111 ∷ heard 0x05000222 ∷ heard 0x06000333 ∷ []
 
@@ -153,7 +153,7 @@ pub crossed-answers : answers (afterAll start crossed) crossing
 unfolding answers afterAll openOf openedIn hearOf heardIn memoryAfter givenTo finished sound firstThat placeIn anyOf those upFrom all
 crossed-answers = refl
 
--- .. so that the first call still lacks its second word, and is the one that is listed
+-- the first call still lacks its second word then, and is the one that is listed
 pub crossed-listed :
     let s = afterAll (afterAll start crossed) crossing in
     map (λ (c : Call). c .address ∷ wordsOf c (s .memory)) (opens (endedWith (s .calls) (s .memory))) ≡ (0 ∷ 0x111 ∷ lacking ∷ 0x222 ∷ []) ∷ []
@@ -166,7 +166,7 @@ crossed-listed = refl
 abbrev these : List Call → Calls
 these row = record { size = length row; calls = row ++ blank ∷ [] }
 
--- .. and none
+-- records that hold these open calls, and no free record
 abbrev full : List Call → Calls
 full row = record { size = length row; calls = row }
 
@@ -197,10 +197,17 @@ openings =
     ∷ (openOf (these (waits 3 88 ∷ [])) 0x01000002, 2)
     ∷ (openOf (these (spans 0 3 4 1 0 ∷ [])) 0x01000002, 0)
     ∷ (openOf (these (spans 0 3 3 1 0 ∷ [])) 0x01000002, 2)
+    -- a span of no words, of a vector that brings words: it is outside the limits, whatever b is
+    ∷ (openOf (these (spans 0 3 4 0 0 ∷ [])) 0x01000002, 2)
+    -- a vector that brings no words has none, whatever b is; where its record names some all the same, they are held to the limits
+    ∷ (openOf (these (brief 0 3 0 0 ∷ [])) 0x01000002, 0)
+    ∷ (openOf (these (brief 0 87 88 0 ∷ [])) 0x01000002, 0)
+    ∷ (openOf (these (brief 0 3 4 1 ∷ [])) 0x01000002, 0)
+    ∷ (openOf (these (brief 0 3 3 1 ∷ [])) 0x01000002, 2)
     -- two calls of one key; of one phase alone, and of one vector alone, they may be
     ∷ (openOf (these (waits 1 3 ∷ waits 2 3 ∷ waits 1 3 ∷ [])) 0x01000002, 2)
     ∷ (openOf (these (waits 1 3 ∷ waits 2 3 ∷ waits 1 4 ∷ [])) 0x01000002, 0)
-    -- a record behind the open calls is not looked at
+    -- a record after the open calls is not looked at
     ∷ (openOf (record { size = 1; calls = waits 0 3 ∷ waits 4 88 ∷ [] }) 0x01000002, 0)
     -- ID 02H; WN 87 and 88; an address index: 0FH, 10H, 7FH, 80H, 8FH, 90H
     ∷ (openOf (fresh 8) 0x02000002, 7)
@@ -242,7 +249,7 @@ vectors =
     (waits 0 2, 0x02050003, 9)
     ∷ (waits 0 2, 0x02052A83, 0)
     ∷ (waits 0 2, 0x02052A84, 9)
-    -- .. n 86, 2B00H, from 3 on, to 88; from 2 on, to 87, with the vector's own word; n 127, 3F80H
+    -- Table 36, V 5: n 86, 2B00H, from 3 on, to 88; from 2 on, to 87, with the vector's own word; n 127, 3F80H
     ∷ (waits 0 2, 0x02052B03, 9)
     ∷ (waits 0 2, 0x02052B02, 9)
     ∷ (waits 0 2, 0x02053F83, 9)
@@ -251,7 +258,7 @@ vectors =
     ∷ (waits 0 5, 0x05030004, 9)
     ∷ (waits 0 5, 0x05030006, 0)
     ∷ (waits 0 5, 0x05030000, 9)
-    -- .. at 87, and at 88; n 1, 80H, two words: from 86 on, and from 87 on
+    -- Table 31, V 3: one word at 87, and at 88; n 1, 80H, two words: from 86 on, and from 87 on
     ∷ (waits 0 2, 0x02030057, 0)
     ∷ (waits 0 2, 0x02030058, 9)
     ∷ (waits 0 2, 0x020300D6, 0)
@@ -261,14 +268,14 @@ vectors =
     ∷ (longAt 2, 0x02030084, 0)
     ∷ (longAt 2, 0x020300D7, 0)
     ∷ (longAt 2, 0x020300D8, 9)
-    -- .. 85 words are word 3 and 84 from 4 on, to 87; n 86 are one more, to 88
+    -- of a long address 85 words are word 3 and 84 from 4 on, to 87; n 86 are one more, to 88
     ∷ (longAt 2, 0x02052A84, 0)
     ∷ (longAt 2, 0x02052B04, 9)
-    -- .. one word is word 3, whatever b is, here 0 and 2; no word
+    -- of a long address one word is word 3, whatever b is, here 0 and 2; no word
     ∷ (longAt 2, 0x02030000, 0)
     ∷ (longAt 2, 0x02030002, 0)
     ∷ (longAt 2, 0x02050004, 9)
-    -- .. vector 86: one word, which is word 87; vector 87, behind which no word follows
+    -- of a long address with vector 86: one word, which is word 87; with vector 87 no word follows
     ∷ (longAt 86, 0x56030000, 0)
     ∷ (longAt 87, 0x57030000, 9)
     ∷ (waits 0 87, 0x57030058, 9)
@@ -312,18 +319,21 @@ hearings =
     ∷ (hearOf (these (spans 1 2 3 1 0 ∷ [])) (enough lacking) 0x03000005, 17)
     ∷ (hearOf (these (spans 0 2 4 1 0 ∷ [])) (enough lacking) 0x03000005, 17)
     ∷ (hearOf (these (waits 0 2 ∷ [])) (enough lacking) 0x03000005, 17)
-    ∷ (hearOf (these (spans 0 2 3 0 0 ∷ [])) (enough lacking) 0x03000005, 17)
+    ∷ (hearOf (these (brief 0 2 3 0 ∷ [])) (enough lacking) 0x03000005, 17)
     -- a word too few in the memory: a vector, and a message word
     ∷ (hearOf (these (waits 0 2 ∷ [])) (short lacking) good, 1)
     ∷ (hearOf (these (spans 0 2 3 1 0 ∷ [])) (short lacking) 0x03000005, 1)
-    -- the first question that refuses decides, for a vector: 2, 7, 10, 9, 14, 1
+    -- an open call whose vector brings words and whose span has none: a vector, and a message word
+    ∷ (hearOf (these (spans 0 3 4 0 0 ∷ waits 0 2 ∷ [])) (enough lacking) good, 2)
+    ∷ (hearOf (these (spans 0 3 4 0 0 ∷ spans 0 2 3 1 0 ∷ [])) (enough lacking) 0x03000005, 2)
+    -- the first question that refuses decides, for a vector: 2, 7, 10, then 9 where its call has none yet and else 14, 1
     ∷ (hearOf (these (waits 0 88 ∷ waits 0 2 ∷ [])) (short lacking) 0x82830002, 2)
     ∷ (hearOf (these (waits 0 2 ∷ [])) (short lacking) 0x82830002, 7)
     ∷ (hearOf (these (waits 0 2 ∷ [])) (short lacking) 0x02830002, 10)
     ∷ (hearOf (these (waits 0 2 ∷ [])) (short lacking) bad, 9)
     ∷ (hearOf (these (spans 0 2 3 1 0 ∷ [])) (short lacking) 0x02830002, 10)
     ∷ (hearOf (these (spans 0 2 3 1 0 ∷ [])) (short lacking) bad, 14)
-    -- .. and for a message word: 2, 7, 10, 14, 17, 1
+    -- the first question that refuses decides, for a message word: 2, 7, 10, 14, 17, 1
     ∷ (hearOf (these (waits 4 2 ∷ spans 0 2 3 1 0 ∷ [])) (short 5) 0x83800005, 2)
     ∷ (hearOf (these (spans 0 2 3 1 0 ∷ [])) (short 5) 0x83800005, 7)
     ∷ (hearOf (these (spans 0 2 3 1 0 ∷ [])) (short 5) 0x03800005, 10)
@@ -333,6 +343,8 @@ hearings =
     -- the end of the frame: 2, and last 1
     ∷ (endOf (these (waits 0 2 ∷ [])) (enough lacking), 0)
     ∷ (endOf (these (waits 0 88 ∷ [])) (enough lacking), 2)
+    ∷ (endOf (these (spans 0 2 3 0 0 ∷ [])) (enough lacking), 2)
+    ∷ (endOf (these (brief 0 2 3 0 ∷ [])) (enough lacking), 0)
     ∷ (endOf (these (waits 0 88 ∷ [])) (short lacking), 2)
     ∷ (endOf (these (waits 0 2 ∷ [])) (short lacking), 1)
     ∷ (endOf (fresh 8) (short lacking), 1)

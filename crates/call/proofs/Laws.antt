@@ -25,9 +25,9 @@ use Rattle.packet.specs.declared.vectors.Vector.{Vector}
 use Rattle.packet.specs.Vectors.{isNumeric, isText, vectorType, vectorOf, isVector}
 use Rattle.call.specs.declared.Call.{Call}
 use Rattle.call.specs.declared.Calls.{Calls}
-use Rattle.call.specs.Calls.{blank, fresh, opens, hasVector, isLong, fits, isOf, holds, sound}
+use Rattle.call.specs.Calls.{blank, fresh, opens, hasVector, isLong, fits, bringsWords, isOf, holds, sound}
 use Rattle.call.specs.Words.{lacking, placeOf, holdsWord, wordPlace, lacks, givenTo, isHeld, isLacked}
-use Rattle.call.specs.Steps.{callOf, added, bringsWords, vectorFits, changed, removed, incompleteIn}
+use Rattle.call.specs.Steps.{callOf, added, vectorFits, changed, removed, incompleteIn}
 use Rattle.call.specs.Answers.{addressIn, telling, openingOf, openOf, openedIn, messageIn, isShort, vectorTold, wordTold, vectorPlace, isForVector, vectorCall, vectorGiven, hearOf, hearNumber, heardIn, memoryAfter, endOf, endedWith, endedIn}
 use Rattle.call.specs.Runs.{Event, addressed, heard, ended, State, after}
 use Rattle.call.proofs.Records.{InSpan, fits-span, Limits, is-of, held, sound-row, fresh-sound}
@@ -54,7 +54,7 @@ module _ (s : Calls) (n : ℕ) where
   unfolding openOf
   address-passes a = rw (a .right, a .packet, a .numbered)
 
-  -- .. by every answer that tells what no refusal tells
+  -- every answer that tells what no refusal tells has passed the questions that are asked of every address packet
   passed-address : (tells : Told → ℕ) (number : ℕ) → ((r : Refusal) → tells (refused r) ≡ number → ⊥) → tells (openOf s n) ≡ number → Addressed
   unfolding openOf
   passed-address tells number none e =
@@ -71,7 +71,7 @@ module _ (s : Calls) (n : ℕ) where
       ∙ passes (holds (addressIn n .phase) (addressIn n .vector) (opens s)) refusals.OutOfTurn _ (o .alone)
       ∙ passes (leb (length (s .calls)) (length (opens s))) refusals.Full _ (lt-leb (length (s .calls)) (length (opens s)) (o .free))
 
-  -- .. and of a tone-only address, which opens none
+  -- what is told of a tone-only address, which opens no call
   pub told-tone : Addressed → eqb (addressIn n .«tone_only») 1 ≡ true → openOf s n ≡ given (telling 0 0 (addressIn n))
   told-tone a tone = address-passes a ∙ picks-first (eqb (addressIn n .«tone_only») 1) _ (openingOf s (addressIn n)) tone
 
@@ -96,7 +96,7 @@ module _ (s : Calls) (n : ℕ) where
       back (inl o) = rw (told-opened o)
       back (inr tone) = rw (told-tone (tone .0) (tone .1))
 
-  -- .. and a call is told to be opened exactly if it opens one
+  -- a call is told to be opened exactly if the packet opens one
   pub open-told : (valueTold (openOf s n) 0 ≡ 1) ↔ Opens
   open-told = (λ e. by-tone e (open-says (λ t. valueTold t 0) 1 (λ r e. omega arith) e), λ o. rw (told-opened o))
     where
@@ -109,12 +109,12 @@ module _ (s : Calls) (n : ℕ) where
   unfolding openedIn
   opened-adds o = rw (open-told .1 o)
 
-  -- .. or as they were
+  -- the records then, where no call is told to be opened: as they were
   pub not-opened : (valueTold (openOf s n) 0 ≡ 1 → ⊥) → openedIn s n ≡ s
   unfolding openedIn
   not-opened other = picks-second (eqb (valueTold (openOf s n) 0) 1) _ s (ne-eqb (valueTold (openOf s n) 0) 1 other)
 
-  -- .. either
+  -- the records then are either, so that what is true of both is true of them
   pub opened-by : (P : Calls → Type 0) → (Opens → P (added s (callOf (addressIn n)))) → P s → P (openedIn s n)
   opened-by P there else =
       ⊎-elim
@@ -130,7 +130,7 @@ module _ (s : Calls) (n : ℕ) where
   pub opened-row : Opens → opens (openedIn s n) ≡ opens s ++ callOf (addressIn n) ∷ []
   opened-row o = ap opens (opened-adds o) ∙ opens-added s (callOf (addressIn n)) (size-free o)
 
-  -- .. or they are as they were
+  -- the open calls then are with the one that is opened, or as they were: what is true of both is true of them
   pub opened-rows : (P : List Call → Type 0) → (Opens → P (opens s ++ callOf (addressIn n) ∷ [])) → P (opens s) → P (opens (openedIn s n))
   opened-rows P there else = opened-by (λ t. P (opens t)) (λ o. rw (opens-added s (callOf (addressIn n)) (size-free o)) (there o)) else
 
@@ -140,7 +140,7 @@ module _ (s : Calls) (n : ℕ) where
 
 -- ---- a vector or message packet
 
--- of a vector, by what is asked of it: it is taken ..
+-- a vector that is not refused is for a call without one, its span is good, and there is room
 vector-taken : (has good short : Bool) (values : List ℕ)
     → numberTold (ask (not has && not good) refusals.Size (ask has refusals.OutOfTurn (ask short refusals.Room (given values)))) ≡ 0
     → (has ≡ false) × (good ≡ true) × (short ≡ false)
@@ -149,7 +149,7 @@ vector-taken false true true values e = absurd (omega arith)
 vector-taken false true false values e = (refl, refl, refl)
 vector-taken false false short values e = absurd (omega arith)
 
--- .. or its span is bad
+-- a vector that is told 9 is for a call without one, and its span is bad
 vector-bad : (has good short : Bool) (values : List ℕ)
     → numberTold (ask (not has && not good) refusals.Size (ask has refusals.OutOfTurn (ask short refusals.Room (given values)))) ≡ 9
     → (has ≡ false) × (good ≡ false)
@@ -158,7 +158,7 @@ vector-bad false true true values e = absurd (omega arith)
 vector-bad false true false values e = absurd (omega arith)
 vector-bad false false short values e = (refl, refl)
 
--- of a message word: it is taken ..
+-- a message word that is not refused is held and lacked, and there is room
 word-taken : (is-held is-lacked short : Bool) (values : List ℕ)
     → numberTold (ask (is-held && not is-lacked) refusals.OutOfTurn (ask (not is-held) refusals.NoCall (ask short refusals.Room (given values)))) ≡ 0
     → (is-held ≡ true) × (is-lacked ≡ true) × (short ≡ false)
@@ -167,7 +167,7 @@ word-taken true true false values e = (refl, refl, refl)
 word-taken true false short values e = absurd (omega arith)
 word-taken false is-lacked short values e = absurd (omega arith)
 
--- .. and never told 9
+-- a message word is never told 9
 word-not-bad : (is-held is-lacked short : Bool) (values : List ℕ)
     → numberTold (ask (is-held && not is-lacked) refusals.OutOfTurn (ask (not is-held) refusals.NoCall (ask short refusals.Room (given values)))) ≡ 9 → ⊥
 word-not-bad true true true values e = omega arith
@@ -245,7 +245,7 @@ module _ (s : Calls) (memory : List ℕ) (n : ℕ) where
       ∙ passes (not (isVector n)) refusals.Packet _ (ap not (h .packet))
       ∙ passes (not (eqb (messageIn n .damaged) 0)) refusals.Damaged _ (ap not (eq-eqb (messageIn n .damaged) 0 (h .whole)))
 
-  -- .. by every answer that is none of their refusals
+  -- every answer that is none of their refusals has passed the questions that are asked of both
   passed-heard : (number : ℕ) → (2 ≡ number → ⊥) → (7 ≡ number → ⊥) → (10 ≡ number → ⊥) → hearNumber s memory n ≡ number
       → Heard s n × (numberTold (pick (isForVector s n) (vectorTold s memory (vectorPlace s n) (vectorCall s n) (vectorOf n)) (wordTold s memory (messageIn n))) ≡ number)
   unfolding hearOf
@@ -330,7 +330,7 @@ module _ (s : Calls) (memory : List ℕ) (n : ℕ) where
 
   -- ---- the records and the memory then
 
-  -- the records: without the call of a bad span, with the vector of one that is taken, or as they were
+  -- the records then: without the call of a bad span, with the vector of one that is taken, or as they were
   pub heard-by : (P : Calls → Type 0) → (BadSpan → P (removed s (vectorPlace s n))) → (VectorTaken → P (changed s (vectorPlace s n) (vectorGiven s n))) → P s → P (heardIn s memory n)
   unfolding heardIn
   heard-by P closed taken else =
@@ -344,7 +344,7 @@ module _ (s : Calls) (memory : List ℕ) (n : ℕ) where
       by-number false true there here = here refl
       by-number false false there here = else
 
-  -- .. and the open calls
+  -- the open calls then: without the call of a bad span, with the vector of one that is taken, or as they were
   pub heard-rows : (P : List Call → Type 0) → (BadSpan → P (left (vectorPlace s n) (opens s))) → (VectorTaken → P (set (opens s) (vectorPlace s n) (vectorGiven s n))) → P (opens s) → P (opens (heardIn s memory n))
   heard-rows P closed taken else =
       heard-by (λ t. P (opens t))
@@ -352,12 +352,12 @@ module _ (s : Calls) (memory : List ℕ) (n : ℕ) where
       (λ v. rw (opens-changed s (vectorPlace s n) (vectorGiven s n)) (taken v))
       else
 
-  -- .. as equations: of a bad span
+  -- the records after a bad span are without its call
   pub closes : BadSpan → heardIn s memory n ≡ removed s (vectorPlace s n)
   unfolding heardIn
   closes b = picks-first (eqb (hearNumber s memory n) 9) _ _ (eq-eqb (hearNumber s memory n) 9 (bad-span .1 b))
 
-  -- .. of a vector that is taken
+  -- the records after a vector that is taken have it in its call
   pub gives-vector : VectorTaken → heardIn s memory n ≡ changed s (vectorPlace s n) (vectorGiven s n)
   unfolding heardIn
   gives-vector v =
@@ -365,7 +365,7 @@ module _ (s : Calls) (memory : List ℕ) (n : ℕ) where
       picks-second (eqb (hearNumber s memory n) 9) _ _ (ne-eqb (hearNumber s memory n) 9 (λ e. omega arith))
       ∙ picks-first (eqb (hearNumber s memory n) 0 && isForVector s n) _ s (rw (none, v .vectored .is-vector))
 
-  -- .. of a word that is taken: no record changes
+  -- the records after a word that is taken are as they were
   pub word-stays : WordTaken → heardIn s memory n ≡ s
   word-stays w =
       heard-by (λ t. t ≡ s)
@@ -373,11 +373,11 @@ module _ (s : Calls) (memory : List ℕ) (n : ℕ) where
       (λ v. absurd (not-both (isForVector s n) (v .vectored .is-vector) (w .no-vector)))
       refl
 
-  -- 01: "Unless said, state and lent memory stay as they were", of a refusal but 9
+  -- 01: "Unless said, state and lent memory stay as they were", of the records and of any refusal but 9
   pub refused-stays : (hearNumber s memory n ≡ 0 → ⊥) → (hearNumber s memory n ≡ 9 → ⊥) → heardIn s memory n ≡ s
   refused-stays some other = heard-by (λ t. t ≡ s) (λ b. absurd (other (bad-span .1 b))) (λ v. absurd (some (vector-accepted .1 v .0))) refl
 
-  -- .. of the memory, of any refusal
+  -- 01: "Unless said, state and lent memory stay as they were", of the memory and of any refusal
   pub refused-memory : (hearNumber s memory n ≡ 0 → ⊥) → memoryAfter s memory n ≡ memory
   unfolding memoryAfter
   refused-memory some = picks-second (eqb (hearNumber s memory n) 0) _ memory (ne-eqb (hearNumber s memory n) 0 some)
@@ -425,12 +425,12 @@ module _ (s : Calls) (memory : List ℕ) where
   unfolding endedIn
   end-closes a = rw (end-accepted .1 a)
 
-  -- .. "and lists those incomplete, in the order opened"
+  -- 01: "lists those incomplete, in the order opened"
   pub end-lists : Ended → opens (endedWith s memory) ≡ incompleteIn (opens s) memory
   unfolding endedWith
   end-lists a = rw (end-accepted .1 a) (opens-listed (length (s .calls)) (incompleteIn (opens s) memory))
 
-  -- .. and none where it is refused
+  -- where the end of a frame is refused no call is listed
   pub end-lists-none : (numberTold (endOf s memory) ≡ 0 → ⊥) → endedWith s memory ≡ fresh (length (s .calls))
   unfolding endedWith
   end-lists-none some = rw (ne-eqb (numberTold (endOf s memory)) 0 some)
@@ -456,7 +456,7 @@ opened-limits s n o =
     record {
       of-phase = omega arith;
       of-vector = vector-small;
-      of-span = λ has some. absurd (true≢false (sym has));
+      of-span = λ has. absurd (true≢false (sym has));
     }
   where
     vector-small : addressIn n .vector ≤ 87
@@ -478,7 +478,7 @@ given-limits s memory n v =
     record {
       of-phase = old .of-phase;
       of-vector = old .of-vector;
-      of-span = λ has some. ⊎-elim (v .good) (λ none. absurd (omega (arith, some, no-words n none))) (decided (bringsWords (vectorOf n .kind)));
+      of-span = λ has. ⊎-elim (λ brings. inr (v .good brings)) (λ none. inl (none, no-words n none)) (decided (bringsWords (vectorOf n .kind)));
     }
 
 -- a vector or message packet leaves sound records sound
@@ -489,7 +489,7 @@ heard-sound s memory n right =
     (λ v. set-sound (opens s) right (vectorPlace s n) (vectorGiven s n) refl refl (given-limits s memory n v))
     right
 
--- .. and so does any event
+-- any event leaves sound records sound
 pub stays-sound : (s : State) (event : Event) → sound (opens (s .calls)) ≡ true → sound (opens (after s event .calls)) ≡ true
 stays-sound s (addressed n) right = open-sound (s .calls) n right
 stays-sound s (heard n) right = heard-sound (s .calls) (s .memory) n right
@@ -497,7 +497,7 @@ stays-sound s ended right = ended-by (s .calls) (s .memory) (λ t. sound (opens 
 
 -- ---- open calls stay
 
--- that a call stands at a place of a row
+-- a call stands at a place of a row
 pub record Stands (c : Call) (place : ℕ) (row : List Call) : Type 0 where
   pub within : place < length row
   pub here : getD row place blank ≡ c
@@ -509,13 +509,13 @@ open-stays s n i inside =
     (λ o. record { within = simp length-append (omega arith); here = List·getD-append (opens s) (callOf (addressIn n) ∷ []) blank i inside })
     (record { within = inside; here = refl })
 
--- .. and the call that it opens is the last
+-- the call that an address packet opens is the last
 pub opened-stands : (s : Calls) (n : ℕ) → Opens s n → Stands (callOf (addressIn n)) (length (opens s)) (opens (openedIn s n))
 opened-stands s n o =
     rw (opened-row s n o) (record { within = simp length-append (omega arith); here = getD-append-seam (opens s) (callOf (addressIn n)) [] blank })
 
 module _ (s : Calls) (memory : List ℕ) (n : ℕ) where
-  -- where a call stands after a vector or message packet: those behind one that is closed move one place down
+  -- where a call stands after a vector or message packet: those after one that is closed move one place down
   abbrev pub placeAfter : ℕ → ℕ
   placeAfter i = pick (eqb (hearNumber s memory n) 9) (placeThen (vectorPlace s n) i) i
 
@@ -557,7 +557,7 @@ module _ (s : Calls) (memory : List ℕ) (n : ℕ) where
     has-vector-not : hasVector (getD (opens s) i blank) ≡ true → i ≡ vectorPlace s n → Vectored s n → ⊥
     has-vector-not has same v = not-both (hasVector (vectorCall s n)) (rw same at has) (v .first)
 
-    -- .. so that it always stays
+    -- a call that has its vector always stays
     pub with-vector-stays : hasVector (getD (opens s) i blank) ≡ true → Stands (getD (opens s) i blank) (placeAfter i) (opens (heardIn s memory n))
     with-vector-stays has =
         ⊎-elim
@@ -578,7 +578,7 @@ module _ (s : Calls) (memory : List ℕ) (n : ℕ) where
         (ap (λ (k : ℕ). getD (opens s) k blank .phase) same
         ∙ is-of (messageIn n .phase) (messageIn n .word) (vectorCall s n) .0 (first-passes (isOf (messageIn n .phase) (messageIn n .word)) (opens s) blank (rw (← same) inside)) .same-phase)
 
-    -- .. so that it stays
+    -- a call of another phase than the packet's stays
     pub other-phase : (getD (opens s) i blank .phase ≡ messageIn n .phase → ⊥) → Stands (getD (opens s) i blank) (placeAfter i) (opens (heardIn s memory n))
     other-phase other = call-stays (other-place other)
 

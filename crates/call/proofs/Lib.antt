@@ -1,5 +1,6 @@
 pub mod Came
 pub mod Examples
+pub mod Invariants
 pub mod Laws
 pub mod MemoryLaws
 pub mod Premises

@@ -22,7 +22,7 @@ use Rattle.packet.specs.declared.heard.Message.{Message}
 use Rattle.call.specs.declared.Call.{Call}
 use Rattle.call.specs.Calls.{blank, hasVector, isLong, numbersOf, inLimits}
 use Rattle.call.specs.Words.{lacking, memorySize, placeOf, wordsOf, isComplete, position, holdsWord, wordPlace, lacks, offered, completes, givenTo, finished, isLacked}
-use Rattle.call.specs.Runs.{Placed}
+use Rattle.call.proofs.Invariants.{Placed}
 use Rattle.call.proofs.Spans.{fits-words, numbers-length, numbers-none, span-within, position-found, position-of}
 
 -- ---- call by call
@@ -46,19 +46,19 @@ module _ (m : Message) where
       by-test true = length-set memory (wordPlace c m) (m .bits)
       by-test false = refl
 
-  -- .. also when the word has been offered to every call of a row
+  -- the memory keeps its length when the word has been offered to every call of a row
   pub given-length : (row : List Call) (memory : List ℕ) → length (givenTo row m memory) ≡ length memory
   unfolding givenTo
   given-length [] memory = refl
   given-length (c ∷ row) memory = offered-length c (givenTo row m memory) ∙ given-length row memory
 
   module _ (row : List Call) (i : ℕ) (memory : List ℕ) where
-    -- a word offered from a call on: to those behind it, then to it
+    -- a word offered from a call on: to those after it, then to it
     pub given-from : i < length row → givenTo (drop i row) m memory ≡ offered (getD row i blank) m (givenTo (drop (i + 1) row) m memory)
     unfolding givenTo
     given-from within = rw (add-one, drop-cons row i blank within)
 
-    -- .. and what it completes there
+    -- the calls that a word completes from a call on: itself, and those after it
     pub finished-from : i < length row → finished (drop i row) m memory ≡ bitOf (completes (getD row i blank) m (givenTo (drop (i + 1) row) m memory)) + 2 * finished (drop (i + 1) row) m memory
     unfolding finished
     finished-from within = rw (add-one, drop-cons row i blank within)
@@ -68,14 +68,14 @@ module _ (m : Message) where
     unfolding givenTo
     given-end done = rw (drop-of-length-le row done)
 
-    -- .. and completes none
+    -- at the end it completes none
     pub finished-end : length row ≤ i → finished (drop i row) m memory ≡ 0
     unfolding finished
     finished-end done = rw (drop-of-length-le row done)
 
 -- ---- one call
 
--- of which word of a call it is that came, and whether the call lacks it
+-- whether the word that came is the k-th of a call, and the call lacks it
 abbrev pub goesTo : Call → ℕ → Message → List ℕ → Bool
 goesTo c k m memory =
     eqb (c .phase) (m .phase) && eqb (getD (numbersOf c) k 0) (m .word) && leb lacking (getD memory (placeOf c + k) 0)
@@ -98,7 +98,7 @@ holds-vector c m held =
     absurd (omega (arith, ap length (numbers-none c none))))
     (decided (hasVector c))
 
--- .. and the word is one of its words
+-- a word that a call's span holds is one of its words
 pub holds-within : (c : Call) (m : Message) → holdsWord c m ≡ true → position c (m .word) < c .words
 holds-within c m held =
     let many = numbers-length c (holds-vector c m held) in
@@ -110,7 +110,7 @@ stored-here : (test : Bool) (memory : List ℕ) (p q a : ℕ) → p ≡ q → q 
 stored-here true memory p q a same within = rw same (getD-set-same memory q a 0 within)
 stored-here false memory p q a same within = refl
 
--- .. and elsewhere
+-- a store at a place, or none: what stands elsewhere is as it was
 stored-there : (test : Bool) (memory : List ℕ) (p q a d : ℕ) → (test ≡ true → q ≡ p → ⊥) → getD (pick test (set memory p a) memory) q d ≡ getD memory q d
 stored-there true memory p q a d other = getD-set-other memory p q a d (other refl)
 stored-there false memory p q a d other = refl
@@ -122,7 +122,7 @@ module _ (c : Call) (m : Message) (memory : List ℕ) where
       stored-there (lacks c m memory) memory (wordPlace c m) q (m .bits) d
       (λ lacked. other (first-of (holdsWord c m) (leb lacking (getD memory (wordPlace c m) lacking)) lacked))
 
-  -- .. and that only if the call lacks it
+  -- a word offered to a call stands at its own place then, if the call lacked it
   pub offered-own : hasVector c ≡ true → inLimits c ≡ true → (k : ℕ) → k < c .words
       → getD (offered c m memory) (placeOf c + k) 0 ≡ pick (goesTo c k m memory) (m .bits) (getD memory (placeOf c + k) 0)
   offered-own has good k within =
@@ -194,9 +194,9 @@ not-there c d m good-c good-d has other k within held =
     let inside = holds-within d m held in
     places-apart c d k (position d (m .word)) (omega arith) (omega arith) (other has-d)
 
--- places of their own are so also of the calls behind the first
-own-behind : (c : Call) (row : List Call) → OwnPlaces (c ∷ row) → OwnPlaces row
-own-behind c row own i j within-i within-j has-i has-j same =
+-- places of their own are so also of the calls after the first
+own-later : (c : Call) (row : List Call) → OwnPlaces (c ∷ row) → OwnPlaces row
+own-later c row own i j within-i within-j has-i has-j same =
     let next = own (suc i) (suc j) (omega arith) (omega arith) has-i has-j same in
     omega arith
 
@@ -231,11 +231,11 @@ module _ (m : Message) (memory : List ℕ) where
       let c = getD row i blank in
       offered-other d m (givenTo row m memory) (placeOf c + k) 0
       (other-there (d ∷ row) m own good (suc i) 0 within (omega arith) (λ same. omega arith) has k inside)
-      ∙ given-at row (own-behind d row own) (λ j near. good (suc j) (omega arith)) i k (omega arith) has inside
+      ∙ given-at row (own-later d row own) (λ j near. good (suc j) (omega arith)) i k (omega arith) has inside
 
-  -- .. so that a word offered to other calls before changes nothing for a call
-  lacks-behind : (c : Call) (row : List Call) → OwnPlaces (c ∷ row) → Within (c ∷ row) → lacks c m (givenTo row m memory) ≡ lacks c m memory
-  lacks-behind c row own good =
+  -- a word offered to other calls before changes nothing for a call
+  lacks-later : (c : Call) (row : List Call) → OwnPlaces (c ∷ row) → Within (c ∷ row) → lacks c m (givenTo row m memory) ≡ lacks c m memory
+  lacks-later c row own good =
       ⊎-elim
       (λ held.
       ap (λ (w : ℕ). holdsWord c m && leb lacking w)
@@ -253,11 +253,11 @@ module _ (m : Message) (memory : List ℕ) where
   finished-at (c ∷ row) own good zero within =
       ap (λ (n : ℕ). n % 2) (div-one (finished (c ∷ row) m memory))
       ∙ lowest (completes c m (givenTo row m memory)) (finished row m memory)
-      ∙ ap (λ (test : Bool). bitOf (test && isComplete c (offered c m (givenTo row m memory)))) (lacks-behind c row own good)
+      ∙ ap (λ (test : Bool). bitOf (test && isComplete c (offered c m (givenTo row m memory)))) (lacks-later c row own good)
   finished-at (d ∷ row) own good (suc i) within =
       let c = getD row i blank in
       ap (λ (n : ℕ). n % 2) (higher (completes d m (givenTo row m memory)) (finished row m memory) i)
-      ∙ finished-at row (own-behind d row own) (λ j near. good (suc j) (omega arith)) i (omega arith)
+      ∙ finished-at row (own-later d row own) (λ j near. good (suc j) (omega arith)) i (omega arith)
       ∙ ap (λ (test : Bool). bitOf (lacks c m memory && test)) (sym complete)
     where
       complete : isComplete (getD row i blank) (offered d m (givenTo row m memory)) ≡ isComplete (getD row i blank) (givenTo row m memory)
@@ -326,6 +326,6 @@ module _ (memory : List ℕ) (c : Call) (few : c .words ≤ 85) (enough : memory
       let before = ltb-true (placeOf d) (placeOf c) lower in
       put-keeps-before memory (replicate (c .words) lacking) (placeOf c) (d .words) (placeOf d) (omega arith) (omega arith))
       (λ higher.
-      let behind = ltb-false (placeOf d) (placeOf c) higher in
+      let past = ltb-false (placeOf d) (placeOf c) higher in
       ap (take (d .words)) (put-keeps-behind memory (replicate (c .words) lacking) (placeOf c) (placeOf d) (omega arith) (omega arith)))
       (decided (ltb (placeOf d) (placeOf c)))

@@ -12,9 +12,9 @@ use lib.ListN.{length, getD, drop, drop-of-length-le}
 use lib.Seq.{drop-cons}
 use Rattle.laws.specs.Choice.{bitOf}
 use Rattle.laws.proofs.Searches.{first-passes, found-by, is-found, found-passes, none-passes, is-none, none-at}
-use Rattle.laws.proofs.Tests.{decided, not-both, first-of, second-of, either-of}
+use Rattle.laws.proofs.Tests.{decided, not-both, first-of, second-of, either-of, other-of}
 use Rattle.call.specs.declared.Call.{Call}
-use Rattle.call.specs.Calls.{blank, fresh, opens, hasVector, isLong, fits, inLimits, isOf, find, holds, sound}
+use Rattle.call.specs.Calls.{blank, fresh, opens, hasVector, isLong, fits, bringsWords, spanned, inLimits, isOf, find, holds, sound}
 
 -- ---- one call
 
@@ -25,16 +25,16 @@ pub record InSpan (long : Bool) (vector start words : ℕ) : Type 0 where
   pub first-word : vector + bitOf long ≤ 87
   pub rest : (words ≡ bitOf long) ⊎ ((vector + bitOf long < start) × (start + words ≤ 88 + bitOf long))
 
--- .. as it is tested
+-- the test of a span is passed exactly by those within these limits
 pub fits-span : (long : Bool) (vector start words : ℕ) → (fits long vector start words ≡ true) ↔ InSpan long vector start words
 fits-span long vector start words = (there, back)
   where
     there : fits long vector start words ≡ true → InSpan long vector start words
     there e =
         let alone = eqb words (bitOf long) in
-        let behind = ltb (vector + bitOf long) start in
+        let follows = ltb (vector + bitOf long) start in
         let ends = leb (start + words) (88 + bitOf long) in
-        let three = first-of (leb 1 words && leb words 85 && leb (vector + bitOf long) 87) (alone || (behind && ends)) e in
+        let three = first-of (leb 1 words && leb words 85 && leb (vector + bitOf long) 87) (alone || (follows && ends)) e in
         let two = first-of (leb 1 words && leb words 85) (leb (vector + bitOf long) 87) three in
         record {
           some-words = leb-true 1 words (first-of (leb 1 words) (leb words 85) two);
@@ -42,8 +42,10 @@ fits-span long vector start words = (there, back)
           first-word = leb-true (vector + bitOf long) 87 (second-of (leb 1 words && leb words 85) (leb (vector + bitOf long) 87) three);
           rest =
               ⊎-elim (λ same. inl (eqb-true words (bitOf long) same))
-              (λ both. inr (ltb-true (vector + bitOf long) start (first-of behind ends both), leb-true (start + words) (88 + bitOf long) (second-of behind ends both)))
-              (either-of alone (behind && ends) (second-of (leb 1 words && leb words 85 && leb (vector + bitOf long) 87) (alone || (behind && ends)) e));
+              (λ both.
+              inr
+              (ltb-true (vector + bitOf long) start (first-of follows ends both), leb-true (start + words) (88 + bitOf long) (second-of follows ends both)))
+              (either-of alone (follows && ends) (second-of (leb 1 words && leb words 85 && leb (vector + bitOf long) 87) (alone || (follows && ends)) e));
         }
 
     back : InSpan long vector start words → fits long vector start words ≡ true
@@ -53,43 +55,46 @@ fits-span long vector start words = (there, back)
         (λ both. rw (lt-ltb (vector + bitOf long) start (both .0), le-leb (start + words) (88 + bitOf long) (both .1)) (or-true (eqb words (bitOf long))))
         (s .rest))
 
--- 01's table, 2: the limits of a call; a vector that brings no words has no span
+-- 01's table, 2: the limits of a call; a vector that brings no words has a span of none
 pub record Limits (c : Call) : Type 0 where
   pub of-phase : c .phase ≤ 3
   pub of-vector : c .vector ≤ 87
-  pub of-span : hasVector c ≡ true → 0 < c .words → InSpan (isLong c) (c .vector) (c .start) (c .words)
+  pub of-span : hasVector c ≡ true → ((bringsWords (c .kind) ≡ false) × (c .words ≡ 0)) ⊎ InSpan (isLong c) (c .vector) (c .start) (c .words)
 
--- .. as they are tested
+-- the test of these limits is passed exactly by the calls within them
 pub in-limits : (c : Call) → (inLimits c ≡ true) ↔ Limits c
 in-limits c = (there, back)
   where
-    spans : Bool
-    spans = fits (isLong c) (c .vector) (c .start) (c .words)
-
     there : inLimits c ≡ true → Limits c
     there e =
-        let none = not (hasVector c) || eqb (c .words) 0 in
-        let two = first-of (leb (c .phase) 3 && leb (c .vector) 87) (none || spans) e in
-        let last = second-of (leb (c .phase) 3 && leb (c .vector) 87) (none || spans) e in
+        let has = hasVector c in
+        let brings = bringsWords (c .kind) in
+        let none = eqb (c .words) 0 in
+        let fitting = fits (isLong c) (c .vector) (c .start) (c .words) in
+        let two = first-of (leb (c .phase) 3 && leb (c .vector) 87) (not has || spanned c) e in
+        let last = second-of (leb (c .phase) 3 && leb (c .vector) 87) (not has || spanned c) e in
         record {
           of-phase = leb-true (c .phase) 3 (first-of (leb (c .phase) 3) (leb (c .vector) 87) two);
           of-vector = leb-true (c .vector) 87 (second-of (leb (c .phase) 3) (leb (c .vector) 87) two);
-          of-span = λ is some. fits-span (isLong c) (c .vector) (c .start) (c .words) .0 (rw (is, ne-eqb (c .words) 0 (λ e. omega arith)) at last);
+          of-span =
+              λ is.
+              ⊎-elim
+              (λ both. inl (not-true brings (first-of (not brings) none both), eqb-true (c .words) 0 (second-of (not brings) none both)))
+              (λ good. inr (fits-span (isLong c) (c .vector) (c .start) (c .words) .0 good))
+              (either-of (not brings && none) fitting (other-of (not has) (spanned c) last (ap not is)));
         }
 
-    with-span : Limits c → (not (hasVector c) || eqb (c .words) 0 || spans) ≡ true
-    with-span l =
-        by-tests (hasVector c) (eqb (c .words) 0) refl refl
-      where
-        by-tests : (has none : Bool) → hasVector c ≡ has → eqb (c .words) 0 ≡ none → (not has || none || spans) ≡ true
-        by-tests true true is e = refl
-        by-tests true false is e =
-            let some = eqb-false (c .words) 0 e in
-            fits-span (isLong c) (c .vector) (c .start) (c .words) .1 (l .of-span is (omega arith))
-        by-tests false none is e = refl
+    is-spanned : ((bringsWords (c .kind) ≡ false) × (c .words ≡ 0)) ⊎ InSpan (isLong c) (c .vector) (c .start) (c .words) → spanned c ≡ true
+    is-spanned (inl none) = rw (none .0, eq-eqb (c .words) 0 (none .1))
+    is-spanned (inr good) =
+        rw (fits-span (isLong c) (c .vector) (c .start) (c .words) .1 good) (or-true (not (bringsWords (c .kind)) && eqb (c .words) 0))
+
+    with-span : (has : Bool) → (has ≡ true → spanned c ≡ true) → (not has || spanned c) ≡ true
+    with-span true spans = spans refl
+    with-span false spans = refl
 
     back : Limits c → inLimits c ≡ true
-    back l = rw (le-leb (c .phase) 3 (l .of-phase), le-leb (c .vector) 87 (l .of-vector)) (with-span l)
+    back l = rw (le-leb (c .phase) 3 (l .of-phase), le-leb (c .vector) 87 (l .of-vector)) (with-span (hasVector c) (λ is. is-spanned (l .of-span is)))
 
 -- ---- a key
 
@@ -98,7 +103,7 @@ pub record Key (phase vector : ℕ) (c : Call) : Type 0 where
   pub same-phase : c .phase ≡ phase
   pub same-vector : c .vector ≡ vector
 
--- .. as it is tested
+-- the test of a key is passed exactly by its calls
 pub is-of : (phase vector : ℕ) (c : Call) → (isOf phase vector c ≡ true) ↔ Key phase vector c
 is-of phase vector c = (there, back)
   where
@@ -121,15 +126,15 @@ module _ (phase vector : ℕ) (row : List Call) where
   pub holds-at : (i : ℕ) → i < length row → isOf phase vector (getD row i blank) ≡ true → holds phase vector row ≡ true
   holds-at = is-found (isOf phase vector) row blank
 
-  -- .. and then only: the place that is found has it
+  -- a key that has a call has it at the place that is found
   pub held : holds phase vector row ≡ true → (find phase vector row < length row) × (isOf phase vector (getD row (find phase vector row) blank) ≡ true)
   held = found-passes (isOf phase vector) row blank
 
-  -- .. else no place has it
+  -- a key that has no call has it at no place
   pub none-held : holds phase vector row ≡ false → (i : ℕ) → i < length row → isOf phase vector (getD row i blank) ≡ false
   none-held = none-passes (isOf phase vector) row blank
 
-  -- .. and what is found is the row's length
+  -- what is found for a key that has no call is the row's length
   pub not-found : holds phase vector row ≡ false → find phase vector row ≡ length row
   not-found = none-at (isOf phase vector) row
 
@@ -148,7 +153,7 @@ pub record Sound (row : List Call) : Type 0 where
   pub limits : (i : ℕ) → i < length row → Limits (getD row i blank)
   pub apart : Apart row
 
--- a row that is sound is that
+-- a row that passes the test is as 01 has it
 sound-says : (row : List Call) → sound row ≡ true → Sound row
 unfolding sound
 sound-says [] e = record { limits = λ i within. absurd (omega arith); apart = λ i j within inside phase vector. absurd (omega arith) }
@@ -176,7 +181,7 @@ sound-says (c ∷ row) e =
     apart-each none rest (suc i) zero within inside phase vector = absurd (only-here none i (omega arith) (sym phase) (sym vector))
     apart-each none rest (suc i) (suc j) within inside phase vector = ap suc (rest .apart i j (omega arith) (omega arith) phase vector)
 
--- .. and one that is that is sound
+-- a row that is as 01 has it passes the test
 says-sound : (row : List Call) → Sound row → sound row ≡ true
 unfolding sound
 says-sound [] s = refl
@@ -214,14 +219,14 @@ module _ (row : List Call) (good : sound row ≡ true) where
       let here = is-of phase vector (getD row i blank) .0 is in
       sound-row row .0 good .apart (find phase vector row) i inside within (found .same-phase ∙ sym (here .same-phase)) (found .same-vector ∙ sym (here .same-vector))
 
-  -- .. so that each call is what is found for its own key
+  -- each call is what is found for its own key
   pub found-at : (i : ℕ) → i < length row → find (getD row i blank .phase) (getD row i blank .vector) row ≡ i
   found-at i within = found-of (getD row i blank .phase) (getD row i blank .vector) i within (of-own (getD row i blank))
 
 -- ---- call by call
 
 module _ (row : List Call) (i : ℕ) where
-  -- whether the row from a place on is sound: the call there is within its limits, none behind it is of its key, and those behind it are sound
+  -- whether the row from a place on is sound: the call there is within its limits, no later one is of its key, and the later ones are sound
   pub sound-from : i < length row
       → let c = getD row i blank in
       sound (drop i row) ≡ (inLimits c && not (holds (c .phase) (c .vector) (drop (i + 1) row)) && sound (drop (i + 1) row))

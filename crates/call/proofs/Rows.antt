@@ -28,7 +28,7 @@ opens-fresh count = refl
 pub opens-listed : (count : ℕ) (row : List Call) → opens (listed count row) ≡ row
 opens-listed count row = take-append-seam row (drop (0 + length row) (fresh count .calls))
 
--- .. in as many records
+-- the list of calls has as many records as were asked for
 pub listed-length : (count : ℕ) (row : List Call) → length row ≤ count → length (listed count row .calls) ≡ count
 listed-length count row within =
     let many = length-replicate count blank in
@@ -48,7 +48,7 @@ module _ (s : Calls) where
     pub opens-added : s .size < length (s .calls) → opens (added s c) ≡ opens s ++ c ∷ []
     opens-added free = rw (add-one (s .size)) (take-suc-set (s .calls) (s .size) c free)
 
-    -- .. in as many records
+    -- a call that is opened leaves as many records
     pub added-length : length (added s c .calls) ≡ length (s .calls)
     added-length = length-set (s .calls) (s .size) c
 
@@ -63,7 +63,7 @@ module _ (s : Calls) where
         take-set-le (s .size) (s .calls) place c most ∙ sym (set-out (opens s) place c (omega (arith, most, opens-most .1))))
         (decided (ltb place (s .size)))
 
-    -- .. in as many records
+    -- a call that is changed leaves as many records
     pub changed-length : (c : Call) → length (changed s place c .calls) ≡ length (s .calls)
     changed-length c = length-set (s .calls) place c
 
@@ -79,7 +79,7 @@ module _ (s : Calls) where
         let all : take (length (opens s)) row ≡ opens s = rw (length-take (s .size) row) (take-min (s .size) row) in
         let left = drop (place + length (drop (place + 1) row ++ blank ∷ [])) row in
         let before : take place row ≡ take place (opens s) = sym (take-take place (s .size) row (omega (arith, opens-most .1))) in
-        let behind : take count ((drop (place + 1) row ++ blank ∷ []) ++ left) ≡ drop (place + 1) (opens s) =
+        let rest : take count ((drop (place + 1) row ++ blank ∷ []) ++ left) ≡ drop (place + 1) (opens s) =
         ap (take count) (append-assoc (drop (place + 1) row) (blank ∷ []) left)
         ∙ take-append-le count (drop (place + 1) row) ((blank ∷ []) ++ left) (simp length-drop (omega arith))
         ∙ sym (take-from row (place + 1) count (omega arith))
@@ -87,9 +87,9 @@ module _ (s : Calls) where
         ap (λ (n : ℕ). take n (without place row)) fewer
         ∙ ap (take (length (take place row) + count)) (append-assoc (take place row) (drop (place + 1) row ++ blank ∷ []) left)
         ∙ take-append-add (take place row) ((drop (place + 1) row ++ blank ∷ []) ++ left) count
-        ∙ rw (before, behind)
+        ∙ rw (before, rest)
 
-    -- .. in as many records
+    -- a call that is closed leaves as many records
     pub removed-length : place < length (opens s) → length (removed s place .calls) ≡ length (s .calls)
     removed-length within =
         let most = opens-most .0 in
@@ -101,11 +101,11 @@ module _ (s : Calls) where
 abbrev pub left : ℕ → List Call → List Call
 left place row = take place row ++ drop (place + 1) row
 
--- where a call that is left stood before ..
+-- where a call that is left stood before
 abbrev pub placeBefore : ℕ → ℕ → ℕ
 placeBefore place i = pick (ltb i place) i (i + 1)
 
--- .. and where one stands then that is not left out
+-- where a call that is not left out stands then
 abbrev pub placeThen : ℕ → ℕ → ℕ
 placeThen place i = pick (ltb place i) (i - 1) i
 
@@ -113,24 +113,27 @@ placeThen place i = pick (ltb place i) (i - 1) i
 pub before-then : (place i : ℕ) → (i ≡ place → ⊥) → placeBefore place (placeThen place i) ≡ i
 before-then place i other =
     ⊎-elim
-    (λ behind.
-    let less = ltb-true place i behind in
-    rw (behind, le-ltb (i - 1) place (omega arith)) (omega arith))
-    (λ not-behind.
-    let most = ltb-false place i not-behind in
-    rw (not-behind, lt-ltb i place (omega arith)))
+    (λ past.
+    let less = ltb-true place i past in
+    rw (past, le-ltb (i - 1) place (omega arith)) (omega arith))
+    (λ not-past.
+    let most = ltb-false place i not-past in
+    rw (not-past, lt-ltb i place (omega arith)))
     (decided (ltb place i))
 
 -- two calls that are left keep their order
 pub then-order : (place i j : ℕ) → (i ≡ place → ⊥) → i < j → placeThen place i < placeThen place j
 then-order place i j other less =
     ⊎-elim
-    (λ behind.
-    let first = ltb-true place i behind in
-    rw (behind, lt-ltb place j (omega arith)) (omega arith))
-    (λ not-behind.
-    let first = ltb-false place i not-behind in
-    ⊎-elim (λ second. let last = ltb-true place j second in rw (not-behind, second) (omega arith)) (λ (none : ltb place j ≡ false). rw (not-behind, none) less) (decided (ltb place j)))
+    (λ past.
+    let first = ltb-true place i past in
+    rw (past, lt-ltb place j (omega arith)) (omega arith))
+    (λ not-past.
+    let first = ltb-false place i not-past in
+    ⊎-elim
+    (λ second. let last = ltb-true place j second in rw (not-past, second) (omega arith))
+    (λ (none : ltb place j ≡ false). rw (not-past, none) less)
+    (decided (ltb place j)))
     (decided (ltb place i))
 
 -- different places were different
@@ -139,14 +142,20 @@ before-apart place i j =
     ⊎-elim
     (λ first.
     let a = ltb-true i place first in
-    ⊎-elim (λ (second : ltb j place ≡ true). rw (first, second) (λ e. e)) (λ behind. let b = ltb-false j place behind in rw (first, behind) (λ e. omega arith)) (decided (ltb j place)))
+    ⊎-elim
+    (λ (second : ltb j place ≡ true). rw (first, second) (λ e. e))
+    (λ past. let b = ltb-false j place past in rw (first, past) (λ e. omega arith))
+    (decided (ltb j place)))
     (λ later.
     let a = ltb-false i place later in
-    ⊎-elim (λ second. let b = ltb-true j place second in rw (later, second) (λ e. omega arith)) (λ (behind : ltb j place ≡ false). rw (later, behind) (λ e. omega arith)) (decided (ltb j place)))
+    ⊎-elim
+    (λ second. let b = ltb-true j place second in rw (later, second) (λ e. omega arith))
+    (λ (past : ltb j place ≡ false). rw (later, past) (λ e. omega arith))
+    (decided (ltb j place)))
     (decided (ltb i place))
 
 module _ (row : List Call) (place : ℕ) (within : place < length row) where
-  -- it is one shorter
+  -- a row with one call left out is one shorter
   pub left-length : length (left place row) ≡ length row - 1
   left-length =
       let front : length (take place row) ≡ place = length-take-le place row (omega arith) in
@@ -171,7 +180,7 @@ module _ (row : List Call) (place : ℕ) (within : place < length row) where
       ∙ ap (λ (n : ℕ). getD row n blank) there))
       (decided (ltb i place))
 
-  -- .. and that it stood in the row
+  -- where a call that is left stood is a place of the row
   pub before-within : (i : ℕ) → i < length (left place row) → placeBefore place i < length row
   before-within i less =
       let fewer = left-length in
@@ -183,7 +192,11 @@ module _ (row : List Call) (place : ℕ) (within : place < length row) where
       (rw left-length (by-side i inside other), left-at (placeThen place i) ∙ ap (λ (n : ℕ). getD row n blank) (before-then place i other))
     where
       by-side : (i : ℕ) → i < length row → (i ≡ place → ⊥) → placeThen place i < length row - 1
-      by-side i inside other = ⊎-elim (λ behind. let less = ltb-true place i behind in rw behind (omega arith)) (λ before. let most = ltb-false place i before in rw before (omega arith)) (decided (ltb place i))
+      by-side i inside other =
+          ⊎-elim
+          (λ past. let less = ltb-true place i past in rw past (omega arith))
+          (λ before. let most = ltb-false place i before in rw before (omega arith))
+          (decided (ltb place i))
 
 -- ---- it stays sound
 

@@ -22,7 +22,8 @@ use Rattle.call.specs.Calls.{blank, fresh, opens, hasVector, sound}
 use Rattle.call.specs.Words.{lacking, placeOf, isComplete}
 use Rattle.call.specs.Steps.{callOf, nextArea, incompleteIn}
 use Rattle.call.specs.Answers.{addressIn, openOf, openedIn, messageIn, vectorPlace, vectorGiven, endOf, endedWith}
-use Rattle.call.specs.Runs.{Event, addressed, heard, ended, State, after, afterAll, inFrame, Placed, unheard, openedNow, openedBy, Among, none, kept, past}
+use Rattle.call.specs.Runs.{Event, addressed, heard, ended, State, after, afterAll, inFrame, unheard, openedNow, openedBy, Among, none, kept, past}
+use Rattle.call.proofs.Invariants.{Placed}
 use Rattle.call.proofs.Records.{fresh-sound, in-limits}
 use Rattle.call.proofs.MemoryLaws.{given-length, words-most}
 use Rattle.call.proofs.Rows.{opens-most, listed-length, added-length, changed-length, removed-length, left, placeBefore, before-apart, before-within, left-at}
@@ -36,7 +37,7 @@ unfolding afterAll
 run-sound s [] right = right
 run-sound s (event ∷ events) right = run-sound (after s event) events (stays-sound s event right)
 
--- .. so that one that begins with no call open has sound records after each event
+-- a run that begins with no call open has sound records after each event
 pub fresh-run-sound : (count : ℕ) (memory : List ℕ) (events : List Event) → sound (opens (afterAll (record { calls = fresh count; memory = memory }) events .calls)) ≡ true
 fresh-run-sound count memory events = run-sound (record { calls = fresh count; memory = memory }) events (fresh-sound count)
 
@@ -61,7 +62,7 @@ event-lengths s (heard n) = (
 )
 event-lengths s ended = (ended-by (s .calls) (s .memory) (λ t. length (t .calls) ≡ length (s .calls .calls)) (length-replicate (length (s .calls .calls)) blank) refl, refl)
 
--- .. and so does a run
+-- a run leaves as many records and as much memory
 pub run-lengths : (s : State) (events : List Event) → (length (afterAll s events .calls .calls) ≡ length (s .calls .calls)) × (length (afterAll s events .memory) ≡ length (s .memory))
 unfolding afterAll
 run-lengths s [] = (refl, refl)
@@ -77,7 +78,7 @@ pub among-same : (row : List Call) → Among row row
 among-same [] = none
 among-same (c ∷ row) = kept (among-same row)
 
--- .. and in that of a row that it equals
+-- a row is in the order of a row that it equals
 pub among-is : {xs ys : List Call} → xs ≡ ys → Among xs ys
 among-is {xs} {ys} e = rw e (among-same ys)
 
@@ -117,7 +118,7 @@ among-left place row within =
     (among-joined (among-same (map unheard (take place row))) (past {c = unheard (getD row place blank)} (among-same (map unheard (drop (suc place) row)))))
     (among-is (sym (ap (map unheard) (split-at row place blank within) ∙ map-append unheard (take place row) (getD row place blank ∷ drop (suc place) row)))))
 
--- 01: "in the order opened": after an event the open calls are those before, and the one that it opens behind them, with some left out
+-- 01: "in the order opened": after an event the open calls are those before, and the one that it opens after them, with some left out
 pub order : (s : State) (event : Event) → Among (map unheard (opens (after s event .calls))) (map unheard (opens (s .calls)) ++ openedNow s event)
 order s (addressed n) = ⊎-elim opened not-opened (decided (eqb (valueTold (openOf (s .calls) n) 0) 1))
   where
@@ -154,7 +155,8 @@ order s ended =
     rw (append-nil (map unheard row))
     (ended-by (s .calls) (s .memory) (λ t. Among (map unheard (opens t)) (map unheard row)) (among-none (map unheard row)) (among-same (map unheard row)))
 
--- .. and so after a run, in a frame or over the ends of frames
+-- 01: "in the order opened": after a run, in a frame or over the ends of frames, the open calls are those before and the
+-- ones that it opens after them, with some left out
 pub run-order : (s : State) (events : List Event) → Among (map unheard (opens (afterAll s events .calls))) (map unheard (opens (s .calls)) ++ openedBy s events)
 unfolding afterAll openedBy
 run-order s [] = among-is (sym (append-nil (map unheard (opens (s .calls)))))
@@ -167,7 +169,7 @@ run-order s (event ∷ events) =
 pub end-list : (s : Calls) (memory : List ℕ) → Ended s memory → (opens (endedWith s memory) ≡ incompleteIn (opens s) memory) × Among (opens (endedWith s memory)) (opens s)
 end-list s memory a = (end-lists s memory a, rw (end-lists s memory a) (among-those _ (opens s)))
 
--- .. in as many records as before, where it is refused too
+-- the list at the end of a frame has as many records as before, where the end is refused too
 pub end-length : (s : Calls) (memory : List ℕ) → length (endedWith s memory .calls) ≡ length (s .calls)
 unfolding endedWith
 end-length s memory =
@@ -190,11 +192,11 @@ module _ (row : List Call) (place : ℕ) (within : place < length row) (before :
       ∙ area-join (take place row) (getD row place blank ∷ drop (suc place) row)
       ∙ rw (those-length-cons hasVector (getD row place blank) (drop (suc place) row), before) (omega arith)
 
-  -- .. so that they are as many without it
+  -- as many calls have their vector when a call without one is left out
   area-left : nextArea (left place row) ≡ nextArea row
   area-left = rw (add-one place) (area-join (take place row) (drop (suc place) row)) ∙ sym area-without
 
-  -- .. and one more when its vector has come
+  -- one more call has its vector when that of the call at the place has come
   area-set : (c : Call) → hasVector c ≡ true → nextArea (set row place c) ≡ nextArea row + 1
   area-set c has =
       ap nextArea (set-split row place c within)
@@ -303,13 +305,13 @@ placed-after s (heard n) placed =
     placed
 placed-after s ended placed = ended-by (s .calls) (s .memory) (λ t. Placed (opens t)) (placed-fresh (length (s .calls .calls))) placed
 
--- .. and so does a run
+-- a run keeps areas of their own
 pub run-placed : (s : State) (events : List Event) → Placed (opens (s .calls)) → Placed (opens (afterAll s events .calls))
 unfolding afterAll
 run-placed s [] placed = placed
 run-placed s (event ∷ events) placed = run-placed (after s event) events (placed-after s event placed)
 
--- .. so that one that begins with no call open has them after each event
+-- after each event of a run that begins with no call open the calls have areas of their own
 pub fresh-run-placed : (count : ℕ) (memory : List ℕ) (events : List Event) → Placed (opens (afterAll (record { calls = fresh count; memory = memory }) events .calls))
 fresh-run-placed count memory events = run-placed (record { calls = fresh count; memory = memory }) events (placed-fresh count)
 
@@ -321,7 +323,7 @@ eventPlace s (addressed n) i = i
 eventPlace s (heard n) i = placeAfter (s .calls) (s .memory) n i
 eventPlace s ended i = i
 
--- .. and after a run
+-- where a call that stays stands after a run
 unfoldable pub runPlace : State → List Event → ℕ → ℕ
 runPlace s [] i = i
 runPlace s (event ∷ events) i = runPlace (after s event) events (eventPlace s event i)

@@ -30,33 +30,33 @@ fits-words long vector start words e =
 
 -- ---- the numbers of its words
 
--- for a long address: the word right after the vector, then the rest
+-- the word numbers of a long address: the word right after the vector, then the rest
 numbers-long : (vector start n : ℕ) → numbers true vector start (suc n) ≡ suc vector ∷ upFrom start n
 numbers-long vector start n =
     let fewer : suc n - 1 ≡ n = omega arith in
     let many = up-length start n in
     rw fewer (ap (λ (rest : List ℕ). suc vector ∷ rest) (take-all n (upFrom start n) (omega arith)))
 
--- they are as many as the words
+-- the word numbers of a span are as many as its words
 numbers-many : (long : Bool) (vector start words : ℕ) → length (numbers long vector start words) ≡ words
 numbers-many false vector start words = up-length start words
 numbers-many true vector start zero = refl
 numbers-many true vector start (suc n) = ap length (numbers-long vector start n) ∙ rw (up-length start n)
 
--- the first one of a long address, and the others one after the other
+-- the k-th word number of a span: of a long address the first stands right after the vector, and all others stand one after the other
 abbrev numberAt : Bool → ℕ → ℕ → ℕ → ℕ
 numberAt false vector start k = start + k
 numberAt true vector start zero = suc vector
 numberAt true vector start (suc k) = start + k
 
--- .. which they are
+-- the k-th of the word numbers of a span is that number
 number-at : (long : Bool) (vector start words k : ℕ) → k < words → getD (numbers long vector start words) k 0 ≡ numberAt long vector start k
 number-at false vector start words k within = up-at start words k within
 number-at true vector start zero k within = absurd (omega arith)
 number-at true vector start (suc n) zero within = refl
 number-at true vector start (suc n) (suc k) within = ap (λ (row : List ℕ). getD row (suc k) 0) (numbers-long vector start n) ∙ up-at start n k (omega arith)
 
--- each stands after the vector and by word 87
+-- each word number stands after the vector and by word 87
 number-within : (long : Bool) (vector start words k : ℕ) → InSpan long vector start words → k < words → (vector < numberAt long vector start k) × (numberAt long vector start k ≤ 87)
 number-within false vector start words k s within =
     ⊎-elim (λ alone. absurd (omega (arith, s .some-words))) (λ after. (omega (arith, after .0), omega (arith, after .1))) (s .rest)
@@ -64,7 +64,7 @@ number-within true vector start words zero s within = (omega arith, omega (arith
 number-within true vector start words (suc k) s within =
     ⊎-elim (λ alone. absurd (omega arith)) (λ after. (omega (arith, after .0), omega (arith, after .1))) (s .rest)
 
--- .. and they ascend
+-- the word numbers of a span ascend
 number-ascends : (long : Bool) (vector start words j k : ℕ) → InSpan long vector start words → j < k → k < words → numberAt long vector start j < numberAt long vector start k
 number-ascends false vector start words j k s before within = omega arith
 number-ascends true vector start words j zero s before within = absurd (omega arith)
@@ -85,21 +85,25 @@ module _ (c : Call) where
       let more : c .words ≡ suc (c .words - 1) = omega arith in
       rw (has, long) (ap (λ (n : ℕ). numbers true (c .vector) (c .start) n) more ∙ numbers-long (c .vector) (c .start) (c .words - 1))
 
-  -- before that it has none
+  -- before its vector has come it has none
   pub numbers-none : hasVector c ≡ false → numbersOf c ≡ []
   numbers-none none = rw none
 
   -- a call within its limits that has message words has a span that fits
   pub span-within : inLimits c ≡ true → hasVector c ≡ true → 1 ≤ c .words → fits (isLong c) (c .vector) (c .start) (c .words) ≡ true
-  span-within good has some = fits-span (isLong c) (c .vector) (c .start) (c .words) .1 (in-limits c .0 good .of-span has some)
+  span-within good has some =
+      ⊎-elim
+      (λ none. absurd (omega (arith, none .1, some)))
+      (fits-span (isLong c) (c .vector) (c .start) (c .words) .1)
+      (in-limits c .0 good .of-span has)
 
   module _ (word : ℕ) where
-    -- which of its words a number is: none before its vector has come,
+    -- the position of a word number in a call without its vector is 0
     pub position-none : hasVector c ≡ false → position c word ≡ 0
     unfolding placeIn
     position-none none = rw none
 
-    -- none where it has no words,
+    -- the position of a word number in a call without words is 0
     pub position-empty : c .words ≡ 0 → position c word ≡ 0
     unfolding placeIn
     position-empty empty =
@@ -111,18 +115,18 @@ module _ (c : Call) where
         position-none
         (decided (hasVector c))
 
-    -- of a short address, that of its span,
+    -- of a short address it is the place in the span
     pub position-short : hasVector c ≡ true → isLong c ≡ false → position c word ≡ placeIn (upFrom (c .start) (c .words)) word
     position-short has short = rw (has, short)
 
     module _ (has : hasVector c ≡ true) (long : isLong c ≡ true) (some : 1 ≤ c .words) where
-      -- of a long address, the one after the vector first,
+      -- of a long address the word right after the vector is the first
       pub position-lead : word ≡ suc (c .vector) → position c word ≡ 0
       unfolding placeIn
       position-lead is =
           ap (λ (row : List ℕ). placeIn row word) (numbers-lead has long some) ∙ rw (eq-eqb word (suc (c .vector)) is)
 
-      -- then that of its span
+      -- of a long address any other word comes one after its place in the span
       pub position-rest : (word ≡ suc (c .vector) → ⊥) → position c word ≡ suc (placeIn (upFrom (c .start) (c .words - 1)) word)
       unfolding placeIn
       position-rest other =
@@ -148,7 +152,7 @@ module _ (c : Call) where
         let inside = number-within (isLong c) (c .vector) (c .start) (c .words) k the-span within in
         (omega (arith, inside .0), omega (arith, inside .1))
 
-    -- .. and they ascend
+    -- the call's word numbers ascend
     pub numbers-ascend : (j k : ℕ) → j < k → k < c .words → getD (numbersOf c) j 0 < getD (numbersOf c) k 0
     numbers-ascend j k before within =
         let lower = the-number j (omega arith) in
@@ -156,7 +160,7 @@ module _ (c : Call) where
         let less = number-ascends (isLong c) (c .vector) (c .start) (c .words) j k the-span before within in
         omega arith
 
-    -- so that no two are one, and each is found at its own position
+    -- no two of the call's word numbers are one, and each is found at its own position
     pub position-of : (k : ℕ) → k < c .words → position c (getD (numbersOf c) k 0) ≡ k
     unfolding placeIn
     position-of k within =

@@ -25,7 +25,7 @@ start = record { calls = fresh 8; memory = replicate 680 0 }
 abbrev opening : List Event
 opening = addressed 0x01200503 ∷ addressed 0x01200604 ∷ heard 0x0323008A ∷ []
 
--- .. word 11, the other vector, of the same words; word 11 again with other bits, and word 10 twice
+-- word 11, the other vector, of the same words; word 11 again with other bits, and word 10 twice
 abbrev later : List Event
 later = heard 0x0B200ABC ∷ heard 0x0423008A ∷ heard 0x0B200111 ∷ heard 0x0A200123 ∷ heard 0x0A200123 ∷ []
 
@@ -55,7 +55,7 @@ sevenAt word = record { word = word; damaged = 0; phase = 0; bits = 7 }
 abbrev GivenCase : Type 0
 GivenCase = List Call × ℕ × ℕ × ℕ × ℕ × ℕ
 
--- .. with every premise, and without each
+-- such cases, with every premise and without each
 unfoldable pub givenCases : List GivenCase
 givenCases =
     (callWith 1 10 2 0 ∷ [], 0, 1, 11, 7, 7)
@@ -65,7 +65,7 @@ givenCases =
     ∷ (map (λ (n : ℕ). callWith 1 (20 + n) 1 n) (0 ∷ 1 ∷ 2 ∷ 3 ∷ 4 ∷ 5 ∷ 6 ∷ 7 ∷ 8 ∷ []), 0, 0, 28, 7, lacking)
     -- more than 85 words
     ∷ (callWith 1 0 90 0 ∷ callWith 1 10 1 1 ∷ [], 1, 0, 85, 7, lacking)
-    -- a span that is not in order: word 0 of a call whose vector has not come, and one behind its words
+    -- a span that is not in order: word 0 of a call whose vector has not come, and one after its words
     ∷ (callWith 0 10 1 0 ∷ [], 0, 0, 0, lacking, 7)
     ∷ (callWith 1 10 1 0 ∷ [], 0, 1, 0, lacking, 7)
     ∷ []
@@ -88,7 +88,7 @@ given-examples = refl
 abbrev FinishedCase : Type 0
 FinishedCase = List Call × ℕ × List ℕ × ℕ × ℕ
 
--- .. with every premise, and without each
+-- such cases, with every premise and without each
 unfoldable pub finishedCases : List FinishedCase
 finishedCases =
     (callWith 1 85 1 0 ∷ callWith 1 85 1 1 ∷ [], 0, replicate 680 lacking, 1, 1)
@@ -116,7 +116,7 @@ finished-examples = refl
 abbrev next-frame : List Event
 next-frame = ended ∷ addressed 0x01200503 ∷ heard 0x03230094 ∷ heard 0x14200456 ∷ []
 
--- words-came holds within a frame only: behind its end the area is another call's
+-- words-came holds within a frame only: after its end the area is another call's
 pub next-frame-words :
     let s = afterAll start opening in
     let c = getD (opens (s .calls)) 0 blank in

@@ -22,9 +22,9 @@ use Rattle.call.specs.declared.CallOpening.{CallOpening}
 use Rattle.call.specs.declared.CallHeard.{CallHeard}
 use Rattle.call.specs.declared.CallHearing.{CallHearing}
 use Rattle.call.specs.declared.FrameEnd.{FrameEnd}
-use Rattle.call.specs.Calls.{blank, fresh, opens, hasVector, find, holds, sound}
+use Rattle.call.specs.Calls.{blank, fresh, opens, hasVector, bringsWords, find, holds, sound}
 use Rattle.call.specs.Words.{lacking, memorySize, placeOf, givenTo, finished, isHeld, isLacked}
-use Rattle.call.specs.Steps.{callOf, added, bringsWords, vectorFits, withVector, nextArea, changed, removed, listed, incompleteIn}
+use Rattle.call.specs.Steps.{callOf, added, vectorFits, withVector, nextArea, changed, removed, listed, incompleteIn}
 
 -- ---- an address packet
 
@@ -32,7 +32,7 @@ use Rattle.call.specs.Steps.{callOf, added, bringsWords, vectorFits, wit
 abbrev pub addressIn : ℕ → Address
 addressIn n = asAddress (fieldsOf tables.address n)
 
--- .. as it is told behind the call that it opened
+-- what is told of it: whether it opened a call, the place of that call, and what the packet says
 abbrev pub telling : ℕ → ℕ → Address → List ℕ
 telling opened place a =
     opened ∷ place ∷ a .priority ∷ a .phase ∷ a .«long_address» ∷ a .address ∷ a .«tone_only» ∷ a .vector ∷ []
@@ -67,7 +67,7 @@ messageIn n = asMessage (fieldsOf tables.message n)
 abbrev pub isShort : List ℕ → Bool
 isShort memory = ltb (length memory) memorySize
 
--- 01's table, of a vector for a call: 9 (its span is read only if the call has none yet), 14, and last 1
+-- 01's table, of a vector for a call: 9 where the call is still without one and the span is bad, 14 where the call has one, whatever the span, and last 1
 abbrev pub vectorTold : Calls → List ℕ → ℕ → Call → Vector → Told
 vectorTold s memory place c v =
     ask (not (hasVector c) && not (vectorFits c v)) refusals.Size
@@ -75,7 +75,7 @@ vectorTold s memory place c v =
     (ask (isShort memory) refusals.Room
     (given (1 ∷ place ∷ v .kind ∷ v .span .check ∷ pick (bringsWords (v .kind)) 0 (2 ^ place) ∷ []))))
 
--- .. of a message word: 14 "only if all that hold its place have it", 17, and last 1
+-- 01's table, of a message word: 14 "only if all that hold its place have it", 17, and last 1
 abbrev pub wordTold : Calls → List ℕ → Message → Told
 wordTold s memory m =
     ask (isHeld (opens s) m && not (isLacked (opens s) m memory)) refusals.OutOfTurn
@@ -92,11 +92,11 @@ module _ (s : Calls) (n : ℕ) where
   abbrev pub isForVector : Bool
   isForVector = holds (messageIn n .phase) (messageIn n .word) (opens s)
 
-  -- .. and that call
+  -- the call whose vector it would be
   abbrev pub vectorCall : Call
   vectorCall = getD (opens s) vectorPlace blank
 
-  -- .. when its vector has come
+  -- the call whose vector it would be, when that has come
   abbrev pub vectorGiven : Call
   vectorGiven = withVector vectorCall (vectorOf n) (nextArea (opens s))
 
@@ -141,13 +141,13 @@ endOf s memory =
 unfoldable pub endedWith : Calls → List ℕ → Calls
 endedWith s memory = pick (eqb (numberTold (endOf s memory)) 0) (listed (length (s .calls)) (incompleteIn (opens s) memory)) (fresh (length (s .calls)))
 
--- .. and "closes all calls": the records then
+-- 01: "End of frame closes all calls": the records then
 unfoldable pub endedIn : Calls → List ℕ → Calls
 endedIn s memory = pick (eqb (numberTold (endOf s memory)) 0) (fresh (length (s .calls))) s
 
 -- ---- the answers as they are told
 
--- of an address packet
+-- what is told of an address packet
 abbrev pub asOpened : Told → CallOpened
 asOpened t =
     record {
@@ -165,11 +165,11 @@ asOpened t =
           };
     }
 
--- .. with the records then
+-- what is told of an address packet, with the records then
 abbrev pub asOpening : Told → Calls → CallOpening
 asOpening t s = record { answer = asOpened t; calls = s }
 
--- of a vector or message packet
+-- what is told of a vector or message packet
 abbrev pub asHeard : Told → CallHeard
 asHeard t =
     record {
@@ -181,10 +181,10 @@ asHeard t =
       completed = valueTold t 4;
     }
 
--- .. with the records then
+-- what is told of a vector or message packet, with the records then
 abbrev pub asHearing : Told → Calls → CallHearing
 asHearing t s = record { answer = asHeard t; calls = s }
 
--- of an end of frame: the calls that were incomplete, and the records then
+-- what is told of an end of frame: the calls that were incomplete, and the records then
 abbrev pub asEnd : Told → Calls → Calls → FrameEnd
 asEnd t missed s = record { number = numberTold t; incomplete = missed; calls = s }

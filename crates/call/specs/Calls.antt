@@ -6,6 +6,7 @@ use lib.Dec.{leb, ltb, eqb}
 use lib.ListN.{length, take, replicate}
 use Rattle.laws.specs.Choice.{pick, bitOf}
 use Rattle.laws.specs.Lists.{firstThat, upFrom}
+use Rattle.packet.specs.Vectors.{isNumeric, isText}
 use Rattle.call.specs.declared.Call.{Call}
 use Rattle.call.specs.declared.Calls.{Calls}
 
@@ -17,7 +18,7 @@ mostCalls = 8
 abbrev pub mostWords : ℕ
 mostWords = 85
 
--- 01: ".. and end by word 87"
+-- 01: the span must "end by word 87"
 abbrev pub lastWord : ℕ
 lastWord = 87
 
@@ -54,15 +55,21 @@ abbrev pub numbers : Bool → ℕ → ℕ → ℕ → List ℕ
 numbers true vector start words = take words (suc vector ∷ upFrom start (words - 1))
 numbers false vector start words = upFrom start words
 
--- .. of a call; none before its vector has come
+-- the word numbers of a call's message words; none before its vector has come
 abbrev pub numbersOf : Call → List ℕ
 numbersOf c = pick (hasVector c) (numbers (isLong c) (c .vector) (c .start) (c .words)) []
 
--- 01's table, 2: none of "phase over 3, vector word over 87 or a span outside the limits"; a vector that brings no words has no span
+-- Tables 32 and 35: the vectors that bring message words; tone-only, short message and short instruction bring none
+abbrev pub bringsWords : ℕ → Bool
+bringsWords kind = isNumeric kind || isText kind
+
+-- whether the span of a call that has its vector is one for it: a vector that brings no words has a span of none
+abbrev pub spanned : Call → Bool
+spanned c = (not (bringsWords (c .kind)) && eqb (c .words) 0) || fits (isLong c) (c .vector) (c .start) (c .words)
+
+-- 01's table, 2: none of "phase over 3, vector word over 87 or a span outside the limits"
 abbrev pub inLimits : Call → Bool
-inLimits c =
-    leb (c .phase) 3 && leb (c .vector) lastWord
-    && (not (hasVector c) || eqb (c .words) 0 || fits (isLong c) (c .vector) (c .start) (c .words))
+inLimits c = leb (c .phase) 3 && leb (c .vector) lastWord && (not (hasVector c) || spanned c)
 
 -- ---- a row of calls
 

@@ -24,15 +24,15 @@ module _ (s : Calls) (memory : List ℕ) (place : ℕ) (v : Vector) where
   abbrev pub callAt : Call
   callAt = getD (opens s) place blank
 
-  -- .. with its vector
+  -- the call at the place, with its vector
   abbrev pub givenAt : Call
   givenAt = withVector callAt v (nextArea (opens s))
 
-  -- the records when a vector has come for it
+  -- the records when a vector has come for the call at the place
   abbrev pub vectorCalls : Calls
   vectorCalls = pick (hasVector callAt) s (pick (vectorFits callAt v) (pick (isShort memory) s (changed s place givenAt)) (removed s place))
 
-  -- .. and the memory
+  -- the lent memory when a vector has come for the call at the place
   abbrev pub vectorMemory : List ℕ
   vectorMemory =
       pick (not (hasVector callAt) && vectorFits callAt v && not (isShort memory)) (put memory (placeOf givenAt) (replicate (givenAt .words) lacking)) memory

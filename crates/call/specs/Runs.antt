@@ -1,17 +1,14 @@
 -- A run: packets and ends of frame one after the other, with the state handed on.
-use Prim.Native.Nat.{ℕ, _<_}
+use Prim.Native.Nat.{ℕ}
 use mathlib.Core.Bool.{Bool, true, false, not, _&&_}
 use mathlib.Core.List.{List, [], _∷_, _++_}
-use mathlib.Core.Path.{_≡_}
 use lib.Dec.{eqb}
-use lib.ListN.{length, getD}
 use Rattle.laws.specs.Choice.{pick}
 use Rattle.refusal.specs.Told.{Told, valueTold}
 use Rattle.call.specs.declared.Call.{Call}
 use Rattle.call.specs.declared.Calls.{Calls}
-use Rattle.call.specs.Calls.{blank, hasVector}
 use Rattle.call.specs.Words.{lacking}
-use Rattle.call.specs.Steps.{callOf, nextArea}
+use Rattle.call.specs.Steps.{callOf}
 use Rattle.call.specs.Answers.{addressIn, messageIn, isForVector, openOf, openedIn, hearOf, hearNumber, heardIn, memoryAfter, endOf, endedIn}
 
 -- what comes: an address packet, a vector or message packet, an end of frame
@@ -55,11 +52,6 @@ inFrame [] = true
 inFrame (addressed n ∷ events) = inFrame events
 inFrame (heard n ∷ events) = inFrame events
 inFrame (ended ∷ events) = false
-
--- what the host's own runs keep: calls that have their vector have areas of their own, the first ones
-pub record Placed (row : List Call) : Type 0 where
-  pub below : (i : ℕ) → i < length row → hasVector (getD row i blank) ≡ true → getD row i blank .area < nextArea row
-  pub apart : (i j : ℕ) → i < length row → j < length row → hasVector (getD row i blank) ≡ true → hasVector (getD row j blank) ≡ true → getD row i blank .area ≡ getD row j blank .area → i ≡ j
 
 -- whether an event is a message word that is taken, of a phase and a word number
 abbrev pub takenAt : State → Event → ℕ → ℕ → Bool

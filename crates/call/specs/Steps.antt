@@ -6,10 +6,9 @@ use lib.ListN.{length, drop, set}
 use Rattle.laws.specs.Lists.{put, those}
 use Rattle.packet.specs.declared.heard.Address.{Address}
 use Rattle.packet.specs.declared.vectors.Vector.{Vector}
-use Rattle.packet.specs.Vectors.{isNumeric, isText}
 use Rattle.call.specs.declared.Call.{Call}
 use Rattle.call.specs.declared.Calls.{Calls}
-use Rattle.call.specs.Calls.{blank, fresh, opens, hasVector, isLong, fits}
+use Rattle.call.specs.Calls.{blank, fresh, opens, hasVector, isLong, fits, bringsWords}
 use Rattle.call.specs.Words.{isComplete}
 
 -- the call that an address packet opens: it awaits its vector
@@ -32,10 +31,6 @@ callOf a =
 -- the records with one call more, the last opened
 abbrev pub added : Calls → Call → Calls
 added s c = record { size = s .size + 1; calls = set (s .calls) (s .size) c }
-
--- Tables 32 and 35: the vectors that bring message words; tone-only, short message and short instruction bring none
-abbrev pub bringsWords : ℕ → Bool
-bringsWords kind = isNumeric kind || isText kind
 
 -- whether the span of a vector is one for its call
 abbrev pub vectorFits : Call → Vector → Bool
@@ -66,7 +61,7 @@ nextArea row = length (those hasVector row)
 abbrev pub changed : Calls → ℕ → Call → Calls
 changed s place c = record { size = s .size; calls = set (s .calls) place c }
 
--- a row without the record at a place: those behind it move one place down, so that they stay in their order
+-- a row without the record at a place: those after it move one place down, so that they stay in their order
 abbrev pub without : ℕ → List Call → List Call
 without place row = put row place (drop (place + 1) row ++ blank ∷ [])
 

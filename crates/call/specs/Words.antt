@@ -23,7 +23,7 @@ memorySize = mostCalls * mostWords
 abbrev pub placeOf : Call → ℕ
 placeOf c = c .area % mostCalls * mostWords
 
--- its words, in the order of the message
+-- a call's words, in the order of the message
 abbrev pub wordsOf : Call → List ℕ → List ℕ
 wordsOf c memory = take (c .words) (drop (placeOf c) memory)
 
@@ -31,7 +31,7 @@ wordsOf c memory = take (c .words) (drop (placeOf c) memory)
 abbrev pub isComplete : Call → List ℕ → Bool
 isComplete c memory = hasVector c && undamaged (wordsOf c memory)
 
--- which of its words a word number is: 0 for the first
+-- which of a call's words a word number is: 0 for the first
 abbrev pub position : Call → ℕ → ℕ
 position c word = placeIn (numbersOf c) word
 
@@ -69,6 +69,6 @@ finished (c ∷ row) m memory = bitOf (completes c m (givenTo row m memory)) + 2
 abbrev pub isHeld : List Call → Message → Bool
 isHeld row m = anyOf (λ c. holdsWord c m) row
 
--- .. and some call still lacks it
+-- whether some call's span holds a word that the call still lacks
 abbrev pub isLacked : List Call → Message → List ℕ → Bool
 isLacked row m memory = anyOf (λ c. lacks c m memory) row

@@ -8,9 +8,9 @@ ghost use lib.ListN.{length, getD, replicate};
 ghost use Rattle.laws.specs.Choice.{pick, bitOf};
 ghost use Rattle.laws.specs.Lists.{put};
 ghost use Rattle.packet.specs.Vectors.{isVector, vectorOf};
-ghost use Rattle.call.specs.Calls.{mostCalls, blank, opens, find};
+ghost use Rattle.call.specs.Calls.{mostCalls, blank, opens, bringsWords, find};
 ghost use Rattle.call.specs.Words.{lacking};
-ghost use Rattle.call.specs.Steps.{bringsWords, vectorFits, withVector, nextArea, changed, removed, without};
+ghost use Rattle.call.specs.Steps.{vectorFits, withVector, nextArea, changed, removed, without};
 ghost use Rattle.call.specs.Answers.{messageIn, vectorTold, wordTold, hearOf, heardIn, memoryAfter, asHearing};
 ghost use Rattle.call.specs.HearingPieces.{vectorCalls, vectorMemory, wordMemory, refusing, changes, recordsAfter, hearingOf};
 ghost use lib.Dec.{ltb};
@@ -68,18 +68,11 @@ fn next_area(calls: Calls) -> u32
     area
 }
 
-// The vectors that bring message words.
-fn brings_words(kind: u32) -> bool
-    ensures { λ r. ⌜ r ≡ bringsWords kind ⌝ }
-{
-    Vector::is_numeric(kind) | Vector::is_text(kind)
-}
-
 // Whether a vector brings no words, or a span that is one for its call.
 fn vector_fits(call: Call, vector: Vector) -> bool
     ensures { λ r. ⌜ r ≡ vectorFits call vector ⌝ }
 {
-    !brings_words(vector.kind)
+    !crate::span::brings_words(vector.kind)
         | crate::span::fits(
             call.long_address != 0,
             call.vector,
@@ -150,13 +143,14 @@ fn completed_by(kind: u32, place: usize) -> u32
     requires { ⌜ place < mostCalls ⌝ }
     ensures { λ r. ⌜ r ≡ pick (bringsWords kind) 0 (2 ^ place) ⌝ }
 {
-    if brings_words(kind) {
+    if crate::span::brings_words(kind) {
         return 0;
     }
     1 << place
 }
 
-// A vector for the call at a place: 14, 9 and 1 of 01's table, or the call with its span and none of its words.
+// A vector for the call at a place. Of 01's table a second vector, for a call that has one, is 14, whatever its span; a bad
+// span, for a call still without its vector, is 9; and last comes 1. Else the call has its span and none of its words.
 fn take_vector(calls: Calls, memory: &mut [u32], packet: Packet, place: usize) -> Turn
     requires { ⌜ isVector (packet .bits) ≡ true ⌝ }
     requires { ⌜ place < length (opens calls) ⌝ }
@@ -285,7 +279,7 @@ pub fn hear(calls: Calls, memory: &mut [u32], packet: Packet) -> CallHearing
     }
 }
 
-// The row without the record at a place: those behind it move one place down. It stays as it is where there is no such
+// The row without the record at a place: those after it move one place down. It stays as it is where there is no such
 // place.
 pub(crate) fn without(row: [Call; MOST_CALLS], place: usize) -> [Call; MOST_CALLS]
     ensures { λ r. ⌜ r ≡ pick (ltb place mostCalls) (without place row) row ⌝ }

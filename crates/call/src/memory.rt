@@ -70,7 +70,7 @@ fn word_place(call: Call, message: Message) -> usize
     place(call) + crate::span::position(call, message.word)
 }
 
-// What the memory holds at a place; behind its end no word has come.
+// What the memory holds at a place; past its end no word has come.
 fn word_at(memory: &[u32], at: usize) -> u32
     ensures { λ r. ⌜ r ≡ getD (now (memory .entry)) at lacking ⌝ }
 {

@@ -71,7 +71,7 @@ fn not_opened(calls: Calls, number: u32) -> CallOpening
     }
 }
 
-// A call opened: 14 and 12 of 01's table, or the records with the new call behind the others.
+// A call opened: 14 and 12 of 01's table, or the records with the new call after the others.
 fn open_call(calls: Calls, address: Address) -> CallOpening
     ensures { λ r. ⌜ r ≡ asOpening (openingOf calls address) (openingCalls calls address) ⌝ }
 {

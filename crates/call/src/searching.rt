@@ -38,10 +38,10 @@ fn in_limits(call: Call) -> bool
     if !((call.phase <= LAST_PHASE) & (call.vector <= Packet::LAST_WORD)) {
         return false;
     }
-    if (call.has_vector == 0) | (call.words == 0) {
+    if call.has_vector == 0 {
         return true;
     }
-    crate::span::fits(call.long_address != 0, call.vector, call.start, call.words)
+    crate::span::spanned(call)
 }
 
 // The place of the call of a key among the open ones; their number where it has none.

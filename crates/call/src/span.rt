@@ -2,11 +2,12 @@
 ghost use mathlib.Core.Path.{_≡_};
 ghost use Prim.Native.Nat.{_+_, _≤_, _<_};
 ghost use Rattle.laws.specs.Lists.{placeIn, upFrom};
-ghost use Rattle.call.specs.Calls.{fits};
+ghost use Rattle.call.specs.Calls.{fits, bringsWords, spanned};
 ghost use Rattle.call.specs.Words.{position};
 use crate::Call;
 use crate::MOST_WORDS;
 use packet::Packet;
+use packet::Vector;
 
 // 01: the span must have 1 to 85 words, lie after the vector (a long call's rest after its first word) and end by word
 // 87. Where a long call has no rest, its start is not looked at.
@@ -23,6 +24,24 @@ pub(crate) fn fits(long: bool, vector: u32, start: u32, words: u32) -> bool
         & (before <= Packet::LAST_WORD as u64)
         & ((words == lead)
             | ((before < start) & (start + words <= Packet::LAST_WORD as u64 + 1 + lead)))
+}
+
+// Tables 32 and 35: the vectors that bring message words.
+pub(crate) fn brings_words(kind: u32) -> bool
+    ensures { λ r. ⌜ r ≡ bringsWords kind ⌝ }
+{
+    Vector::is_numeric(kind) | Vector::is_text(kind)
+}
+
+// 01's table, 2: whether the span of a call that has its vector is one for it. A span of no words is one for a vector that
+// brings none, and for no other.
+pub(crate) fn spanned(call: Call) -> bool
+    ensures { λ r. ⌜ r ≡ spanned call ⌝ }
+{
+    if call.words == 0 {
+        return !brings_words(call.kind);
+    }
+    fits(call.long_address != 0, call.vector, call.start, call.words)
 }
 
 // The place of a word number among so many from a start on; their number where it is none of them.

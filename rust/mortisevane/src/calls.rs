@@ -126,9 +126,10 @@ impl Calls {
     /// A vector or message packet. The memory is [`CALL_WORDS`] or more, as it was left last; what it holds before the
     /// first vector of a frame does not matter.
     ///
-    /// Refuses [`Refusal::State`], [`Refusal::Packet`], [`Refusal::Damaged`], and then of a vector [`Refusal::Size`] (its
-    /// span) and [`Refusal::OutOfTurn`], of a word [`Refusal::OutOfTurn`], or [`Refusal::NoCall`], and last
-    /// [`Refusal::Room`]. The memory is then as it was, and so are the calls, but for [`Refusal::Size`], by which the call
+    /// Refuses [`Refusal::State`], [`Refusal::Packet`], [`Refusal::Damaged`]; then a second vector, for a call that has one,
+    /// with [`Refusal::OutOfTurn`], whatever its span, and a bad span, for a call still without its vector, with
+    /// [`Refusal::Size`]; a word that every call has that holds its place with [`Refusal::OutOfTurn`], a vector or word of no
+    /// call with [`Refusal::NoCall`]; and last [`Refusal::Room`]. The memory is then as it was, and so are the calls, but for [`Refusal::Size`], by which the call
     /// of the vector is closed.
     pub fn hear<'a>(&'a mut self, memory: &'a mut [u32], packet: u32) -> Result<Heard<'a>, Refusal> {
         let calls = *self;

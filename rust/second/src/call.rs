@@ -8,7 +8,10 @@ use crate::heard::{self, check_word, Address, Message, LAST_WORD};
 use crate::layout::read;
 use crate::numbers::numbers;
 use crate::refusal::Refusal;
-use crate::vector::{read_vector, Span, SHORT_INSTRUCTION, SHORT_MESSAGE, VECTOR_WORDS};
+use crate::vector::{
+    read_vector, Span, ALPHANUMERIC, HEX_BINARY, NUMBERED_NUMERIC, SECURE, SPECIAL_NUMERIC,
+    STANDARD_NUMERIC, VECTOR_WORDS,
+};
 
 pub const MOST_CALLS: usize = 8;
 /// The most words that a call can have.
@@ -130,11 +133,19 @@ impl Call {
         self.has_vector() && places.all(|place| !is_lacking(memory, place))
     }
 
+    /// Whether its span, once its vector has come, is within the limits. No words
+    /// are a span only of a vector that brings none.
+    fn has_sound_span(&self) -> bool {
+        match self.words {
+            0 => !brings_words(self.kind),
+            words => self.is_span(words, self.start),
+        }
+    }
+
     fn is_sound(&self) -> bool {
-        let has_words = self.has_vector() && self.words != 0;
         self.phase <= LAST_PHASE
             && self.vector <= LAST_WORD
-            && (!has_words || self.is_span(self.words, self.start))
+            && (!self.has_vector() || self.has_sound_span())
     }
 }
 
@@ -341,9 +352,13 @@ impl Calls {
     }
 }
 
-/// Whether message words come with a vector of that type.
+/// Whether message words come with a vector of that type (Tables 32 and 35); with
+/// what is no type none come.
 fn brings_words(kind: u32) -> bool {
-    !matches!(kind, SHORT_INSTRUCTION | SHORT_MESSAGE)
+    matches!(
+        kind,
+        SECURE | STANDARD_NUMERIC | SPECIAL_NUMERIC | ALPHANUMERIC | HEX_BINARY | NUMBERED_NUMERIC
+    )
 }
 
 fn check_memory(memory: &[u32]) -> Result<(), Refusal> {
@@ -802,6 +817,11 @@ mod tests {
             |calls| calls.calls[0].vector = u32::MAX,
             |calls| calls.calls[0].vector = 7,
             |calls| calls.calls[1].words = 86,
+            |calls| calls.calls[1].words = 0,
+            |calls| (calls.calls[1].words, calls.calls[1].kind) = (0, 0),
+            |calls| (calls.calls[1].words, calls.calls[1].kind) = (0, 7),
+            |calls| (calls.calls[3].words, calls.calls[3].has_vector) = (0, 2),
+            |calls| (calls.calls[1].start, calls.calls[1].kind) = (6, 2),
             |calls| calls.calls[1].start = 6,
             |calls| calls.calls[1].start = 85,
             |calls| calls.calls[1].start = u32::MAX,
@@ -834,7 +854,11 @@ mod tests {
             |calls| calls.calls[4] = calls.calls[0],
             |calls| calls.calls[0].words = 86,
             |calls| calls.calls[0].vector = 0,
-            |calls| calls.calls[1].words = 0,
+            |calls| (calls.calls[1].words, calls.calls[1].kind) = (0, 1),
+            |calls| (calls.calls[1].words, calls.calls[1].kind) = (0, 2),
+            |calls| (calls.calls[1].words, calls.calls[1].kind) = (0, 8),
+            |calls| (calls.calls[1].words, calls.calls[1].has_vector) = (0, 0),
+            |calls| calls.calls[1].kind = 2,
             |calls| calls.calls[1].area = u32::MAX,
             |calls| calls.calls[1].kind = 8,
             |calls| calls.calls[1].has_vector = 2,

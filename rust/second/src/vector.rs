@@ -79,11 +79,13 @@ numbers! {
 }
 
 /// Vector types V (Tables 32, 33 and 35, S8.7.7).
+pub const SECURE: u32 = 0;
 pub const SHORT_INSTRUCTION: u32 = 1;
 pub const SHORT_MESSAGE: u32 = 2;
 pub const STANDARD_NUMERIC: u32 = 3;
 pub const SPECIAL_NUMERIC: u32 = 4;
 pub const ALPHANUMERIC: u32 = 5;
+pub const HEX_BINARY: u32 = 6;
 pub const NUMBERED_NUMERIC: u32 = 7;
 
 /// Table 31: K and n of a numeric vector; Table 36: n of the others; b in both.

@@ -45,7 +45,7 @@ module _ (row : List Call) (memory : List ℕ) (i : ℕ) where
   incomplete-few within =
       omega (arith, those-most (λ (c : Call). not (isComplete c memory)) (take i row), length-take-le i row within)
 
-  -- a turn: the call behind those that were asked is listed, unless it is complete
+  -- a turn: the call after those that were asked is listed, unless it is complete
   pub incomplete-turn : (count : ℕ) → length row ≤ count → i < length row
       → let found = listed count (incompleteIn (take i row) memory) in
       pick (isComplete (getD row i blank) memory) found (added found (getD row i blank)) ≡ listed count (incompleteIn (take (i + 1) row) memory)
@@ -79,12 +79,12 @@ module _ (s : Calls) (memory : List ℕ) where
   end-unsound bad = rw bad
 
   module _ (right : sound (opens s) ≡ true) where
-    -- 1: the memory is too short,
+    -- 1: the memory is too short
     pub end-short : length memory < memorySize → endOf s memory ≡ refused Room
     unfolding endOf
     end-short few = rw (right, lt-ltb (length memory) memorySize few)
 
-    -- or nothing is refused
+    -- where it is long enough nothing is refused
     pub end-good : memorySize ≤ length memory → endOf s memory ≡ given []
     unfolding endOf
     end-good room = rw (right, le-ltb (length memory) memorySize room)

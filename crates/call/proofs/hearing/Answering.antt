@@ -20,9 +20,9 @@ use Rattle.packet.specs.Vectors.{vectorOf, isVector, vectorRead}
 use Rattle.call.specs.declared.Call.{Call}
 use Rattle.call.specs.declared.Calls.{Calls}
 use Rattle.call.specs.declared.CallHearing.{CallHearing}
-use Rattle.call.specs.Calls.{blank, opens, hasVector, sound}
+use Rattle.call.specs.Calls.{blank, opens, hasVector, bringsWords, sound}
 use Rattle.call.specs.Words.{lacking, placeOf, givenTo, finished, isHeld, isLacked}
-use Rattle.call.specs.Steps.{bringsWords, vectorFits, changed, removed}
+use Rattle.call.specs.Steps.{vectorFits, changed, removed}
 use Rattle.call.specs.Answers.{messageIn, isShort, vectorTold, wordTold, vectorPlace, isForVector, vectorCall, hearOf, heardIn, memoryAfter, asHearing}
 use Rattle.call.proofs.Rows.{opens-most}
 use Rattle.call.proofs.Laws.{vector-fits, no-words}
@@ -47,61 +47,61 @@ module _ (s : Calls) (memory : List ℕ) (m : Message) where
   told-of-none : isHeld (opens s) m ≡ false → wordTold s memory m ≡ refused refusals.NoCall
   told-of-none none = rw none
 
-  -- .. of one that all have
+  -- what is told of a word that all have that hold its place
   told-had : isHeld (opens s) m ≡ true → isLacked (opens s) m memory ≡ false → wordTold s memory m ≡ refused refusals.OutOfTurn
   told-had held had = rw (held, had)
 
-  -- .. without room, and of one that is taken
+  -- what is told of a word that a call lacks, without room and with it
   told-given : (short : Bool) → isHeld (opens s) m ≡ true → isLacked (opens s) m memory ≡ true → isShort memory ≡ short → wordTold s memory m ≡ ask short refusals.Room (given (0 ∷ 0 ∷ 0 ∷ 0 ∷ finished (opens s) m memory ∷ []))
   told-given short held lacked room = rw (held, lacked, room)
 
-  -- of no call: 17
+  -- a word of no call: 17
   pub word-of-none : isHeld (opens s) m ≡ false → Does (asHearing (refused refusals.NoCall) s) memory (wordTold s memory m) s (wordMemory s memory m)
   word-of-none none = (rw none, rw none)
 
   module _ (held : isHeld (opens s) m ≡ true) where
-    -- that all have: 14
+    -- a word that every call has that holds its place: 14
     pub word-again : isLacked (opens s) m memory ≡ false → Does (asHearing (refused refusals.OutOfTurn) s) memory (wordTold s memory m) s (wordMemory s memory m)
     word-again had = (rw (held, had), rw (held, had))
 
-    -- without room: 1
+    -- a word that a call lacks, without room: 1
     pub word-no-room : isLacked (opens s) m memory ≡ true → isShort memory ≡ true → Does (asHearing (refused refusals.Room) s) memory (wordTold s memory m) s (wordMemory s memory m)
     word-no-room lacked short = (rw (held, lacked, short), rw (held, lacked, short))
 
-    -- and one that is taken
+    -- a word that is taken
     pub word-taken : isLacked (opens s) m memory ≡ true → isShort memory ≡ false → Does (asHearing (given (0 ∷ 0 ∷ 0 ∷ 0 ∷ finished (opens s) m memory ∷ [])) s) (givenTo (opens s) m memory) (wordTold s memory m) s (wordMemory s memory m)
     word-taken lacked room = (rw (held, lacked, room), rw (held, lacked, room))
 
 -- ---- a vector
 
 module _ (s : Calls) (memory : List ℕ) (place : ℕ) (v : Vector) where
-  -- what is told to a call that has one
+  -- what is told of a second vector, for a call that has one
   told-again : hasVector (callAt s memory place v) ≡ true → vectorTold s memory place (callAt s memory place v) v ≡ refused refusals.OutOfTurn
   told-again has = rw has
 
-  -- .. of a span that does not fit
+  -- what is told of a vector whose span does not fit
   told-bad : hasVector (callAt s memory place v) ≡ false → vectorFits (callAt s memory place v) v ≡ false → vectorTold s memory place (callAt s memory place v) v ≡ refused refusals.Size
   told-bad none bad = rw (none, bad)
 
-  -- .. without room, and of one that is taken
+  -- what is told of a vector whose span fits, without room and with it
   told-fitting : (short : Bool) → hasVector (callAt s memory place v) ≡ false → vectorFits (callAt s memory place v) v ≡ true → isShort memory ≡ short
       → vectorTold s memory place (callAt s memory place v) v ≡ ask short refusals.Room (given (1 ∷ place ∷ v .kind ∷ v .span .check ∷ pick (bringsWords (v .kind)) 0 (2 ^ place) ∷ []))
   told-fitting short none good room = rw (none, good, room)
 
-  -- for a call that has one: 14
+  -- a second vector, for a call that has one: 14
   pub vector-again : hasVector (callAt s memory place v) ≡ true → Does (asHearing (refused refusals.OutOfTurn) s) memory (vectorTold s memory place (callAt s memory place v) v) (vectorCalls s memory place v) (vectorMemory s memory place v)
   vector-again has = (rw has, rw has)
 
   module _ (none : hasVector (callAt s memory place v) ≡ false) where
-    -- whose span does not fit: 9, and the call is closed
+    -- a vector whose span does not fit: 9, and the call is closed
     pub vector-bad : vectorFits (callAt s memory place v) v ≡ false → Does (asHearing (refused refusals.Size) (removed s place)) memory (vectorTold s memory place (callAt s memory place v) v) (vectorCalls s memory place v) (vectorMemory s memory place v)
     vector-bad bad = (rw (none, bad), rw (none, bad))
 
-    -- without room: 1
+    -- a vector whose span fits, without room: 1
     pub vector-no-room : vectorFits (callAt s memory place v) v ≡ true → isShort memory ≡ true → Does (asHearing (refused refusals.Room) s) memory (vectorTold s memory place (callAt s memory place v) v) (vectorCalls s memory place v) (vectorMemory s memory place v)
     vector-no-room good short = (rw (none, good, short), rw (none, good, short))
 
-    -- and one that is taken
+    -- a vector that is taken
     pub vector-taken : vectorFits (callAt s memory place v) v ≡ true → isShort memory ≡ false
         → Does (asHearing (given (1 ∷ place ∷ v .kind ∷ v .span .check ∷ pick (bringsWords (v .kind)) 0 (2 ^ place) ∷ [])) (changed s place (givenAt s memory place v))) (put memory (placeOf (givenAt s memory place v)) (replicate (givenAt s memory place v .words) lacking)) (vectorTold s memory place (callAt s memory place v) v) (vectorCalls s memory place v) (vectorMemory s memory place v)
     vector-taken good room = (rw (none, good, room), rw (none, good, room))
@@ -137,7 +137,7 @@ module _ (s : Calls) (memory : List ℕ) (n : ℕ) where
     hear-foreign foreign = (rw (right, foreign), rw (right, foreign))
 
     module _ (kind : isVector n ≡ true) where
-      -- marked in error: 10
+      -- a packet that is marked in error: 10
       pub hear-damaged : eqb (messageIn n .damaged) 0 ≡ false → Does (asHearing (refused refusals.Damaged) s) memory (hearOf s memory n) (heardIn s memory n) (memoryAfter s memory n)
       unfolding hearOf heardIn memoryAfter
       hear-damaged marked = (rw (right, kind, marked), rw (right, kind, marked))
@@ -168,7 +168,7 @@ module _ (s : Calls) (memory : List ℕ) (n : ℕ) where
             (decided (vectorFits (vectorCall s n) (vectorOf n))))
             (decided (hasVector (vectorCall s n)))
 
-        -- or a message word
+        -- a packet that is no call's vector is taken as a message word
         pub hear-word : isForVector s n ≡ false → Does (asHearing (wordTold s memory (messageIn n)) s) (wordMemory s memory (messageIn n)) (hearOf s memory n) (heardIn s memory n) (memoryAfter s memory n)
         unfolding hearOf heardIn memoryAfter
         hear-word is =

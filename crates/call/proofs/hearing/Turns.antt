@@ -22,7 +22,7 @@ clear-turn memory place words i a some within =
     let next : place + (i + 1) ≡ suc (place + i) = omega arith in
     rw (left, next) (put-next memory (replicate (words - (i + 1)) a) (place + i) a within)
 
--- .. and none left
+-- a row of one number, nothing of it left to write
 pub clear-done : (memory : List ℕ) (place words i a : ℕ) → words ≤ i → memory ≡ put memory (place + i) (replicate (words - i) a)
 clear-done memory place words i a done =
     let left : words - i ≡ 0 = omega arith in

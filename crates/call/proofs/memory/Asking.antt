@@ -18,11 +18,11 @@ use Rattle.call.specs.Words.{isComplete, position, holdsWord, wordPlace,
 use Rattle.call.proofs.MemoryLaws.{given-from, finished-from, finished-small}
 use Rattle.call.proofs.Spans.{numbers-length, numbers-none}
 
--- a second test that holds asks nothing more,
+-- a second test that holds asks nothing more
 asks-no-more : (a b x y : Bool) → b ≡ true → x ≡ y → (a && b && x) ≡ (a && y)
 asks-no-more a b x y holding same = rw (holding, same, and-true a)
 
--- and one that fails decides
+-- a second test that fails decides
 decides : (a b x y : Bool) → b ≡ false → y ≡ false → (a && b && x) ≡ (a && y)
 decides a b x y failing none = rw (failing, none, and-false a)
 
@@ -47,13 +47,13 @@ module _ (c : Call) (m : Message) where
     taken lacked = (rw lacked, rw lacked)
 
 module _ (row : List Call) (m : Message) (memory : List ℕ) (i : ℕ) where
-  -- a turn: the word is offered to the call before those that it was offered to,
+  -- a turn: the word is offered to the call before those that it was offered to
   pub given-turn : 0 < i → i ≤ length row → offered (getD row (i - 1) blank) m (givenTo (drop i row) m memory) ≡ givenTo (drop (i - 1) row) m memory
   given-turn some within =
       let next : i - 1 + 1 ≡ i = omega arith in
       sym (rw next at (given-from m row (i - 1) memory (omega arith)))
 
-  -- and what it completes is a bit below those
+  -- a turn: what the word completes is a bit below those of the later calls
   pub finished-turn : 0 < i → i ≤ length row → finished (drop i row) m memory * 2 + bitOf (completes (getD row (i - 1) blank) m (givenTo (drop i row) m memory)) ≡ finished (drop (i - 1) row) m memory
   finished-turn some within =
       let next : i - 1 + 1 ≡ i = omega arith in

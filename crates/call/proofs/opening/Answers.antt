@@ -23,16 +23,16 @@ use Rattle.call.specs.OpeningPieces.{openingCalls}
 -- ---- an address that is to open a call
 
 module _ (s : Calls) (a : Address) where
-  -- 14: its key has an open call,
+  -- 14: its key has an open call
   pub key-again : find (a .phase) (a .vector) (opens s) < length (opens s) → asOpening (refused refusals.OutOfTurn) s ≡ asOpening (openingOf s a) (openingCalls s a)
   key-again there = rw (lt-ltb (find (a .phase) (a .vector) (opens s)) (length (opens s)) there)
 
   module _ (alone : length (opens s) ≤ find (a .phase) (a .vector) (opens s)) where
-    -- 12: no call is free,
+    -- 12: no call is free
     pub no-call-free : length (s .calls) ≤ length (opens s) → asOpening (refused refusals.Full) s ≡ asOpening (openingOf s a) (openingCalls s a)
     no-call-free none = rw (le-ltb (find (a .phase) (a .vector) (opens s)) (length (opens s)) alone, le-leb (length (s .calls)) (length (opens s)) none)
 
-    -- or it opens one
+    -- an address of a new key opens a call where one is free
     pub opens-one : length (opens s) < length (s .calls) → asOpening (given (telling 1 (length (opens s)) a)) (added s (callOf a)) ≡ asOpening (openingOf s a) (openingCalls s a)
     opens-one free = rw (le-ltb (find (a .phase) (a .vector) (opens s)) (length (opens s)) alone, lt-leb (length (s .calls)) (length (opens s)) free)
 
@@ -87,11 +87,11 @@ module _ (s : Calls) (n : ℕ) where
       by-tone : (tone : Bool) → eqb (addressIn n .«tone_only») 1 ≡ tone → openOf s n ≡ pick tone (given (telling 0 0 (addressIn n))) (openingOf s (addressIn n))
       by-tone tone is = rw (by-read, eq-eqb (addressRead n .number) 0 none) (ap (λ (b : Bool). pick b (given (telling 0 0 (addressIn n))) (openingOf s (addressIn n))) is)
 
-      -- a tone-only address opens no call,
+      -- a tone-only address opens no call
       pub tone-only : addressIn n .«tone_only» ≡ 1 → asOpening (given (telling 0 0 (addressIn n))) s ≡ asOpening (openOf s n) (openedIn s n)
       tone-only tone = told-so _ (by-tone true (eq-eqb (addressIn n .«tone_only») 1 tone))
 
-      -- any other is to open one
+      -- any other address is to open one
       pub goes-on : (addressIn n .«tone_only» ≡ 1 → ⊥) → asOpening (openingOf s (addressIn n)) (openingCalls s (addressIn n)) ≡ asOpening (openOf s n) (openedIn s n)
       goes-on speaks =
           ap (λ (opened : Bool). asOpening (openingOf s (addressIn n)) (pick opened (added s (callOf (addressIn n))) s)) (sym (opened-not-refused s (addressIn n)))

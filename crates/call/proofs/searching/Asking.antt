@@ -17,42 +17,42 @@ use Rattle.call.proofs.Records.{sound-from}
 pub open-again : (row : List Call) (size count : ℕ) → count ≡ length (take size row) → take count row ≡ take size row
 open-again row size count is = ap (λ (n : ℕ). take n row) (is ∙ length-take size row) ∙ take-min size row
 
--- a call whose key is met again spoils the row,
+-- a call whose key is met again spoils the row
 spoils : (good met rest : Bool) → met ≡ true → (good && not met && rest) ≡ false
 spoils true met rest again = rw again
 spoils false met rest again = refl
 
--- .. and one within its limits whose key is not leaves the answer to the rest
+-- a call within its limits whose key is not met again leaves the answer to the rest
 leaves : (good met rest : Bool) → good ≡ true → met ≡ false → (good && not met && rest) ≡ rest
 leaves good met rest sane alone = rw (sane, alone)
 
--- a call at its place in the row, and its key behind it
+-- a call at its place in the row, and the later ones
 module _ (row : List Call) (place : ℕ) (c : Call) (is : getD row place blank ≡ c) (within : place < length row) where
-  abbrev behind : List Call
-  behind = drop (place + 1) row
+  abbrev later : List Call
+  later = drop (place + 1) row
 
-  -- the call, and those behind it
-  call-first : sound (drop place row) ≡ (inLimits c && not (holds (c .phase) (c .vector) behind) && sound behind)
+  -- the row from the call on: the call, and the later ones
+  call-first : sound (drop place row) ≡ (inLimits c && not (holds (c .phase) (c .vector) later) && sound later)
   call-first = rw (← is) (sound-from row place within)
 
-  pub call-then : drop place row ≡ c ∷ behind
+  pub call-then : drop place row ≡ c ∷ later
   call-then = rw (← is, add-one place) (drop-cons row place blank within)
 
   -- a call that is not within its limits: the row is not sound
   pub unsound : inLimits c ≡ false → sound (drop place row) ≡ false
   unsound bad = rw (call-first, bad)
 
-  -- .. nor where its key has a call behind it
-  pub twice : holds (c .phase) (c .vector) behind ≡ true → sound (drop place row) ≡ false
+  -- a call whose key has a later call: the row is not sound
+  pub twice : holds (c .phase) (c .vector) later ≡ true → sound (drop place row) ≡ false
   twice met =
-      rw call-first (spoils (inLimits c) (holds (c .phase) (c .vector) behind) (sound behind) met)
+      rw call-first (spoils (inLimits c) (holds (c .phase) (c .vector) later) (sound later) met)
 
-  -- where it has none, the row is sound if those behind it are
-  pub alone : inLimits c ≡ true → holds (c .phase) (c .vector) behind ≡ false → sound (drop place row) ≡ sound behind
+  -- where its key has none, the row is sound if the later ones are
+  pub alone : inLimits c ≡ true → holds (c .phase) (c .vector) later ≡ false → sound (drop place row) ≡ sound later
   alone good none =
-      rw call-first (leaves (inLimits c) (holds (c .phase) (c .vector) behind) (sound behind) good none)
+      rw call-first (leaves (inLimits c) (holds (c .phase) (c .vector) later) (sound later) good none)
 
--- a part of a sound row is sound,
+-- a part of a sound row is sound
 sound-part : (row : List Call) (k : ℕ) → sound row ≡ true → sound (drop k row) ≡ true
 unfolding sound
 sound-part row zero good = good
@@ -60,7 +60,7 @@ sound-part [] (suc k) good = refl
 sound-part (c ∷ row) (suc k) good =
     sound-part row k (second-of (inLimits c && not (holds (c .phase) (c .vector) row)) (sound row) good)
 
--- .. so that a part that is not spoils the row
+-- a part that is not sound spoils the row
 pub spoiled : (row : List Call) (k : ℕ) → sound (drop k row) ≡ false → sound row ≡ false
 spoiled row k bad =
     ⊎-elim

@@ -39,12 +39,12 @@ lone-bit k j apart =
     (eq-or-lt-of-le (ltb-false j k above)))
     (decided (ltb j k))
 
--- a bit that is put into a number is there,
+-- a bit that is put into a number is there
 with-bit : (m k : ℕ) → bitOr m (2 ^ k) / 2 ^ k % 2 ≡ 1
 with-bit m k =
     rw (or-shr m (2 ^ k) k, div-self (pow-pos k)) (last-bit (m / 2 ^ k) 1 ∙ omega arith)
 
--- .. and the others are as they were
+-- a bit that is put into a number leaves the others as they were
 other-bit : (m k j : ℕ) → j ≢ k → bitOr m (2 ^ k) / 2 ^ j % 2 ≡ m / 2 ^ j % 2
 other-bit m k j apart =
     rw (or-shr m (2 ^ k) j) (last-bit (m / 2 ^ j) (2 ^ k / 2 ^ j) ∙ rw (lone-bit k j apart) (max-zero (m / 2 ^ j % 2)))
@@ -59,18 +59,18 @@ markOf marks key = getD marks (key / 64) 0 / 2 ^ (key % 64) % 2
 abbrev pub withMark : List ℕ → ℕ → List ℕ
 withMark marks key = set marks (key / 64) (bitOr (getD marks (key / 64) 0) (1 * 2 ^ (key % 64) % 2 ^ 64))
 
--- .. its bit is one of 64
+-- the bit of a key is one of 64
 its-bit : (key : ℕ) → 1 * 2 ^ (key % 64) % 2 ^ 64 ≡ 2 ^ (key % 64)
 its-bit key = shl-exact {a = 1} 1 (key % 64) 64 (omega arith) (omega arith) ∙ one-mul (2 ^ (key % 64))
 
 module _ (marks : List ℕ) (key : ℕ) (within : key / 64 < length marks) where
-  -- the key is marked,
+  -- the key is marked
   marks-key : markOf (withMark marks key) key ≡ 1
   marks-key =
       rw (its-bit key, getD-set-same marks (key / 64) (bitOr (getD marks (key / 64) 0) (2 ^ (key % 64))) 0 within)
       (with-bit (getD marks (key / 64) 0) (key % 64))
 
-  -- .. and no other
+  -- no other key is marked
   marks-no-other : (other : ℕ) → other ≢ key → markOf (withMark marks key) other ≡ markOf marks other
   marks-no-other other apart =
       ⊎-elim

@@ -445,6 +445,30 @@ const STATES: &[Case] = &[
     ("a vector over 87", |seen| {
         seen.unsound_by(|call| call.vector > 87)
     }),
+    (
+        "a record of no words, of a vector that brings some",
+        |seen| seen.unsound_by(without_its_words),
+    ),
+    ("a record of no words, and no other fault", |seen| {
+        let mut mended = *seen.before;
+        let without = mended.calls.iter_mut();
+        for call in without.filter(|call| without_its_words(call)) {
+            call.kind = 2;
+        }
+        seen.refused(2) && mended.is_sound()
+    }),
+    ("sound, a record of no words", |seen| {
+        seen.accepted_with(|call| call.has_vector() && call.words == 0)
+    }),
+    ("sound, words of a vector that brings none", |seen| {
+        seen.accepted_with(|call| seen_span(call) && !brings_words(call.kind))
+    }),
+    ("no sound words, of a vector that brings none", |seen| {
+        seen.unsound_by(|call| {
+            let is_seen = seen_span(call) && call.vector <= 87;
+            is_seen && !brings_words(call.kind) && !call.is_span(call.words, call.start)
+        })
+    }),
     ("two of one key", |seen| {
         seen.refused(2) && has_two_of_one_key_by(seen.open(), |_| true)
     }),
@@ -894,6 +918,11 @@ impl Seen<'_> {
 /// Whether the span of a record is looked at, and its number of words is right.
 fn seen_span(call: &Call) -> bool {
     call.has_vector() && (1..=MOST_WORDS as u32).contains(&call.words)
+}
+
+/// Whether its vector came and brings words, but it has none.
+fn without_its_words(call: &Call) -> bool {
+    call.has_vector() && call.words == 0 && brings_words(call.kind)
 }
 
 fn past_last(start: u32, words: u32) -> bool {

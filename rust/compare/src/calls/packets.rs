@@ -71,9 +71,9 @@ pub fn is_numeric(kind: u32) -> bool {
 }
 
 /// Whether words come with a vector of the type: all but short instructions and
-/// short messages.
+/// short messages. What is over 7 is no type.
 pub fn brings_words(kind: u32) -> bool {
-    !matches!(kind, 1 | 2)
+    matches!(kind, 0 | 3..=7)
 }
 
 pub fn message(phase: u32, word: u32, bits: u32) -> u32 {

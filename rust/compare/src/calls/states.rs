@@ -124,23 +124,27 @@ pub fn any_call(random: &mut Random) -> Call {
     call
 }
 
-/// As if its vector had come, in any area.
+/// As if its vector had come, in any area. It brought no words where none fit, and
+/// now and then where some would; a vector of any type names some.
 fn give_span(random: &mut Random, call: &mut Call) {
     call.has_vector = random.choose(&[1, 1, 1, 2]);
-    call.kind = random.below(8) as u32;
     call.check = random.below(16) as u32;
     call.area = random.below(8) as u32;
-    (call.words, call.start) = any_span(random, call);
+    let none_fit = u64::from(call.vector) + 1 > LAST_WORD;
+    if none_fit || random.once_in(8) {
+        call.kind = random.choose(&[1, 2]);
+        call.words = 0;
+        call.start = random.below(128) as u32;
+    } else {
+        call.kind = random.below(8) as u32;
+        (call.words, call.start) = any_span(random, call);
+    }
 }
 
-/// Words and b within the limits; no words where none fit, and now and then where
-/// some would.
+/// Words and b within the limits, where some are.
 fn any_span(random: &mut Random, call: &Call) -> (u32, u32) {
     let is_long = u64::from(call.is_long());
     let last_before = u64::from(call.vector) + is_long;
-    if last_before + 1 - is_long > LAST_WORD || random.once_in(8) {
-        return (0, random.below(128) as u32);
-    }
     let most = (LAST_WORD - last_before + is_long).min(MOST_WORDS as u64);
     let words = match random.below(4) {
         0 => random.between(1, most),
@@ -154,11 +158,12 @@ fn any_span(random: &mut Random, call: &Call) -> (u32, u32) {
     (words as u32, start as u32)
 }
 
-/// Its vector came, and its span is just outside of a limit, mostly.
+/// Its vector came, and its span is just outside of a limit, mostly; or it has no
+/// words, though its vector brings some.
 fn break_span(random: &mut Random, call: &mut Call) {
     give_span(random, call);
     let limit = call.vector + u32::from(call.is_long());
-    match random.below(7) {
+    match random.below(8) {
         0 => call.words = random.choose(&[86, 87, 1 << 31, u32::MAX]),
         1 => {
             call.words = call.words.max(2);
@@ -176,6 +181,10 @@ fn break_span(random: &mut Random, call: &mut Call) {
         4 => {
             call.words = call.words.max(2);
             call.start = random.choose(&[88, 127, 1 << 31, u32::MAX - 1, u32::MAX]);
+        }
+        5 => {
+            call.kind = random.choose(&[0, 3, 4, 5, 6, 7]);
+            call.words = 0;
         }
         _ => {
             call.long_address = 1;

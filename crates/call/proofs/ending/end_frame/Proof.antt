@@ -25,7 +25,7 @@ abbrev ended : Calls → Calls → FrameEnd
 ended missed calls = record { number = 0; incomplete = missed; calls = calls }
 
 -- the records are sound
-right : (c : tie.Else1) → sound (opens (c .before .before .before .before .args .calls)) ≡ true
+right : (c : tie.Else1) → let start = c .before .before .before .before in sound (opens (start .args .calls)) ≡ true
 right c = sym (c .before .sound .ensures) ∙ not-false (c .before .sound .result) (c .if1 .left)
 
 fresh-requires : tie.Need-fresh-requires

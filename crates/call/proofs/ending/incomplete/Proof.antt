@@ -56,7 +56,7 @@ is-complete-requires : tie.Need-is-complete-requires Inv-loop μ-loop
 is-complete-requires c κs = search needs
 
 -- the list has a place for one call more
-free : (c : tie.Then1 Inv-loop μ-loop) → c .before .before .before .before .loop .size < 8
+free : (c : tie.Then1 Inv-loop μ-loop) → let turn = c .before .before .before in turn .before .loop .size < 8
 free c =
     let turn = c .before .before .before in
     let count = turn .before .before in

@@ -11,9 +11,9 @@ use Rattle.packet.specs.declared.vectors.Vector.{Vector}
 use Rattle.packet.specs.Vectors.{vectorOf}
 use Rattle.call.specs.declared.Call.{Call}
 use Rattle.call.specs.declared.CallHearing.{CallHearing}
-use Rattle.call.specs.Calls.{blank, opens, hasVector}
+use Rattle.call.specs.Calls.{blank, opens, hasVector, bringsWords}
 use Rattle.call.specs.Words.{lacking, placeOf}
-use Rattle.call.specs.Steps.{bringsWords, vectorFits, withVector, nextArea, changed}
+use Rattle.call.specs.Steps.{vectorFits, withVector, nextArea, changed}
 use Rattle.call.proofs.Rows.{opens-most}
 use Rattle.call.specs.HearingPieces.{refusing, hearingOf}
 use Rattle.call.proofs.hearing.Answering.{refusal-turn, vector-again, vector-bad, vector-no-room, vector-taken, fitting-words, read-as, open-at}
@@ -79,16 +79,19 @@ unheard-requires-2 c κs = search needs
 
 returns-2 : tie.Need-returns-2
 returns-2 c =
-    let start = c .before .before .before .before .before .before .before .before .before .before .before in
+    let fitted = c .before .before .before in
+    let heard = fitted .before .before in
+    let waits = heard .before in
+    let start = waits .before .before .before .before .before in
     let s = start .args .calls in
     let memory = start .args .memory .now in
     let place = start .args .place in
     let call = getD (s .calls) place blank in
     let vector = vectorOf (start .args .packet .bits) in
-    let none = ap hasVector (there start) ∙ ap not (eq-eqb (call .«has_vector») 0 (c .before .before .before .before .before .before .if1 .left)) in
-    let read = read-as (start .args .packet .bits) (c .before .before .before .before .before .read-vector .result) (start .pre .0) (c .before .before .before .before .before .read-vector .ensures) in
-    let asked = c .before .before .before .vector-fits .ensures ∙ ap (vectorFits call) read ∙ ap (λ (c : Call). vectorFits c vector) (sym (there start)) in
-    let done = vector-bad s memory place vector none (sym asked ∙ not-true (c .before .before .before .vector-fits .result) (c .before .before .if2 .taken)) in
+    let none = ap hasVector (there start) ∙ ap not (eq-eqb (call .«has_vector») 0 (waits .if1 .left)) in
+    let read = read-as (start .args .packet .bits) (heard .read-vector .result) (start .pre .0) (heard .read-vector .ensures) in
+    let asked = fitted .vector-fits .ensures ∙ ap (vectorFits call) read ∙ ap (λ (c : Call). vectorFits c vector) (sym (there start)) in
+    let done = vector-bad s memory place vector none (sym asked ∙ not-true (fitted .vector-fits .result) (c .before .before .if2 .taken)) in
     let closes = c .unheard2 .ensures ∙ ap (λ (n : ℕ). refusing n place) (c .before .number2 .ensures) in
     (ap (hearingOf s) closes ∙ done .0, (rw closes (omega (arith, start .pre .1)), done .1))
 
@@ -100,16 +103,21 @@ unheard-requires-3 c κs = search needs
 
 returns-3 : tie.Need-returns-3
 returns-3 c =
-    let start = c .before .before .before .before .before .before .before .before .before .before .before .before in
+    let fitted = c .before .before .before .before in
+    let heard = fitted .before .before in
+    let waits = heard .before in
+    let start = waits .before .before .before .before .before in
     let s = start .args .calls in
     let memory = start .args .memory .now in
     let place = start .args .place in
     let call = getD (s .calls) place blank in
     let vector = vectorOf (start .args .packet .bits) in
-    let none = ap hasVector (there start) ∙ ap not (eq-eqb (call .«has_vector») 0 (c .before .before .before .before .before .before .before .if1 .left)) in
-    let read = read-as (start .args .packet .bits) (c .before .before .before .before .before .before .read-vector .result) (start .pre .0) (c .before .before .before .before .before .before .read-vector .ensures) in
-    let asked = c .before .before .before .before .vector-fits .ensures ∙ ap (vectorFits call) read ∙ ap (λ (c : Call). vectorFits c vector) (sym (there start)) in
-    let done = vector-no-room s memory place vector none (sym asked ∙ not-false (c .before .before .before .before .vector-fits .result) (c .before .before .before .if2 .left)) (lt-ltb (length memory) 680 (c .before .before .if3 .taken)) in
+    let none = ap hasVector (there start) ∙ ap not (eq-eqb (call .«has_vector») 0 (waits .if1 .left)) in
+    let read = read-as (start .args .packet .bits) (heard .read-vector .result) (start .pre .0) (heard .read-vector .ensures) in
+    let asked = fitted .vector-fits .ensures ∙ ap (vectorFits call) read ∙ ap (λ (c : Call). vectorFits c vector) (sym (there start)) in
+    let done = vector-no-room s memory place vector none
+    (sym asked ∙ not-false (fitted .vector-fits .result) (c .before .before .before .if2 .left))
+    (lt-ltb (length memory) 680 (c .before .before .if3 .taken)) in
     let turn = refusal-turn s (c .unheard3 .result) _ 1 (c .unheard3 .ensures ∙ ap (λ (n : ℕ). refusing n 0) (c .before .number3 .ensures)) refl (done .0) in
     (turn .0, (turn .1, done .1))
 
@@ -127,36 +135,52 @@ cast-clear c = search needs
 
 clear-requires : tie.Need-clear-requires
 clear-requires c κs =
-    let start = c .before .before .before .before .before .before .before .before .before .before .before .before .before .before .before in
+    let room = c .before .before .before .before .before in
+    let passed = room .before in
+    let fitted = passed .before in
+    let heard = fitted .before .before in
+    let start = heard .before .before .before .before .before .before in
     let call = getD (start .args .calls .calls) (start .args .place) blank in
-    let read = read-as (start .args .packet .bits) (c .before .before .before .before .before .before .before .before .before .read-vector .result) (start .pre .0) (c .before .before .before .before .before .before .before .before .before .read-vector .ensures) in
-    let words = fitting-words call (start .args .packet .bits) (sym (c .before .before .before .before .before .before .before .vector-fits .ensures ∙ ap (vectorFits call) read) ∙ not-false (c .before .before .before .before .before .before .before .vector-fits .result) (c .before .before .before .before .before .before .if2 .left)) in
+    let read = read-as (start .args .packet .bits) (heard .read-vector .result) (start .pre .0) (heard .read-vector .ensures) in
+    let words = fitting-words call (start .args .packet .bits)
+    (sym (fitted .vector-fits .ensures ∙ ap (vectorFits call) read) ∙ not-false (fitted .vector-fits .result) (passed .if2 .left)) in
     let given = ap (λ (g : Call). g .words) (c .before .before .before .with-vector .ensures) ∙ ap (λ (v : Vector). v .span .words) read in
     let place = c .before .place .ensures in
-    omega (arith, words, given, place, c .before .before .before .before .before .if3 .left)
+    omega (arith, words, given, place, room .if3 .left)
 
 same-length : tie.Need-same-length
 same-length c = search needs
 
 completed-by-requires : tie.Need-completed-by-requires
 completed-by-requires c κs =
-    let less = small (c .before .before .before .before .before .before .before .before .before .before .before .before .before .before .before .before .before .before) in
+    let room = c .before .before .before .before .before .before .before .before in
+    let start = room .before .before .before .before .before .before .before .before .before .before in
+    let less = small start in
     search needs
 
 returns-4 : tie.Need-returns-4
 returns-4 c =
-    let start = c .before .before .before .before .before .before .before .before .before .before .before .before .before .before .before .before .before .before .before in
+    let placed = c .before .before .before .before .before in
+    let made = placed .before .before in
+    let numbered = made .before in
+    let room = numbered .before in
+    let passed = room .before in
+    let fitted = passed .before in
+    let heard = fitted .before .before in
+    let waits = heard .before in
+    let start = waits .before .before .before .before .before in
     let s = start .args .calls in
     let memory = start .args .memory .now in
     let place = start .args .place in
     let call = getD (s .calls) place blank in
     let vector = vectorOf (start .args .packet .bits) in
-    let none = ap hasVector (there start) ∙ ap not (eq-eqb (call .«has_vector») 0 (c .before .before .before .before .before .before .before .before .before .before .before .before .before .before .if1 .left)) in
-    let read = read-as (start .args .packet .bits) (c .before .before .before .before .before .before .before .before .before .before .before .before .before .read-vector .result) (start .pre .0) (c .before .before .before .before .before .before .before .before .before .before .before .before .before .read-vector .ensures) in
-    let asked = c .before .before .before .before .before .before .before .before .before .before .before .vector-fits .ensures ∙ ap (vectorFits call) read ∙ ap (λ (c : Call). vectorFits c vector) (sym (there start)) in
-    let done = vector-taken s memory place vector none (sym asked ∙ not-false (c .before .before .before .before .before .before .before .before .before .before .before .vector-fits .result) (c .before .before .before .before .before .before .before .before .before .before .if2 .left)) (le-ltb (length memory) 680 (c .before .before .before .before .before .before .before .before .before .if3 .left)) in
-    let area = c .before .before .before .before .before .before .before .before .next-area in
-    let given = c .before .before .before .before .before .before .before .with-vector in
+    let none = ap hasVector (there start) ∙ ap not (eq-eqb (call .«has_vector») 0 (waits .if1 .left)) in
+    let read = read-as (start .args .packet .bits) (heard .read-vector .result) (start .pre .0) (heard .read-vector .ensures) in
+    let asked = fitted .vector-fits .ensures ∙ ap (vectorFits call) read ∙ ap (λ (c : Call). vectorFits c vector) (sym (there start)) in
+    let done = vector-taken s memory place vector none (sym asked ∙ not-false (fitted .vector-fits .result) (passed .if2 .left))
+    (le-ltb (length memory) 680 (room .if3 .left)) in
+    let area = numbered .next-area in
+    let given = made .with-vector in
     let is = given .ensures
     ∙ ap (λ (v : Vector). withVector call v (area .result)) read
     ∙ ap (withVector call vector) (area .ensures)
@@ -167,7 +191,7 @@ returns-4 c =
       (
         omega (arith, start .pre .1),
         c .before .before .before .clear .ensures
-            ∙ ap (λ (at : ℕ). put memory at (replicate (given .result .words) lacking)) (c .before .before .before .before .before .place .ensures)
+            ∙ ap (λ (at : ℕ). put memory at (replicate (given .result .words) lacking)) (placed .place .ensures)
             ∙ ap (λ (g : Call). put memory (placeOf g) (replicate (g .words) lacking)) is
             ∙ done .1,
       ),

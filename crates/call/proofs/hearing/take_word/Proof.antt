@@ -29,14 +29,17 @@ asked : (c : tie.After-ask) → Answers c (c .ask .result .held) (c .ask .result
 asked c =
     (sym (ap (λ (a : Asked). a .held) (c .ask .ensures)), sym (ap (λ (a : Asked). a .lacked) (c .ask .ensures)))
 
--- some call holds it
-held : (c : tie.Else1) → isHeld (opens (c .before .before .before .before .before .args .calls)) (c .before .before .before .before .before .args .message) ≡ true
+-- some call's span holds the word
+held : (c : tie.Else1) → let start = c .before .before .before .before .before in isHeld (opens (start .args .calls)) (start .args .message) ≡ true
 held c = asked (c .before .before) .0 ∙ not-false (c .before .before .ask .result .held) (c .if1 .left)
 
--- and some call lacks it
-lacked : (c : tie.Else2) → isLacked (opens (c .before .before .before .before .before .before .before .args .calls)) (c .before .before .before .before .before .before .before .args .message) (c .before .before .before .before .before .before .before .args .memory .now) ≡ true
+-- some call lacks the word
+lacked : (c : tie.Else2)
+    → let start = c .before .before .before .before .before .before .before in
+    isLacked (opens (start .args .calls)) (start .args .message) (start .args .memory .now) ≡ true
 lacked c =
-    asked (c .before .before .before .before) .1 ∙ not-false (c .before .before .before .before .ask .result .lacked) (c .if2 .left)
+    let found = c .before .before .before .before in
+    asked found .1 ∙ not-false (found .ask .result .lacked) (c .if2 .left)
 
 ask-requires : tie.Need-ask-requires
 ask-requires c κs = search needs
@@ -52,8 +55,10 @@ same-length c = search needs
 
 returns : tie.Need-returns
 returns c =
-    let start = c .before .before .before .before .before .before .before in
-    let done = word-of-none (start .args .calls) (start .args .memory .now) (start .args .message) (asked (c .before .before .before .before) .0 ∙ not-true (c .before .before .before .before .ask .result .held) (c .before .before .if1 .taken)) in
+    let found = c .before .before .before .before in
+    let start = found .before .before .before in
+    let done = word-of-none (start .args .calls) (start .args .memory .now) (start .args .message)
+    (asked found .0 ∙ not-true (found .ask .result .held) (c .before .before .if1 .taken)) in
     let turn = refusal-turn (start .args .calls) (c .unheard .result) _ 17 (c .unheard .ensures ∙ ap (λ (n : ℕ). refusing n 0) (c .before .number .ensures)) refl (done .0) in
     (turn .0, (turn .1, done .1))
 
@@ -68,8 +73,11 @@ same-length-2 c = search needs
 
 returns-2 : tie.Need-returns-2
 returns-2 c =
-    let start = c .before .before .before .before .before .before .before .before .before in
-    let done = word-again (start .args .calls) (start .args .memory .now) (start .args .message) (held (c .before .before .before .before)) (asked (c .before .before .before .before .before .before) .1 ∙ not-true (c .before .before .before .before .before .before .ask .result .lacked) (c .before .before .if2 .taken)) in
+    let holding = c .before .before .before .before in
+    let found = holding .before .before in
+    let start = found .before .before .before in
+    let done = word-again (start .args .calls) (start .args .memory .now) (start .args .message) (held holding)
+    (asked found .1 ∙ not-true (found .ask .result .lacked) (c .before .before .if2 .taken)) in
     let turn = refusal-turn (start .args .calls) (c .unheard2 .result) _ 14 (c .unheard2 .ensures ∙ ap (λ (n : ℕ). refusing n 0) (c .before .number2 .ensures)) refl (done .0) in
     (turn .0, (turn .1, done .1))
 
@@ -84,8 +92,11 @@ same-length-3 c = search needs
 
 returns-3 : tie.Need-returns-3
 returns-3 c =
-    let start = c .before .before .before .before .before .before .before .before .before .before in
-    let done = word-no-room (start .args .calls) (start .args .memory .now) (start .args .message) (held (c .before .before .before .before .before)) (lacked (c .before .before .before)) (lt-ltb (length (start .args .memory .now)) 680 (c .before .before .if3 .taken)) in
+    let wanting = c .before .before .before in
+    let holding = wanting .before .before in
+    let start = holding .before .before .before .before .before in
+    let done = word-no-room (start .args .calls) (start .args .memory .now) (start .args .message) (held holding) (lacked wanting)
+    (lt-ltb (length (start .args .memory .now)) 680 (c .before .before .if3 .taken)) in
     let turn = refusal-turn (start .args .calls) (c .unheard3 .result) _ 1 (c .unheard3 .ensures ∙ ap (λ (n : ℕ). refusing n 0) (c .before .number3 .ensures)) refl (done .0) in
     (turn .0, (turn .1, done .1))
 
@@ -97,8 +108,12 @@ same-length-4 c = search needs
 
 returns-4 : tie.Need-returns-4
 returns-4 c =
-    let start = c .before .before .before .before .before .before .before .before .before .before .before .before in
-    let done = word-taken (start .args .calls) (start .args .memory .now) (start .args .message) (held (c .before .before .before .before .before .before .before)) (lacked (c .before .before .before .before .before)) (le-ltb (length (start .args .memory .now)) 680 (c .before .before .before .before .if3 .left)) in
+    let room = c .before .before .before .before in
+    let wanting = room .before in
+    let holding = wanting .before .before in
+    let start = holding .before .before .before .before .before in
+    let done = word-taken (start .args .calls) (start .args .memory .now) (start .args .message) (held holding) (lacked wanting)
+    (le-ltb (length (start .args .memory .now)) 680 (room .if3 .left)) in
     (ap (λ (n : ℕ). hearingOf (start .args .calls) (giving n)) (c .before .before .give .ensures .0) ∙ done .0, (omega arith, c .before .before .give .ensures .1 ∙ done .1))
 
 pub take-word-spec : {M : Type 1} → statement M

@@ -21,18 +21,26 @@ right : (c : tie.Else1) → sound (opens (c .before .before .before .args .calls
 right c = sym (c .before .sound .ensures) ∙ not-false (c .before .sound .result) (c .if1 .left)
 
 -- the packet is one of 02H to 57H
-kind : (c : tie.Else2) → isVector (c .before .before .before .before .before .args .packet .bits) ≡ true
-kind c = not-false (isVector (c .before .before .before .before .before .args .packet .bits)) (c .if2 .left)
+kind : (c : tie.Else2) → let start = c .before .before .before .before .before in isVector (start .args .packet .bits) ≡ true
+kind c =
+    let start = c .before .before .before .before .before in
+    not-false (isVector (start .args .packet .bits)) (c .if2 .left)
 
--- and not in error
-good : (c : tie.Else3) → eqb (messageIn (c .before .before .before .before .before .before .before .before .args .packet .bits) .damaged) 0 ≡ true
+-- the packet is not marked in error
+good : (c : tie.Else3)
+    → let start = c .before .before .before .before .before .before .before .before in
+    eqb (messageIn (start .args .packet .bits) .damaged) 0 ≡ true
 good c =
-    eq-eqb (messageIn (c .before .before .before .before .before .before .before .before .args .packet .bits) .damaged) 0 (sym (ap (λ (m : Message). m .damaged) (c .before .before .message-of .ensures)) ∙ c .if3 .left)
+    let start = c .before .before .before .before .before .before .before .before in
+    eq-eqb (messageIn (start .args .packet .bits) .damaged) 0 (sym (ap (λ (m : Message). m .damaged) (c .before .before .message-of .ensures)) ∙ c .if3 .left)
 
 -- the place that is looked at is the vector's
-there : (c : tie.After-vector-place) → c .vector-place .result ≡ vectorPlace (c .before .before .before .before .before .before .before .before .before .args .calls) (c .before .before .before .before .before .before .before .before .before .args .packet .bits)
+there : (c : tie.After-vector-place)
+    → let start = c .before .before .before .before .before .before .before .before .before in
+    c .vector-place .result ≡ vectorPlace (start .args .calls) (start .args .packet .bits)
 there c =
-    c .vector-place .ensures ∙ ap (λ (m : Message). find (m .phase) (m .word) (opens (c .before .before .before .before .before .before .before .before .before .args .calls))) (c .before .before .before .message-of .ensures)
+    let start = c .before .before .before .before .before .before .before .before .before in
+    c .vector-place .ensures ∙ ap (λ (m : Message). find (m .phase) (m .word) (opens (start .args .calls))) (c .before .before .before .message-of .ensures)
 
 sound-requires : tie.Need-sound-requires
 sound-requires c κs = search needs
@@ -45,8 +53,10 @@ unheard-requires c κs = search needs
 
 returns : tie.Need-returns
 returns c =
-    let start = c .before .before .before .before .before in
-    let done = hear-unsound (start .args .calls) (start .args .memory .now) (start .args .packet .bits) (sym (c .before .before .before .sound .ensures) ∙ not-true (c .before .before .before .sound .result) (c .before .before .if1 .taken)) in
+    let asked = c .before .before .before in
+    let start = asked .before .before in
+    let done = hear-unsound (start .args .calls) (start .args .memory .now) (start .args .packet .bits)
+    (sym (asked .sound .ensures) ∙ not-true (asked .sound .result) (c .before .before .if1 .taken)) in
     let turn = refusal-turn (start .args .calls) (c .unheard .result) _ 2 (c .unheard .ensures ∙ ap (λ (n : ℕ). refusing n 0) (c .before .number .ensures)) refl (done .0) in
     (turn .0, (turn .1, done .1))
 
@@ -58,8 +68,10 @@ unheard-requires-2 c κs = search needs
 
 returns-2 : tie.Need-returns-2
 returns-2 c =
-    let start = c .before .before .before .before .before .before .before in
-    let done = hear-foreign (start .args .calls) (start .args .memory .now) (start .args .packet .bits) (right (c .before .before .before .before)) (not-true (isVector (start .args .packet .bits)) (c .before .before .if2 .taken)) in
+    let passed = c .before .before .before .before in
+    let start = passed .before .before .before in
+    let done = hear-foreign (start .args .calls) (start .args .memory .now) (start .args .packet .bits) (right passed)
+    (not-true (isVector (start .args .packet .bits)) (c .before .before .if2 .taken)) in
     let turn = refusal-turn (start .args .calls) (c .unheard2 .result) _ 7 (c .unheard2 .ensures ∙ ap (λ (n : ℕ). refusing n 0) (c .before .number2 .ensures)) refl (done .0) in
     (turn .0, (turn .1, done .1))
 
@@ -74,9 +86,13 @@ unheard-requires-3 c κs = search needs
 
 returns-3 : tie.Need-returns-3
 returns-3 c =
-    let start = c .before .before .before .before .before .before .before .before .before .before in
-    let done = hear-damaged (start .args .calls) (start .args .memory .now) (start .args .packet .bits) (right (c .before .before .before .before .before .before .before)) (kind (c .before .before .before .before .before))
-    (ne-eqb (messageIn (start .args .packet .bits) .damaged) 0 (λ none. c .before .before .if3 .taken (ap (λ (m : Message). m .damaged) (c .before .before .before .before .message-of .ensures) ∙ none))) in
+    let read = c .before .before .before .before in
+    let known = read .before in
+    let passed = known .before .before in
+    let start = passed .before .before .before in
+    let done = hear-damaged (start .args .calls) (start .args .memory .now) (start .args .packet .bits) (right passed) (kind known)
+    (ne-eqb (messageIn (start .args .packet .bits) .damaged) 0
+    (λ none. c .before .before .if3 .taken (ap (λ (m : Message). m .damaged) (read .message-of .ensures) ∙ none))) in
     let turn = refusal-turn (start .args .calls) (c .unheard3 .result) _ 10 (c .unheard3 .ensures ∙ ap (λ (n : ℕ). refusing n 0) (c .before .number3 .ensures)) refl (done .0) in
     (turn .0, (turn .1, done .1))
 
@@ -87,20 +103,28 @@ count-requires : tie.Need-count-requires
 count-requires c κs = search needs
 
 take-vector-requires : tie.Need-take-vector-requires
-take-vector-requires c κs = (kind (c .before .before .before .before .before .before .before), omega (arith, c .before .before .count .ensures .0, c .before .if4 .taken))
+take-vector-requires c κs =
+    let known = c .before .before .before .before .before .before .before in
+    (kind known, omega (arith, c .before .before .count .ensures .0, c .before .if4 .taken))
 
 same-length : tie.Need-same-length
 same-length c = search needs
 
 returns-4 : tie.Need-returns-4
 returns-4 c =
-    let start = c .before .before .before .before .before .before .before .before .before .before .before .before .before .before .before in
+    let chosen = c .before .before .before .before in
+    let counted = chosen .before in
+    let looked = counted .before in
+    let whole = looked .before in
+    let known = whole .before .before .before in
+    let passed = known .before .before in
+    let start = passed .before .before .before in
     let s = start .args .calls in
     let memory = start .args .memory .now in
     let bits = start .args .packet .bits in
-    let place = there (c .before .before .before .before .before .before) in
-    let held : vectorPlace s bits < length (opens s) = omega (arith, place, c .before .before .before .before .before .count .ensures .0, c .before .before .before .before .if4 .taken) in
-    let done = hear-vector s memory bits (right (c .before .before .before .before .before .before .before .before .before .before .before .before)) (kind (c .before .before .before .before .before .before .before .before .before .before)) (good (c .before .before .before .before .before .before .before)) (lt-ltb (vectorPlace s bits) (length (opens s)) held) in
+    let place = there looked in
+    let held : vectorPlace s bits < length (opens s) = omega (arith, place, counted .count .ensures .0, chosen .if4 .taken) in
+    let done = hear-vector s memory bits (right passed) (kind known) (good whole) (lt-ltb (vectorPlace s bits) (length (opens s)) held) in
     let turn = c .before .before .take-vector .ensures in (
       turn .0
           ∙ ap (λ (at : ℕ). asHearing (vectorTold s memory at (getD (opens s) at blank) (vectorOf bits)) (vectorCalls s memory at (vectorOf bits))) place
@@ -116,13 +140,20 @@ same-length-2 c = search needs
 
 returns-5 : tie.Need-returns-5
 returns-5 c =
-    let start = c .before .before .before .before .before .before .before .before .before .before .before .before .before .before .before in
+    let chosen = c .before .before .before .before in
+    let counted = chosen .before in
+    let looked = counted .before in
+    let whole = looked .before in
+    let read = whole .before .before in
+    let known = read .before in
+    let passed = known .before .before in
+    let start = passed .before .before .before in
     let s = start .args .calls in
     let memory = start .args .memory .now in
     let bits = start .args .packet .bits in
-    let message = c .before .before .before .before .before .before .before .before .before .message-of .ensures in
-    let none : length (opens s) ≤ vectorPlace s bits = omega (arith, there (c .before .before .before .before .before .before), c .before .before .before .before .before .count .ensures .0, c .before .before .before .before .if4 .left) in
-    let done = hear-word s memory bits (right (c .before .before .before .before .before .before .before .before .before .before .before .before)) (kind (c .before .before .before .before .before .before .before .before .before .before)) (good (c .before .before .before .before .before .before .before)) (le-ltb (vectorPlace s bits) (length (opens s)) none) in
+    let message = read .message-of .ensures in
+    let none : length (opens s) ≤ vectorPlace s bits = omega (arith, there looked, counted .count .ensures .0, chosen .if4 .left) in
+    let done = hear-word s memory bits (right passed) (kind known) (good whole) (le-ltb (vectorPlace s bits) (length (opens s)) none) in
     let turn = c .before .before .take-word .ensures in (
       turn .0 ∙ ap (λ (m : Message). asHearing (wordTold s memory m) s) message ∙ done .0,
       (turn .1 .0, turn .1 .1 ∙ ap (wordMemory s memory) message ∙ done .1),

@@ -12,8 +12,9 @@ cast-result c = search needs
 
 returns : tie.Need-returns
 returns c =
-    let start = c .before .before .before .before .before in
-    rw (c .before .before .before .before .position .ensures .0) (holds-asked (start .args .call) (start .args .message))
+    let located = c .before .before .before .before in
+    let start = located .before in
+    rw (located .position .ensures .0) (holds-asked (start .args .call) (start .args .message))
 
 pub holds-spec : {M : Type 1} → statement M
 holds-spec = tie.close (tie.spec position-requires cast-result returns)

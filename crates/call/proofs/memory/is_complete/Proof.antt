@@ -19,7 +19,8 @@ undamaged-requires c κs = search needs
 
 returns-2 : tie.Need-returns-2
 returns-2 c =
-    let call = c .before .before .before .before .before .args .call in
+    let start = c .before .before .before .before .before in
+    let call = start .args .call in
     rw (ne-eqb (call .«has_vector») 0 (c .before .before .if1 .left)) (c .undamaged .ensures ∙ ap undamaged (c .before .words .ensures))
 
 pub is-complete-spec : {M : Type 1} → statement M

@@ -36,14 +36,18 @@ same-length-2 c = search needs
 
 returns-2 : tie.Need-returns-2
 returns-2 c =
-    let start = c .before .before .before .before .before .before .before .before .before .before .before .before in
+    let kept = c .before .before .before .before in
+    let placed = kept .before in
+    let wanting = placed .before .before in
+    let judged = wanting .before .before in
+    let start = judged .before .before .before in
     let call = start .args .call in
     let message = start .args .message in
     let memory = start .args .memory .now in
-    let asked = c .before .before .before .before .before .before .before .before .before .ask-one in
+    let asked = judged .ask-one in
     let is = taken call message memory
-    (sym (ap (λ (a : Asked). a .lacked) (asked .ensures)) ∙ not-false (asked .result .lacked) (c .before .before .before .before .before .before .before .if1 .left)) in
-    let stored = c .before .before .before .before .store .ensures ∙ ap (λ (at : ℕ). set memory at (message .bits)) (c .before .before .before .before .before .word-place .ensures) in
+    (sym (ap (λ (a : Asked). a .lacked) (asked .ensures)) ∙ not-false (asked .result .lacked) (wanting .if1 .left)) in
+    let stored = kept .store .ensures ∙ ap (λ (at : ℕ). set memory at (message .bits)) (placed .word-place .ensures) in
     (c .is-complete .ensures ∙ ap (isComplete call) stored ∙ is .0, stored ∙ is .1)
 
 pub offer-spec : {M : Type 1} → statement M

@@ -43,8 +43,9 @@ part-result-end-2 c = search needs
 
 returns-2 : tie.Need-returns-2
 returns-2 c =
-    let start = c .before .before .before .before .before .before in
-    let at = c .before .before .before .before .place .ensures in
+    let placed = c .before .before .before .before in
+    let start = placed .before .before in
+    let at = placed .place .ensures in
     rw at (part-rest (start .args .memory .now) (placeOf (start .args .call)) (start .args .call .words) (omega (arith, at)) (omega (arith, at, c .before .if2 .taken)))
 
 add-end : tie.Need-add-end
@@ -64,8 +65,9 @@ part-result-end-3 c = search needs
 
 returns-3 : tie.Need-returns-3
 returns-3 c =
-    let start = c .before .before .before .before .before .before in
-    rw (c .before .before .before .before .place .ensures) (part-whole (start .args .memory .now) (placeOf (start .args .call)) (start .args .call .words))
+    let placed = c .before .before .before .before in
+    let start = placed .before .before in
+    rw (placed .place .ensures) (part-whole (start .args .memory .now) (placeOf (start .args .call)) (start .args .call .words))
 
 pub words-spec : {M : Type 1} → statement M
 words-spec =

@@ -21,14 +21,18 @@ right : (c : tie.Else1) → sound (opens (c .before .before .args .calls)) ≡ t
 right c = sym (c .before .sound .ensures) ∙ not-false (c .before .sound .result) (c .if1 .left)
 
 -- the packet is not refused
-none : (c : tie.Else2) → addressRead (c .before .before .before .before .before .args .packet .bits) .number ≡ 0
+none : (c : tie.Else2) → let start = c .before .before .before .before .before in addressRead (start .args .packet .bits) .number ≡ 0
 none c = sym (ap (λ (r : AddressRead). r .number) (c .before .before .read-address .ensures)) ∙ c .if2 .left
 
 -- what it says
-says : (c : tie.Else2) → c .before .before .read-address .result .fields ≡ addressIn (c .before .before .before .before .before .args .packet .bits)
+says : (c : tie.Else2)
+    → let start = c .before .before .before .before .before in
+    c .before .before .read-address .result .fields ≡ addressIn (start .args .packet .bits)
 says c =
-    ap (λ (r : AddressRead). r .fields) (c .before .before .read-address .ensures)
-    ∙ read-fields (c .before .before .before .before .before .args .packet .bits) (none c)
+    let read = c .before .before in
+    let start = read .before .before .before in
+    ap (λ (r : AddressRead). r .fields) (read .read-address .ensures)
+    ∙ read-fields (start .args .packet .bits) (none c)
 
 sound-requires : tie.Need-sound-requires
 sound-requires c κs = search needs

@@ -4,7 +4,7 @@ use mathlib.Core.List.{List}
 use mathlib.Core.Path.{_≡_, sym, ap, _∙_}
 use native.Mathlib.Nat.{zero-add}
 use native.Mathlib.Omega.{arith}
-use lib.ListN.{length, take, drop}
+use lib.ListN.{length, getD, take, drop}
 use lib.Seq.{getD-take}
 use Rattle.laws.proofs.Searches.{found-here, found-later, found-none}
 use Rattle.call.specs.declared.Call.{Call}
@@ -58,14 +58,27 @@ add-at c = search needs
 loop-less : tie.Need-loop-less Inv-loop μ-loop
 loop-less c = search needs
 
+-- what is asked of the call of a turn is asked of that open call
+asked : (c : tie.After-is-of Inv-loop μ-loop)
+    → let turn = c .before .before in
+    let start = turn .before .before in
+    let a = start .before .before .args in
+    isOf (a .phase) (a .vector) (getD (take (start .count .result) (a .calls .calls)) (turn .before .loop .at) blank) ≡ c .is-of .result
+asked c =
+    let turn = c .before .before in
+    let start = turn .before .before in
+    let a = start .before .before .args in
+    ap (isOf (a .phase) (a .vector)) (getD-take (start .count .result) (a .calls .calls) (turn .before .loop .at) blank (omega arith))
+    ∙ sym (c .is-of .ensures)
+
 loop-again : tie.Need-loop-again Inv-loop μ-loop
 loop-again c =
     let turn = c .before .before .before in
     let start = turn .before .before in
     let a = start .before .before .args in
-    let test = isOf (a .phase) (a .vector) in
-    let there = getD-take (start .count .result) (a .calls .calls) (turn .before .loop .at) blank (omega arith) in
-    (omega arith, turn .before .loop .inv .1 ∙ found-later test (take (start .count .result) (a .calls .calls)) blank (turn .before .loop .at) (omega (arith, long start)) (ap test there ∙ sym (c .before .is-of .ensures) ∙ c .if1 .left))
+    let row = take (start .count .result) (a .calls .calls) in
+    let later = found-later (isOf (a .phase) (a .vector)) row blank (turn .before .loop .at) (omega (arith, long start)) (asked (c .before) ∙ c .if1 .left) in
+    (omega arith, turn .before .loop .inv .1 ∙ later)
 
 returns : tie.Need-returns Inv-loop μ-loop
 returns c =
@@ -78,9 +91,9 @@ returns-2 c =
     let turn = c .before .before .before in
     let start = turn .before .before in
     let a = start .before .before .args in
-    let test = isOf (a .phase) (a .vector) in
-    let there = getD-take (start .count .result) (a .calls .calls) (turn .before .loop .at) blank (omega arith) in
-    sym (found start ∙ turn .before .loop .inv .1 ∙ found-here test (take (start .count .result) (a .calls .calls)) blank (turn .before .loop .at) (omega (arith, long start)) (ap test there ∙ sym (c .before .is-of .ensures) ∙ c .if1 .taken))
+    let row = take (start .count .result) (a .calls .calls) in
+    let here = found-here (isOf (a .phase) (a .vector)) row blank (turn .before .loop .at) (omega (arith, long start)) (asked (c .before) ∙ c .if1 .taken) in
+    sym (found start ∙ turn .before .loop .inv .1 ∙ here)
 
 pub find-spec : {M : Type 1} → statement M
 find-spec =

@@ -1,4 +1,4 @@
--- `sound_from_last` meets its contract: from the last call to the first, those behind are sound and their keys are marked.
+-- `sound_from_last` meets its contract: from the last call to the first, the later ones are sound and their keys are marked.
 use Prim.Native.Nat.{ℕ, _+_, _-_, _≤_, _<_}
 use mathlib.Core.Bool.{true, false}
 use mathlib.Core.List.{List, _∷_}
@@ -62,31 +62,39 @@ in-limits-requires c κs = search needs
 abbrev row : tie.After-count Inv-loop μ-loop → List Call
 row c = take (c .count .result) (c .before .before .args .calls .calls)
 
--- the call of a turn is one of them
-there : (c : tie.In-loop Inv-loop μ-loop) → getD (row (c .before .before)) (c .before .loop .i - 1) blank ≡ getD (c .before .before .before .before .args .calls .calls) (c .before .loop .i - 1) blank
+-- the call of a turn
+abbrev turnCall : tie.In-loop Inv-loop μ-loop → Call
+turnCall c =
+    let start = c .before .before .before .before in
+    getD (start .args .calls .calls) (c .before .loop .i - 1) blank
+
+-- the call of a turn is one of the open calls
+there : (c : tie.In-loop Inv-loop μ-loop) → getD (row (c .before .before)) (c .before .loop .i - 1) blank ≡ turnCall c
 there c =
-    getD-take (c .before .before .count .result) (c .before .before .before .before .args .calls .calls) (c .before .loop .i - 1) blank (omega (arith, c .before .loop .inv .0, c .loop-test .taken))
+    let count = c .before .before in
+    let start = count .before .before in
+    getD-take (count .count .result) (start .args .calls .calls) (c .before .loop .i - 1) blank (omega (arith, c .before .loop .inv .0, c .loop-test .taken))
 
 within : (c : tie.In-loop Inv-loop μ-loop) → c .before .loop .i - 1 < length (row (c .before .before))
 within c = omega (arith, long (c .before .before), c .before .loop .inv .0, c .loop-test .taken)
 
--- .. and those behind it are where the turn began
-behind : (c : tie.In-loop Inv-loop μ-loop) → c .before .loop .i - 1 + 1 ≡ c .before .loop .i
-behind c = omega (arith, c .loop-test .taken)
+-- the place after the call of a turn is the one where the turn began
+began : (c : tie.In-loop Inv-loop μ-loop) → c .before .loop .i - 1 + 1 ≡ c .before .loop .i
+began c = omega (arith, c .loop-test .taken)
 
--- it is within its limits
-sane : (c : tie.Else1 Inv-loop μ-loop) → inLimits (getD (c .before .before .before .before .before .before .before .args .calls .calls) (c .before .before .before .before .loop .i - 1) blank) ≡ true
+-- the call of a turn that goes on is within its limits
+sane : (c : tie.Else1 Inv-loop μ-loop) → inLimits (turnCall (c .before .before .before)) ≡ true
 sane c = sym (c .before .in-limits .ensures) ∙ not-false (c .before .in-limits .result) (c .if1 .left)
 
-limited : (c : tie.Else1 Inv-loop μ-loop) → Limits (getD (c .before .before .before .before .before .before .before .args .calls .calls) (c .before .before .before .before .loop .i - 1) blank)
-limited c = in-limits (getD (c .before .before .before .before .before .before .before .args .calls .calls) (c .before .before .before .before .loop .i - 1) blank) .0 (sane c)
+limited : (c : tie.Else1 Inv-loop μ-loop) → Limits (turnCall (c .before .before .before))
+limited c = in-limits (turnCall (c .before .before .before)) .0 (sane c)
 
 returns : tie.Need-returns Inv-loop μ-loop
 returns c =
     let turn = c .before .before .before in
     let count = turn .before .before in
     let i = turn .before .loop .i in
-    let call = getD (c .before .before .before .before .before .before .before .args .calls .calls) (i - 1) blank in
+    let call = turnCall turn in
     let bad = sym (c .before .in-limits .ensures) ∙ not-true (c .before .in-limits .result) (c .if1 .taken) in
     sym (ap sound (sym (opened count)) ∙ spoiled (row count) (i - 1) (unsound (row count) (i - 1) call (there turn) (within turn) bad))
 
@@ -116,14 +124,15 @@ shr-if2 c = omega arith
 
 returns-2 : tie.Need-returns-2 Inv-loop μ-loop
 returns-2 c =
-    let turn = c .before .before .before .before .before .before in
+    let passed = c .before .before .before in
+    let turn = passed .before .before .before in
     let count = turn .before .before in
     let i = turn .before .loop .i in
-    let call = getD (c .before .before .before .before .before .before .before .before .before .before .args .calls .calls) (i - 1) blank in
-    let limits = limited (c .before .before .before) in
+    let call = turnCall turn in
+    let limits = limited passed in
     let marked = turn .before .loop .inv .4 (call .phase) (call .vector) (limits .of-phase) (limits .of-vector) in
     let met = set-bit (holds (call .phase) (call .vector) (drop i (row count))) (sym marked ∙ c .if2 .taken) in
-    sym (ap sound (sym (opened count)) ∙ spoiled (row count) (i - 1) (twice (row count) (i - 1) call (there turn) (within turn) (rw (behind turn) met)))
+    sym (ap sound (sym (opened count)) ∙ spoiled (row count) (i - 1) (twice (row count) (i - 1) call (there turn) (within turn) (rw (began turn) met)))
 
 cast-marks : tie.Need-cast-marks Inv-loop μ-loop
 cast-marks c = omega arith
@@ -142,23 +151,24 @@ loop-less c = search needs
 
 loop-again : tie.Need-loop-again Inv-loop μ-loop
 loop-again c =
-    let turn = c .before .before .before .before .before .before in
+    let passed = c .before .before .before in
+    let turn = passed .before .before .before in
     let count = turn .before .before in
     let i = turn .before .loop .i in
     let marks = turn .before .loop .marks in
     let so-far = turn .before .loop .inv in
-    let call = getD (c .before .before .before .before .before .before .before .before .before .before .args .calls .calls) (i - 1) blank in
-    let limits = limited (c .before .before .before) in
+    let call = turnCall turn in
+    let limits = limited passed in
     let rest = drop i (row count) in
     let marked = so-far .4 (call .phase) (call .vector) (limits .of-phase) (limits .of-vector) in
     let none : holds (call .phase) (call .vector) rest ≡ false =
     ⊎-elim (λ met. absurd (c .if2 .left (marked ∙ ap bitOf met))) (λ unmet. unmet) (decided (holds (call .phase) (call .vector) rest))
     in
-    let first : drop (i - 1) (row count) ≡ call ∷ rest = call-then (row count) (i - 1) call (there turn) (within turn) ∙ rw (behind turn) in (
+    let first : drop (i - 1) (row count) ≡ call ∷ rest = call-then (row count) (i - 1) call (there turn) (within turn) ∙ rw (began turn) in (
       omega (arith, so-far .0),
       so-far .1,
       length-set marks _ _ ∙ so-far .2,
-      alone (row count) (i - 1) call (there turn) (within turn) (sane (c .before .before .before)) (rw (behind turn) none) ∙ rw (behind turn) (so-far .3),
+      alone (row count) (i - 1) call (there turn) (within turn) (sane passed) (rw (began turn) none) ∙ rw (began turn) (so-far .3),
       subst (Marks (withMark marks (keyOf (call .phase) (call .vector)))) (sym first) (one-marked marks call rest (so-far .2) (limits .of-phase) (limits .of-vector) (so-far .4)),
     )
 

@@ -25,11 +25,12 @@ place-from-requires c κs = search needs
 
 returns-3 : tie.Need-returns-3
 returns-3 c =
-    let start = c .before .before .before .before .before .before .before in
+    let vectored = c .before .before .before .before .before in
+    let start = vectored .before .before in
     let call = start .args .call in (
       c .place-from .ensures .0
           ∙ sym (position-short call (start .args .word)
-          (ap not (ne-eqb (call .«has_vector») 0 (c .before .before .before .before .before .if1 .left)))
+          (ap not (ne-eqb (call .«has_vector») 0 (vectored .if1 .left)))
           (ap not (eq-eqb (call .«long_address») 0 (c .before .if3 .taken)))),
       c .place-from .ensures .1,
     )
@@ -43,10 +44,11 @@ add-if4 c = search needs
 returns-4 : tie.Need-returns-4
 returns-4 c =
     let otherwise = c .before .before in
-    let start = otherwise .before .before .before .before .before .before in
+    let vectored = otherwise .before .before .before .before in
+    let start = vectored .before .before in
     let call = start .args .call in (
       sym (position-lead call (start .args .word)
-          (ap not (ne-eqb (call .«has_vector») 0 (otherwise .before .before .before .before .if1 .left)))
+          (ap not (ne-eqb (call .«has_vector») 0 (vectored .if1 .left)))
           (ap not (ne-eqb (call .«long_address») 0 (otherwise .if3 .left)))
           (omega (arith, otherwise .before .before .if2 .left))
           (c .if4 .taken ∙ add-one (call .vector))),
@@ -65,11 +67,12 @@ add-result c = search needs
 returns-5 : tie.Need-returns-5
 returns-5 c =
     let otherwise = c .before .before .before .before in
-    let start = otherwise .before .before .before .before .before .before in
+    let vectored = otherwise .before .before .before .before in
+    let start = vectored .before .before in
     let call = start .args .call in (
       rw (c .place-from2 .ensures .0, add-one)
           (sym (position-rest call (start .args .word)
-          (ap not (ne-eqb (call .«has_vector») 0 (otherwise .before .before .before .before .if1 .left)))
+          (ap not (ne-eqb (call .«has_vector») 0 (vectored .if1 .left)))
           (ap not (ne-eqb (call .«long_address») 0 (otherwise .if3 .left)))
           (omega (arith, otherwise .before .before .if2 .left))
           (λ is. c .before .before .if4 .left (is ∙ sym (add-one (call .vector)))))),

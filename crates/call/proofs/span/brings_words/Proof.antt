@@ -1,7 +1,7 @@
 -- `brings_words` meets its contract: the two tests are the definition's.
 use borrow.Author.Needs.{needs}
-use Rattle.call.proofs.hearing.brings_words.Statement.{statement}
-use Rattle.call.proofs.hearing.brings_words.Tie as tie
+use Rattle.call.proofs.span.brings_words.Statement.{statement}
+use Rattle.call.proofs.span.brings_words.Tie as tie
 
 is-numeric-requires : tie.Need-is-numeric-requires
 is-numeric-requires c κs = search needs
