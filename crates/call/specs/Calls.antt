@@ -6,6 +6,7 @@ use lib.Dec.{leb, ltb, eqb}
 use lib.ListN.{length, take, replicate}
 use Rattle.laws.specs.Choice.{pick, bitOf}
 use Rattle.laws.specs.Lists.{firstThat, upFrom}
+use Rattle.packet.specs.Names.{lastWordID}
 use Rattle.packet.specs.Vectors.{isNumeric, isText}
 use Rattle.call.specs.declared.Call.{Call}
 use Rattle.call.specs.declared.Calls.{Calls}
@@ -20,7 +21,7 @@ mostWords = 85
 
 -- 01: the span must "end by word 87"
 abbrev pub lastWord : ℕ
-lastWord = 87
+lastWord = lastWordID
 
 -- a record that holds no call
 abbrev pub blank : Call
