@@ -1,4 +1,5 @@
--- Worked examples of demand 3: a text that comes whole through losses, damage, repeats and other traffic; one that does not; and what each premise is for. All worked by hand from 01 and from Tables 44, 45 and 60.
+-- Worked examples of demand 3: a text that comes whole through losses, damage, repeats and other traffic; one that
+-- does not; and what each premise is for. All worked by hand from 01 and from Tables 44, 45 and 60.
 use Prim.Native.Nat.{ℕ, zero, suc, _-_, _≤_}
 use mathlib.Core.Bool.{Bool, true, false, not}
 use mathlib.Core.List.{List, [], _∷_, _++_, map}
@@ -19,7 +20,9 @@ use Rattle.chain.specs.Steps.{fate}
 use Rattle.chain.specs.Answers.{stepOf, chainsAfter, bufferAfter, dropOf}
 use Rattle.chain.specs.Runs.{came, dropped, State, answers, afterAll}
 use Rattle.chain.proofs.Examples.{opened, one, two}
-use Rattle.air.specs.Demand.{Message, fragments, isCut, Arrival, copy, other, eventOf, places, neighbours, inOrder, losesFew, isOpen, isReady, undisturbed, Premises, textsOut, fromFirst, ArrivesWhole, Promised, ours}
+use Rattle.air.specs.Demand.{Message, fragments, isCut, Arrival, copy, other, eventOf, places, neighbours}
+use Rattle.air.specs.Demand.{inOrder, losesFew, isOpen, isReady, undisturbed, Premises, textsOut, fromFirst}
+use Rattle.air.specs.Demand.{ArrivesWhole, Promised, ours}
 
 -- ---- the message
 
@@ -34,8 +37,10 @@ abbrev line : Message
 line = saying 7 5 2 (bytesOf "TAKE 28 CABLES")
 
 -- its fragments by hand. F 3 and C 1, 00BC00, then 6, 84 at i7 and 65 at i14: the groups BCH, and 06H, 6AH, 10H make 316; K is 707, 2C3H.
--- F 0 and C 1, 00A400, then "K", "E" and " ": A4H, and CBH, 22H, 08H make 409; 614, 266H. F 1 and C 1, 00AC00, then "2", "8" and " ": ACH, and 32H, 1CH, 08H make 258; 765, 2FDH.
--- F 2 and C 1, 00B400, then "C", "A" and "B": B4H, and C3H, A0H, 10H make 551; 472, 1D8H. F 0 and C 0, 00A000, then "L", "E" and "S": A0H, and CCH, E2H, 14H make 610; 413, 19DH
+-- F 0 and C 1, 00A400, then "K", "E" and " ": A4H, and CBH, 22H, 08H make 409; 614, 266H. F 1 and C 1, 00AC00, then
+-- "2", "8" and " ": ACH, and 32H, 1CH, 08H make 258; 765, 2FDH.
+-- F 2 and C 1, 00B400, then "C", "A" and "B": B4H, and C3H, A0H, 10H make 551; 472, 1D8H. F 0 and C 0, 00A000, then
+-- "L", "E" and "S": A0H, and CCH, E2H, 14H make 610; 413, 19DH
 pub line-cut : fragments line
     ≡ (0x00BEC3 ∷ 0x106A06 ∷ []) ∷ (0x00A666 ∷ 0x0822CB ∷ []) ∷ (0x00AEFD ∷ 0x081C32 ∷ []) ∷ (0x00B5D8 ∷ 0x10A0C3 ∷ []) ∷ (0x00A19D ∷ 0x14E2CC ∷ []) ∷ []
 unfolding cut fragmentsFrom fragmentAt fragmentOf messageOf wordsOf number sumBy
@@ -45,9 +50,12 @@ line-cut = refl
 
 -- whether each premise holds, in their order: cuts, copies, in-order, loses-few, ready, closed, quiet
 unfoldable pub held : Message → State → List Arrival → List Bool
-unfolding places neighbours undisturbed textsOut fromFirst answers stepOf dropOf chainsAfter bufferAfter sound fate cut fragmentsFrom fragmentAt fragmentOf sendable messageOf headingOf wordsOf cellsOf withoutFill number digits sumBy all anyOf upFrom firstThat
+unfolding places neighbours undisturbed textsOut fromFirst answers stepOf dropOf chainsAfter bufferAfter sound fate
+    cut fragmentsFrom fragmentAt fragmentOf sendable messageOf headingOf wordsOf cellsOf withoutFill number
+    digits sumBy all anyOf upFrom firstThat
 held m start air =
-    isCut m ∷ all (λ place. ltb place (length (fragments m))) (places air) ∷ inOrder (places air) ∷ losesFew (places air) ∷ isReady start ∷ not (isOpen m start) ∷ undisturbed ours m start air ∷ []
+    isCut m ∷ all (λ place. ltb place (length (fragments m))) (places air) ∷ inOrder (places air)
+    ∷ losesFew (places air) ∷ isReady start ∷ not (isOpen m start) ∷ undisturbed ours m start air ∷ []
 
 -- where all seven hold, all is as it is taken for granted
 pub all-held : (m : Message) (start : State) (air : List Arrival) → held m start air ≡ replicate 7 true → Premises ours m start air
@@ -147,7 +155,9 @@ pub record Needed (premise : ℕ) (m : Message) (start : State) (air : List Arri
 
 module _ {premise : ℕ} {m : Message} {start : State} {air : List Arrival} where
   -- a text is handed out that is not the sender's, of which the character at a place is another
-  misread : {out : List ℕ} (place : ℕ) → held m start air ≡ set (replicate 7 true) premise false → textsOut ours m start air ≡ out ∷ [] → eqb (getD out place 0) (getD (m .text) place 0) ≡ false → Needed premise m start air (out ∷ [])
+  misread : {out : List ℕ} (place : ℕ) → held m start air ≡ set (replicate 7 true) premise false
+      → textsOut ours m start air ≡ out ∷ [] → eqb (getD out place 0) (getD (m .text) place 0) ≡ false
+      → Needed premise m start air (out ∷ [])
   misread {out} place alone handed differs =
       record { alone = alone; handed = handed; fails = λ promised. eqb-false _ _ differs (ap (λ text. getD text place 0) (sender promised)) }
     where
@@ -155,7 +165,9 @@ module _ {premise : ℕ} {m : Message} {start : State} {air : List Arrival} wher
       sender promised = ap (λ texts. getD texts 0 []) (sym handed) ∙ promised .senders 0 (rw handed (omega arith))
 
   -- the fragments arrive whole, the last so many times again, and nothing is handed out
-  silent : (again : ℕ) → held m start air ≡ set (replicate 7 true) premise false → textsOut ours m start air ≡ [] → fromFirst (places air) ≡ upFrom 0 (length (fragments m)) ++ replicate again (length (fragments m) - 1) → Needed premise m start air []
+  silent : (again : ℕ) → held m start air ≡ set (replicate 7 true) premise false → textsOut ours m start air ≡ []
+      → fromFirst (places air) ≡ upFrom 0 (length (fragments m)) ++ replicate again (length (fragments m) - 1)
+      → Needed premise m start air []
   silent again alone handed whole =
       record { alone = alone; handed = handed; fails = λ promised. none (promised .exactly .1 (again, whole)) }
     where
@@ -241,12 +253,16 @@ pub ready-room : Needed 4 line (record { chains = fresh 1; bytes = replicate 100
 unfolding held
 ready-room = silent 0 refl refl refl
 
--- closed: of an older text, "MAKE 28 CABLES", the first fragment came: S is 13, and 13, 77 and 65 make 155, of which 27 is left. The first of this one is lost, and the later ones complete the older
-pub closed-needed : Needed 5 line (record { chains = opened 7 5 0 27 2 ∷ []; bytes = bytesOf "MA" ++ replicate 1006 0 }) (copy 1 ∷ copy 2 ∷ copy 3 ∷ copy 4 ∷ []) (bytesOf "MAKE 28 CABLES" ∷ [])
+-- closed: of an older text, "MAKE 28 CABLES", the first fragment came: S is 13, and 13, 77 and 65 make 155, of which
+-- 27 is left. The first of this one is lost, and the later ones complete the older
+pub closed-needed : Needed 5 line
+    (record { chains = opened 7 5 0 27 2 ∷ []; bytes = bytesOf "MA" ++ replicate 1006 0 })
+    (copy 1 ∷ copy 2 ∷ copy 3 ∷ copy 4 ∷ []) (bytesOf "MAKE 28 CABLES" ∷ [])
 unfolding held
 closed-needed = misread 0 refl refl refl
 
--- quiet: "TAKE 82 CABLES" comes with the same N, and of it the third fragment alone, in place of this one's: 00AC00, then "8", "2" and " ", the groups ACH, and 38H, 19H, 08H make 261; K is 762, 2FAH
+-- quiet: "TAKE 82 CABLES" comes with the same N, and of it the third fragment alone, in place of this one's: 00AC00,
+-- then "8", "2" and " ", the groups ACH, and 38H, 19H, 08H make 261; K is 762, 2FAH
 pub quiet-alone : Needed 6 line free (copy 0 ∷ copy 1 ∷ other (came 7 (0x00AEFA ∷ 0x081938 ∷ [])) ∷ copy 3 ∷ copy 4 ∷ []) (bytesOf "TAKE 82 CABLES" ∷ [])
 unfolding held
 quiet-alone = misread 5 refl refl refl

@@ -19,10 +19,13 @@ use Rattle.chain.specs.Steps.{headingIn}
 use Rattle.chain.specs.Answers.{asAnswer}
 use Rattle.chain.specs.Runs.{Event, came, dropped, State, answerTo, after, afterAll}
 use Rattle.chain.proofs.Runs.{run-length, fresh-run-sound}
-use Rattle.air.specs.Demand.{Message, isCut, Arrival, copy, other, eventOf, isDamaged, places, neighbours, inOrder, losesFew, between, isKey, isOpen, isReady, findsSlot, mayCome, undisturbed, Premises, isFor, textBy, textsOut, Promised, Demand, ours}
+use Rattle.air.specs.Demand.{Message, isCut, Arrival, copy, other, eventOf, isDamaged, places, neighbours}
+use Rattle.air.specs.Demand.{inOrder, losesFew, between, isKey, isOpen, isReady, findsSlot, mayCome}
+use Rattle.air.specs.Demand.{undisturbed, Premises, isFor, textBy, textsOut, Promised, Demand, ours}
 use Rattle.air.proofs.Parts.{countOf, part, count-cut, part-cut, other-number, some-part, says-message}
 use Rattle.air.proofs.Receiver.{isTaken, handsOut, joinedAfter, delivered, delivers}
-use Rattle.air.proofs.States.{Holding, Meets, meets-first, meets-next, taken-on, taken-whole, out-of-turn-closes, none-open, damaged-holds, others-hold, drop-holds, other-key}
+use Rattle.air.proofs.States.{Holding, Meets, meets-first, meets-next, taken-on, taken-whole}
+use Rattle.air.proofs.States.{out-of-turn-closes, none-open, damaged-holds, others-hold, drop-holds, other-key}
 
 -- of a row whose neighbours are so, those after the first are
 neighbours-after : (are : ℕ → ℕ → Bool) (place : ℕ) (row : List ℕ) → neighbours are (place ∷ row) ≡ true → neighbours are row ≡ true
@@ -89,7 +92,11 @@ copy-step m cuts s joined place row h within may coming =
     event = came (m .address) (part m place)
 
     own : isFor m event ≡ true
-    own = rw (eq-eqb (m .address) (m .address) refl, eq-eqb (headingIn (part m place) .«message_number») (m .marks .«message_number») (says-message m cuts place within))
+    own =
+        rw (
+          eq-eqb (m .address) (m .address) refl,
+          eq-eqb (headingIn (part m place) .«message_number») (m .marks .«message_number») (says-message m cuts place within),
+        )
 
     Goal : ℕ → ℕ → Type 0
     Goal now texts = Holding m (after s event) now × (handed m event (answerTo s event) (after s event) ≡ replicate texts (m .text))
@@ -104,7 +111,8 @@ copy-step m cuts s joined place row h within may coming =
         meets-next m cuts s joined h place within next (omega (arith, some)))
         (decided (eqb place 0))
 
-    when-taken : isTaken joined place ≡ true → Meets m cuts s joined h place within → Goal (joinedAfter (countOf m) joined place) (bitOf (handsOut (countOf m) joined place))
+    when-taken : isTaken joined place ≡ true → Meets m cuts s joined h place within
+        → Goal (joinedAfter (countOf m) joined place) (bitOf (handsOut (countOf m) joined place))
     when-taken is met =
         ⊎-elim
         (λ last.
@@ -142,8 +150,11 @@ copy-step m cuts s joined place row h within may coming =
             let is = eqb-false joined 0 some in
             let follows = coming (joined - 1) (omega (arith, is)) in
             let least = leb-true (joined - 1) place (neighbours-first leb (joined - 1) place row (follows .0)) in
-            let most = leb-true (between (joined - 1) place) 2 (neighbours-first (λ earlier later. leb (between earlier later) 2) (joined - 1) place row (follows .1)) in
-            ends (out-of-turn-closes m cuts s joined h place within (omega (arith, is)) later (λ same. other-number joined place (omega (arith, is)) later (omega (arith, least)) (omega (arith, most)) apart same))
+            let most =
+            leb-true (between (joined - 1) place) 2 (neighbours-first (λ earlier later. leb (between earlier later) 2) (joined - 1) place row (follows .1)) in
+            ends
+            (out-of-turn-closes m cuts s joined h place within (omega (arith, is)) later
+            (λ same. other-number joined place (omega (arith, is)) later (omega (arith, least)) (omega (arith, most)) apart same))
 
 -- ---- other traffic
 
@@ -156,8 +167,10 @@ other-step m s joined (came whose words) h may =
     ⊎-elim
     (λ damaged. let w = damaged-holds m s joined whose words h damaged in (w .0, handed-none m event (answerTo s event) (after s event) (w .1)))
     (λ good.
-    let others = not-true key (other-of (isDamaged words) (not key) may good) in
-    (others-hold m s joined event h (other-key m whose (headingIn words .«message_number») others), handed-others m event (answerTo s event) (after s event) others))
+    let others = not-true key (other-of (isDamaged words) (not key) may good) in (
+      others-hold m s joined event h (other-key m whose (headingIn words .«message_number») others),
+      handed-others m event (answerTo s event) (after s event) others,
+    ))
     (decided (isDamaged words))
 other-step m s joined (dropped whose n) h may = (
   ⊎-elim
@@ -200,25 +213,34 @@ at-start : (m : Message) (start : State) → isReady start ≡ true → isOpen m
 at-start m start ready closed =
     record {
       right = first-of (sound (start .chains)) (leb (length (start .chains) * mostCharacters) (length (start .bytes))) ready;
-      room = leb-true (length (start .chains) * 1008) (length (start .bytes)) (second-of (sound (start .chains)) (leb (length (start .chains) * mostCharacters) (length (start .bytes))) ready);
+      room =
+          leb-true (length (start .chains) * 1008) (length (start .bytes))
+          (second-of (sound (start .chains)) (leb (length (start .chains) * mostCharacters) (length (start .bytes))) ready);
       shut = λ none. closed;
       opened = λ some. absurd (omega arith);
     }
 
 -- all texts handed out: the sender's, so many times
-pub texts-out : (m : Message) (start : State) (air : List Arrival) → Premises ours m start air → textsOut ours m start air ≡ replicate (delivered (countOf m) 0 (places air)) (m .text)
+pub texts-out : (m : Message) (start : State) (air : List Arrival) → Premises ours m start air
+    → textsOut ours m start air ≡ replicate (delivered (countOf m) 0 (places air)) (m .text)
 texts-out m start air given =
-    simulated m (given .cuts) start 0 air (at-start m start (given .ready) (given .closed)) (rw (count-cut m) at (given .copies)) (given .in-order) (given .loses-few) (λ last is. absurd (omega arith)) (given .quiet)
+    simulated m (given .cuts) start 0 air (at-start m start (given .ready) (given .closed))
+    (rw (count-cut m) at (given .copies)) (given .in-order) (given .loses-few) (λ last is. absurd (omega arith))
+    (given .quiet)
 
 -- ours keeps demand 3, with any message, from any start, whatever the air brings, for a row of any length
 pub demand-3 : Demand ours
 demand-3 m start air given =
     let texts = texts-out m start air given in
     let exactly = delivers (countOf m) (places air) (some-part m (given .cuts)) (rw (count-cut m) at (given .copies)) (given .in-order) in
-    record { senders = rw texts (λ k within. getD-replicate (delivered (countOf m) 0 (places air)) k (m .text) [] (simp length-replicate at within)); exactly = rw (texts, count-cut m) (simp length-replicate exactly) }
+    record {
+      senders = rw texts (λ k within. getD-replicate (delivered (countOf m) 0 (places air)) k (m .text) [] (simp length-replicate at within));
+      exactly = rw (texts, count-cut m) (simp length-replicate exactly);
+    }
 
 -- eight slots and the bytes of their text are ready after any run that began with them free
-pub eight-ready : (bytes : List ℕ) (before : List Event) → slotCount * mostCharacters ≤ length bytes → isReady (afterAll (record { chains = fresh slotCount; bytes = bytes }) before) ≡ true
+pub eight-ready : (bytes : List ℕ) (before : List Event) → slotCount * mostCharacters ≤ length bytes
+    → isReady (afterAll (record { chains = fresh slotCount; bytes = bytes }) before) ≡ true
 eight-ready bytes before room =
     let start : State = record { chains = fresh slotCount; bytes = bytes } in
     let long = run-length start before in

@@ -80,7 +80,8 @@ next-number place =
     (decided (eqb place 0)))
 
 -- the F of places next to each other, up to three fragments further, are not the same
-pub other-number : (joined place : ℕ) → 1 ≤ joined → 1 ≤ place → joined ≤ place + 1 → place ≤ joined + 2 → (place ≡ joined → ⊥) → fragmentNumber place ≡ fragmentNumber joined → ⊥
+pub other-number : (joined place : ℕ) → 1 ≤ joined → 1 ≤ place → joined ≤ place + 1 → place ≤ joined + 2
+    → (place ≡ joined → ⊥) → fragmentNumber place ≡ fragmentNumber joined → ⊥
 other-number joined place open-key later least most apart same =
     let number : (place - 1) % 3 ≡ (joined - 1) % 3 = rw (ne-eqb place 0 (λ e. omega arith), ne-eqb joined 0 (λ e. omega arith)) at same in
     omega arith
@@ -89,7 +90,8 @@ module _ (m : Message) (cuts : isCut m ≡ true) where
   -- 01's rules of cutting, one by one
   pub cuttable : Cuttable (m .marks) (m .largest) (m .text)
   cuttable =
-      let each = each-of-five (isAddress (m .address)) (marked (m .marks)) (isSize (m .largest)) (leb (length (m .text)) mostCharacters) (sendable (m .text)) cuts in
+      let each =
+      each-of-five (isAddress (m .address)) (marked (m .marks)) (isSize (m .largest)) (leb (length (m .text)) mostCharacters) (sendable (m .text)) cuts in
       record { numbers = each .1; size = each .2; short = leb-true (length (m .text)) mostCharacters (each .3); characters = each .4 }
 
   -- a message that is cut by 01's rules has an address number
@@ -166,6 +168,7 @@ module _ (m : Message) (cuts : isCut m ≡ true) where
     pub part-grown : grown (chainAt m place) (headingIn (part m place)) ≡ chainAt m (suc place)
     part-grown =
         let h = headingIn (part m place) in
-        ap (λ (next : ℕ). chainWith m next (sumAfter (chainAt m place) h) (charactersAfter (chainAt m place) h)) (ap nextNumber says-number ∙ next-number place)
+        ap (λ (next : ℕ). chainWith m next (sumAfter (chainAt m place) h) (charactersAfter (chainAt m place) h))
+        (ap nextNumber says-number ∙ next-number place)
         ∙ ap (λ (sum : ℕ). chainWith m (fragmentNumber (suc place)) sum (charactersAfter (chainAt m place) h)) (sum-step cuttable place within)
         ∙ ap (λ (characters : ℕ). chainWith m (fragmentNumber (suc place)) (sumSoFar (m .largest) (m .text) (suc place)) characters) length-next

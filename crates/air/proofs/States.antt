@@ -30,7 +30,9 @@ use Rattle.chain.proofs.Laws as step
 use Rattle.chain.proofs.Texts.{refused-writes-nothing, text-grows, whole-accepted}
 use Rattle.chain.proofs.Runs.{drop-accepted, drop-refused, other-slot-of, event-sound, event-length, Others, event-others}
 use Rattle.air.specs.Demand.{Message, isDamaged, isKey, isOpen, findsSlot, isCut, textBy, other}
-use Rattle.air.proofs.Parts.{countOf, part, textBefore, chainAt, none-before, begins, address-small, all-before, part-good, says-message, says-number, says-first, says-more, length-next, part-taken, part-grown, cuttable}
+use Rattle.air.proofs.Parts.{countOf, part, textBefore, chainAt, none-before, begins, address-small}
+use Rattle.air.proofs.Parts.{all-before, part-good, says-message, says-number, says-first, says-more}
+use Rattle.air.proofs.Parts.{length-next, part-taken, part-grown, cuttable}
 
 -- ---- what a state holds
 
@@ -116,10 +118,12 @@ module _ (m : Message) (cuts : isCut m ≡ true) (s : State) (joined : ℕ) (h :
   meets-first first finds =
       meets-with
       (λ later. absurd (eqb-false place 0 later first))
-      (before-first (s .chains) (m .address) (headingIn words) is-first ∙ ap (unbegun (m .address)) (says-message m cuts place within) ∙ begins m ∙ ap (chainAt m) (sym first))
+      (before-first (s .chains) (m .address) (headingIn words) is-first
+      ∙ ap (unbegun (m .address)) (says-message m cuts place within) ∙ begins m ∙ ap (chainAt m) (sym first))
       (⊎-elim
       (λ is. known-has-slot (s .chains) (m .address) (headingIn words) (key-known ∙ is))
-      (λ none. free none (ltb-true (firstFree (s .chains)) (length (s .chains)) (other-of (isOpen m s) (ltb (firstFree (s .chains)) (length (s .chains))) finds none)))
+      (λ none. free none
+      (ltb-true (firstFree (s .chains)) (length (s .chains)) (other-of (isOpen m s) (ltb (firstFree (s .chains)) (length (s .chains))) finds none)))
       (decided (isOpen m s)))
       (let empty : textBefore m place ≡ [] = ap (textBefore m) first ∙ none-before m in rw empty)
     where
@@ -159,7 +163,9 @@ module _ (m : Message) (cuts : isCut m ≡ true) (s : State) (joined : ℕ) (h :
     long-then = ap (λ (c : Chain). charactersAfter c (headingIn words)) (meets .before) ∙ length-next m cuts place within
 
     -- the text of its slot after the copy
-    text-then : textAt (bufferAfter (s .chains) (m .address) words (s .bytes)) (slotFor (s .chains) (m .address) (headingIn words)) (length (textBefore m (suc place))) ≡ textBefore m (suc place)
+    text-then :
+        textAt (bufferAfter (s .chains) (m .address) words (s .bytes)) (slotFor (s .chains) (m .address) (headingIn words)) (length (textBefore m (suc place)))
+        ≡ textBefore m (suc place)
     text-then =
         let slot = slotFor (s .chains) (m .address) (headingIn words) in
         ap (textAt (bufferAfter (s .chains) (m .address) words (s .bytes)) slot) (sym long-then)
@@ -189,7 +195,8 @@ module _ (m : Message) (cuts : isCut m ≡ true) (s : State) (joined : ℕ) (h :
         slot = slotFor (s .chains) (m .address) (headingIn words)
 
         grows : let c = chainBefore (s .chains) (m .address) (headingIn words) in
-            (getD (chainsAfter lent (s .chains) (m .address) words) slot blank ≡ grown c (headingIn words)) × (find (m .address) (headingIn words .«message_number») (chainsAfter lent (s .chains) (m .address) words) ≡ slot)
+            (getD (chainsAfter lent (s .chains) (m .address) words) slot blank ≡ grown c (headingIn words))
+            × (find (m .address) (headingIn words .«message_number») (chainsAfter lent (s .chains) (m .address) words) ≡ slot)
         grows = step.grows-on lent (s .chains) (m .address) words (meets .is-taken) on
 
         found : slotOf m (after s event) ≡ slot
@@ -203,7 +210,8 @@ module _ (m : Message) (cuts : isCut m ≡ true) (s : State) (joined : ℕ) (h :
         let whole = step.told-whole lent (s .chains) (m .address) words (meets .is-taken) ends in
         let now : suc place ≡ countOf m = omega arith in (
           holding-after m s joined event 0 h
-              (λ none. shut-by m s (after s event) (step.chains-length lent (s .chains) (m .address) words) (found-then ∙ step.whole-not-found lent (s .chains) (m .address) words (meets .is-taken) ends))
+              (λ none. shut-by m s (after s event) (step.chains-length lent (s .chains) (m .address) words)
+              (found-then ∙ step.whole-not-found lent (s .chains) (m .address) words (meets .is-taken) ends))
               (λ some. absurd (omega arith)),
           ap (λ (t : Told). asAnswer t .complete) whole,
           ap (λ (t : Told). textBy t (after s event)) whole
@@ -217,11 +225,13 @@ module _ (m : Message) (cuts : isCut m ≡ true) (s : State) (joined : ℕ) (h :
   -- ---- a copy that is not taken
 
   -- where a chain is open, another than the next is out of turn: the chain is lost, and nothing handed out
-  pub out-of-turn-closes : 1 ≤ joined → 1 ≤ place → (fragmentNumber place ≡ fragmentNumber joined → ⊥) → Holding m (after s event) 0 × (asAnswer (answerTo s event) .complete ≡ 1 → ⊥)
+  pub out-of-turn-closes : 1 ≤ joined → 1 ≤ place → (fragmentNumber place ≡ fragmentNumber joined → ⊥)
+      → Holding m (after s event) 0 × (asAnswer (answerTo s event) .complete ≡ 1 → ⊥)
   out-of-turn-closes some later apart =
       let late : 14 ≤ numberTold (stepOf lent (s .chains) (m .address) words) = rw told (omega arith) in (
         holding-after m s joined event 0 h
-            (λ none. shut-by m s (after s event) (step.chains-length lent (s .chains) (m .address) words) (found-then ∙ step.lost-not-found lent (s .chains) (m .address) words late))
+            (λ none. shut-by m s (after s event) (step.chains-length lent (s .chains) (m .address) words)
+            (found-then ∙ step.lost-not-found lent (s .chains) (m .address) words late))
             (λ some. absurd (omega arith)),
         λ e. omega (arith, ap (λ (t : Told). asAnswer t .complete) told),
       )
@@ -245,7 +255,8 @@ module _ (m : Message) (cuts : isCut m ≡ true) (s : State) (joined : ℕ) (h :
 -- ---- what changes nothing
 
 -- a fragment that is refused before a chain is touched: nothing is handed out, and the state is as it was
-refused-holds : (m : Message) (s : State) (joined : ℕ) (address : ℕ) (words : List ℕ) → Holding m s joined → (step.Heard (length (s .bytes)) (s .chains) address words → ⊥)
+refused-holds : (m : Message) (s : State) (joined : ℕ) (address : ℕ) (words : List ℕ) → Holding m s joined
+    → (step.Heard (length (s .bytes)) (s .chains) address words → ⊥)
     → Holding m (after s (came address words)) joined × (asAnswer (answerTo s (came address words)) .complete ≡ 1 → ⊥)
 refused-holds m s joined address words h unheard =
     (rw (same-chains, same-bytes) h, λ e. unheard (whole-accepted (s .chains) address words (s .bytes) e .0 .heard))
@@ -274,7 +285,10 @@ pub none-open : (m : Message) (cuts : isCut m ≡ true) (s : State) (place : ℕ
     → let event = came (m .address) (part m place) in Holding m (after s event) 0 × (asAnswer (answerTo s event) .complete ≡ 1 → ⊥)
 none-open m cuts s place h within later =
     refused-holds m s 0 (m .address) (part m place) h
-    (λ heard. not-both (isOpen m s) (ap (λ (n : ℕ). holds (m .address) n (s .chains)) (sym (says-message m cuts place within)) ∙ heard .has (says-first m cuts place within ∙ ne-eqb place 0 (λ e. omega arith))) (h .shut refl))
+    (λ heard. not-both (isOpen m s)
+    (ap (λ (n : ℕ). holds (m .address) n (s .chains)) (sym (says-message m cuts place within))
+    ∙ heard .has (says-first m cuts place within ∙ ne-eqb place 0 (λ e. omega arith)))
+    (h .shut refl))
 
 -- visible damage: 9, 10 or 11
 pub damaged-holds : (m : Message) (s : State) (joined address : ℕ) (words : List ℕ) → Holding m s joined → isDamaged words ≡ true
@@ -291,30 +305,39 @@ other-key m whose n isnt same number =
     not-both (isKey m whose n) (rw (eq-eqb whose (m .address) (sym same), eq-eqb n (m .marks .«message_number») (sym number))) isnt
 
 -- an event of another key leaves what is held
-pub others-hold : (m : Message) (s : State) (joined : ℕ) (event : Event) → Holding m s joined → Others (m .address) (m .marks .«message_number») event → Holding m (after s event) joined
+pub others-hold : (m : Message) (s : State) (joined : ℕ) (event : Event) → Holding m s joined
+    → Others (m .address) (m .marks .«message_number») event → Holding m (after s event) joined
 others-hold m s joined event h others =
     holding-after m s joined event joined h
     (λ none. rw (slot-stays, event-length s event .0) (h .shut none))
     (λ some.
     let chain = h .opened some in
-    let same = event-others s event (m .address) (m .marks .«message_number») (slotOf m s) others (held (m .address) (m .marks .«message_number») (s .chains) (chain .there) .1) in
+    let same =
+    event-others s event (m .address) (m .marks .«message_number») (slotOf m s) others
+    (held (m .address) (m .marks .«message_number») (s .chains) (chain .there) .1) in
     record {
       within = chain .within;
       there = rw (slot-stays, event-length s event .0) (chain .there);
       chain = rw slot-stays (same .same-record ∙ chain .chain);
-      text = rw slot-stays (ap (λ (c : Chain). textAt (after s event .bytes) (slotOf m s) (c .characters)) (sym (chain .chain)) ∙ same .same-text ∙ ap (λ (c : Chain). textAt (s .bytes) (slotOf m s) (c .characters)) (chain .chain) ∙ chain .text);
+      text =
+          rw slot-stays
+          (ap (λ (c : Chain). textAt (after s event .bytes) (slotOf m s) (c .characters)) (sym (chain .chain))
+          ∙ same .same-text ∙ ap (λ (c : Chain). textAt (s .bytes) (slotOf m s) (c .characters)) (chain .chain)
+          ∙ chain .text);
     })
   where
     slot-stays : slotOf m (after s event) ≡ slotOf m s
     slot-stays = other-slot-of s event (m .address) (m .marks .«message_number») others
 
 -- a drop that finds no chain of its key
-pub drop-holds : (m : Message) (s : State) (joined whose n : ℕ) → Holding m s joined → isKey m whose n ≡ true → isOpen m s ≡ false → Holding m (after s (dropped whose n)) joined
+pub drop-holds : (m : Message) (s : State) (joined whose n : ℕ) → Holding m s joined → isKey m whose n ≡ true
+    → isOpen m s ≡ false → Holding m (after s (dropped whose n)) joined
 drop-holds m s joined whose n h is shut =
     rw (drop-refused (s .chains) whose n (λ none. not-both (isOpen m s) (there (drop-accepted (s .chains) whose n .0 none .is-open)) shut)) h
   where
     there : holds whose n (s .chains) ≡ true → isOpen m s ≡ true
     there open-there =
         let same-address : whose ≡ m .address = eqb-true whose (m .address) (first-of (eqb whose (m .address)) (eqb n (m .marks .«message_number»)) is) in
-        let same-message : n ≡ m .marks .«message_number» = eqb-true n (m .marks .«message_number») (second-of (eqb whose (m .address)) (eqb n (m .marks .«message_number»)) is) in
+        let same-message : n ≡ m .marks .«message_number» =
+        eqb-true n (m .marks .«message_number») (second-of (eqb whose (m .address)) (eqb n (m .marks .«message_number»)) is) in
         sym (ap₂ (λ (a k : ℕ). holds a k (s .chains)) same-address same-message) ∙ open-there

@@ -43,7 +43,8 @@ bits-less n = mod-lt n (omega arith)
 
 module _ (s : Calls) (memory : List ℕ) (n : ℕ) where
   -- the lent memory after a vector that was taken: its call lacks all its words
-  pub memory-vector : eqb (hearNumber s memory n) 0 ≡ true → isForVector s n ≡ true → memoryAfter s memory n ≡ put memory (placeOf (vectorGiven s n)) (replicate (vectorGiven s n .words) lacking)
+  pub memory-vector : eqb (hearNumber s memory n) 0 ≡ true → isForVector s n ≡ true
+      → memoryAfter s memory n ≡ put memory (placeOf (vectorGiven s n)) (replicate (vectorGiven s n .words) lacking)
   unfolding memoryAfter
   memory-vector taken is = rw (taken, is)
 
@@ -84,21 +85,25 @@ ready-words c s r =
 
 module _ (c : Call) (s : State) (r : Ready c s) (n : ℕ) where
   -- a word of the call after a vector for another: as it was
-  kept-by-vector : eqb (hearNumber (s .calls) (s .memory) n) 0 ≡ true → isForVector (s .calls) n ≡ true → wordsOf c (memoryAfter (s .calls) (s .memory) n) ≡ wordsOf c (s .memory)
+  kept-by-vector : eqb (hearNumber (s .calls) (s .memory) n) 0 ≡ true → isForVector (s .calls) n ≡ true
+      → wordsOf c (memoryAfter (s .calls) (s .memory) n) ≡ wordsOf c (s .memory)
   kept-by-vector taken is =
       let v = vector-accepted (s .calls) (s .memory) n .0 (eqb-true (hearNumber (s .calls) (s .memory) n) 0 taken, is) in
       let found = ltb-true (vectorPlace (s .calls) n) (length (opens (s .calls))) is in
       let fewer = those-fewer hasVector (opens (s .calls)) blank (vectorPlace (s .calls) n) found (v .vectored .first) in
-      let below : c .area < nextArea (opens (s .calls)) = rw (r .stands .here) at (r .placed .below (r .place) (r .stands .within) (ap hasVector (r .stands .here) ∙ r .has)) in
+      let below : c .area < nextArea (opens (s .calls)) =
+      rw (r .stands .here) at (r .placed .below (r .place) (r .stands .within) (ap hasVector (r .stands .here) ∙ r .has)) in
       let whole : c .area % 8 ≡ c .area = mod-eq-of-lt (omega (arith, ready-few c s r)) in
       let whole-next : nextArea (opens (s .calls)) % 8 ≡ nextArea (opens (s .calls)) = mod-eq-of-lt (omega (arith, ready-few c s r)) in
       ap (wordsOf c) (memory-vector (s .calls) (s .memory) n taken is)
-      ∙ vector-keeps (s .memory) (vectorGiven (s .calls) n) (given-most (s .calls) (s .memory) n v) (r .enough) c (words-most c (ready-limits c s r) (r .has)) (λ same. omega arith)
+      ∙ vector-keeps (s .memory) (vectorGiven (s .calls) n) (given-most (s .calls) (s .memory) n v) (r .enough) c
+      (words-most c (ready-limits c s r) (r .has)) (λ same. omega arith)
 
   -- a word of the call after a vector or message packet: the one that came, if it was taken for its place and the call lacked it, and else what it was
   heard-at : (k : ℕ) → k < c .words
       → let at = placeOf c + k in
-      getD (memoryAfter (s .calls) (s .memory) n) at 0 ≡ pick (leb lacking (getD (s .memory) at 0) && takenAt s (heard n) (c .phase) (getD (numbersOf c) k 0)) (messageIn n .bits) (getD (s .memory) at 0)
+      getD (memoryAfter (s .calls) (s .memory) n) at 0
+      ≡ pick (leb lacking (getD (s .memory) at 0) && takenAt s (heard n) (c .phase) (getD (numbersOf c) k 0)) (messageIn n .bits) (getD (s .memory) at 0)
   heard-at k inside =
       ⊎-elim
       (λ taken.
@@ -112,7 +117,8 @@ module _ (c : Call) (s : State) (r : Ready c s) (n : ℕ) where
       ap (λ (memory : List ℕ). getD memory at 0) (memory-word (s .calls) (s .memory) n taken none)
       ∙ given
       ∙ rw (none, taken, eqb-swap (messageIn n .phase) (c .phase), eqb-swap (messageIn n .word) number)
-      (ap (λ (test : Bool). pick test (messageIn n .bits) what) (and-comm (eqb (c .phase) (messageIn n .phase) && eqb number (messageIn n .word)) (leb lacking what))))
+      (ap (λ (test : Bool). pick test (messageIn n .bits) what)
+      (and-comm (eqb (c .phase) (messageIn n .phase) && eqb number (messageIn n .word)) (leb lacking what))))
       (decided (isForVector (s .calls) n)))
       (λ refused.
       ap (λ (memory : List ℕ). getD memory at 0) (refused-memory (s .calls) (s .memory) n (eqb-false (hearNumber (s .calls) (s .memory) n) 0 refused))
@@ -130,19 +136,24 @@ module _ (c : Call) (s : State) (r : Ready c s) (n : ℕ) where
 
       given : getD (givenTo (opens (s .calls)) (messageIn n) (s .memory)) at 0 ≡ pick (goesTo c k (messageIn n) (s .memory)) (messageIn n .bits) what
       given =
-          rw (r .stands .here) at (word-given (messageIn n) (s .memory) (opens (s .calls)) (r .placed) (ready-few c s r) (sound-within (opens (s .calls)) (r .right)) (r .place) k (r .stands .within) (ap hasVector (r .stands .here) ∙ r .has) (rw (r .stands .here) inside))
+          rw (r .stands .here) at
+          (word-given (messageIn n) (s .memory) (opens (s .calls)) (r .placed) (ready-few c s r)
+          (sound-within (opens (s .calls)) (r .right)) (r .place) k (r .stands .within)
+          (ap hasVector (r .stands .here) ∙ r .has) (rw (r .stands .here) inside))
 
 module _ (c : Call) (s : State) (r : Ready c s) where
   -- a word of the call after any event: the one that came, if it was taken for its place and the call lacked it, and else what it was
   pub word-after : (e : Event) (k : ℕ) → k < c .words
       → let at = placeOf c + k in
-      getD (after s e .memory) at 0 ≡ pick (leb lacking (getD (s .memory) at 0) && takenAt s e (c .phase) (getD (numbersOf c) k 0)) (bitsIn e) (getD (s .memory) at 0)
+      getD (after s e .memory) at 0
+      ≡ pick (leb lacking (getD (s .memory) at 0) && takenAt s e (c .phase) (getD (numbersOf c) k 0)) (bitsIn e) (getD (s .memory) at 0)
   word-after (addressed n) k inside = rw and-false
   word-after (heard n) k inside = heard-at c s r n k inside
   word-after ended k inside = rw and-false
 
   -- a word that has come stays
-  pub come-stays : (e : Event) (k : ℕ) → k < c .words → getD (s .memory) (placeOf c + k) 0 < lacking → getD (after s e .memory) (placeOf c + k) 0 ≡ getD (s .memory) (placeOf c + k) 0
+  pub come-stays : (e : Event) (k : ℕ) → k < c .words → getD (s .memory) (placeOf c + k) 0 < lacking
+      → getD (after s e .memory) (placeOf c + k) 0 ≡ getD (s .memory) (placeOf c + k) 0
   come-stays e k inside less = word-after e k inside ∙ rw (lt-leb lacking (getD (s .memory) (placeOf c + k) 0) less)
 
   -- one that is lacking is the word that is taken for its place, and else still lacking
@@ -219,8 +230,10 @@ module _ (c : Call) where
         rw other (lacking-came events (after s e) next (parts .1) still))
         (decided (takenAt s e (c .phase) (getD (numbersOf c) k 0)))
 
-  module _ (s : State) (r : Ready c s) (fresh : wordsOf c (s .memory) ≡ replicate (c .words) lacking) (events : List Event) (calm : inFrame events ≡ true) where
-    -- 01: "A message word goes to every call of its phase whose span holds it": from its vector on, the words of a call are those that came for its places, in the order of the message
+  module _ (s : State) (r : Ready c s) (fresh : wordsOf c (s .memory) ≡ replicate (c .words) lacking)
+      (events : List Event) (calm : inFrame events ≡ true) where
+    -- 01: "A message word goes to every call of its phase whose span holds it": from its vector on, the words of a
+    -- call are those that came for its places, in the order of the message
     pub words-came : wordsOf c (afterAll s events .memory) ≡ map (cameFor s events (c .phase)) (numbersOf c)
     words-came = ext-getD 0 (wordsOf c (afterAll s events .memory)) (map (cameFor s events (c .phase)) (numbersOf c)) (long ∙ sym many) each
       where
@@ -232,7 +245,8 @@ module _ (c : Call) where
         many : length (map (cameFor s events (c .phase)) (numbersOf c)) ≡ c .words
         many = length-map (numbersOf c) (cameFor s events (c .phase)) ∙ numbers-length c (r .has)
 
-        each : (k : ℕ) → k < length (wordsOf c (afterAll s events .memory)) → getD (wordsOf c (afterAll s events .memory)) k 0 ≡ getD (map (cameFor s events (c .phase)) (numbersOf c)) k 0
+        each : (k : ℕ) → k < length (wordsOf c (afterAll s events .memory))
+            → getD (wordsOf c (afterAll s events .memory)) k 0 ≡ getD (map (cameFor s events (c .phase)) (numbersOf c)) k 0
         each k near =
             let inside : k < c .words = rw long at near in
             let none : getD (s .memory) (placeOf c + k) 0 ≡ lacking =

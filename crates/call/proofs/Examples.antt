@@ -1,4 +1,5 @@
--- Worked examples: the frame of the data sheet's Tables 54 and 55, a bad span in a frame, a vector place in another call's span, and what is refused. Packets worked by hand from Tables 30, 31, 36 and 40, answers from 01.
+-- Worked examples: the frame of the data sheet's Tables 54 and 55, a bad span in a frame, a vector place in another
+-- call's span, and what is refused. Packets worked by hand from Tables 30, 31, 36 and 40, answers from 01.
 use Prim.Native.Nat.{ℕ}
 use mathlib.Core.List.{List, [], _∷_, _++_, map}
 use mathlib.Core.Path.{_≡_, refl}
@@ -37,7 +38,8 @@ sheet =
     ∷ heard 0x0D000D02
     ∷ heard 0x0E000E02
     ∷ heard 0x0F000F02
-    -- 15, Table 36: word 10, phase C, 40H of byte 2, V 5; n 3, 180H, and b 14, 0EH: word 11, which follows the vector, then 14 and 15; of phase C, as 01 says of this row
+    -- 15, Table 36: word 10, phase C, 40H of byte 2, V 5; n 3, 180H, and b 14, 0EH: word 11, which follows the
+    -- vector, then 14 and 15; of phase C, as 01 says of this row
     ∷ heard 0x0A45018E
     -- 16 to 18, Table 40: words 11, 14 and 15 of phase C
     ∷ heard 0x0B400B03
@@ -45,7 +47,8 @@ sheet =
     ∷ heard 0x0F400F03
     ∷ []
 
--- the answers: each address opens the next call; each vector is its call's; packets 10, 14 and 18 complete the calls 0, 1 and 2, told as 1, 2 and 4; and the end of the frame is not refused
+-- the answers: each address opens the next call; each vector is its call's; packets 10, 14 and 18 complete the calls
+-- 0, 1 and 2, told as 1, 2 and 4; and the end of the frame is not refused
 pub sheet-answers : answers start (sheet ++ ended ∷ [])
     ≡ given (1 ∷ 0 ∷ 0 ∷ 0 ∷ 0 ∷ 0 ∷ 0 ∷ 7 ∷ [])
     ∷ given (1 ∷ 1 ∷ 0 ∷ 0 ∷ 0 ∷ 1 ∷ 0 ∷ 8 ∷ [])
@@ -80,7 +83,8 @@ unfolding afterAll openOf openedIn hearOf heardIn memoryAfter givenTo finished s
 sheet-words = refl
 
 -- the three pages' addresses, kinds and K
-pub sheet-calls : map (λ (c : Call). c .address ∷ c .kind ∷ c .check ∷ []) (opens (afterAll start sheet .calls)) ≡ (0 ∷ 5 ∷ 0 ∷ []) ∷ (1 ∷ 3 ∷ 5 ∷ []) ∷ (3 ∷ 5 ∷ 0 ∷ []) ∷ []
+pub sheet-calls : map (λ (c : Call). c .address ∷ c .kind ∷ c .check ∷ []) (opens (afterAll start sheet .calls))
+    ≡ (0 ∷ 5 ∷ 0 ∷ []) ∷ (1 ∷ 3 ∷ 5 ∷ []) ∷ (3 ∷ 5 ∷ 0 ∷ []) ∷ []
 unfolding afterAll openOf openedIn hearOf heardIn memoryAfter givenTo finished sound firstThat placeIn anyOf those upFrom all
 sheet-calls = refl
 
@@ -108,7 +112,8 @@ three = addressed 0x01200414 ∷ addressed 0x01000509 ∷ addressed 0x01600605 �
 abbrev badly : Event
 badly = heard 0x09030009
 
--- number 7, phase A, vector 3, and number 8, phase C, vector 2; the third one's vector, V 3, n 1, two words from 7 on; the first one's, one word from 21 on; the last one's, V 2, a short message; and word 8 of phase D
+-- number 7, phase A, vector 3, and number 8, phase C, vector 2; the third one's vector, V 3, n 1, two words from 7
+-- on; the first one's, one word from 21 on; the last one's, V 2, a short message; and word 8 of phase D
 abbrev afterwards : List Event
 afterwards = addressed 0x01000703 ∷ addressed 0x01400802 ∷ heard 0x05630087 ∷ heard 0x14230015 ∷ heard 0x02420000 ∷ heard 0x08600111 ∷ []
 
@@ -125,10 +130,12 @@ pub closed-answers : answers (afterAll start three) (badly ∷ afterwards)
 unfolding answers afterAll openOf openedIn hearOf heardIn memoryAfter givenTo finished sound firstThat placeIn anyOf those upFrom all
 closed-answers = refl
 
--- 01: "lists those incomplete, in the order opened": the first, whose word has not come; the third, which has its second word; the fourth, which awaits its vector; and not the fifth
+-- 01: "lists those incomplete, in the order opened": the first, whose word has not come; the third, which has its
+-- second word; the fourth, which awaits its vector; and not the fifth
 pub closed-listed :
     let s = afterAll (afterAll start three) (badly ∷ afterwards) in
-    map (λ (c : Call). c .address ∷ wordsOf c (s .memory)) (opens (endedWith (s .calls) (s .memory))) ≡ (4 ∷ lacking ∷ []) ∷ (6 ∷ lacking ∷ 0x111 ∷ []) ∷ (7 ∷ []) ∷ []
+    map (λ (c : Call). c .address ∷ wordsOf c (s .memory)) (opens (endedWith (s .calls) (s .memory)))
+    ≡ (4 ∷ lacking ∷ []) ∷ (6 ∷ lacking ∷ 0x111 ∷ []) ∷ (7 ∷ []) ∷ []
 unfolding afterAll openOf openedIn hearOf heardIn memoryAfter endOf endedWith givenTo finished sound firstThat placeIn anyOf those upFrom all
 closed-listed = refl
 
@@ -142,7 +149,8 @@ crossed = addressed 0x01000002 ∷ addressed 0x01000104 ∷ heard 0x02030103 ∷
 abbrev crossing : List Event
 crossing = heard 0x04030006 ∷ heard 0x04030006 ∷ heard 0x03000111 ∷ heard 0x05000222 ∷ heard 0x06000333 ∷ []
 
--- 01: "Vector places are looked at before spans": word 4 is the other's vector, and then its second, 14, though the first call lacks word 4; the words complete the other alone, told as 2
+-- 01: "Vector places are looked at before spans": word 4 is the other's vector, and then its second, 14, though the
+-- first call lacks word 4; the words complete the other alone, told as 2
 pub crossed-answers : answers (afterAll start crossed) crossing
     ≡ given (1 ∷ 1 ∷ 3 ∷ 0 ∷ 0 ∷ [])
     ∷ told 14 []
@@ -286,7 +294,8 @@ vectors =
     ∷ []
 
 -- the vectors give these answers
-pub vector-examples : map {A = Call × ℕ × ℕ} {B = ℕ} (λ t. hearNumber (these (t .0 ∷ [])) (enough lacking) (t .1)) vectors ≡ map {A = Call × ℕ × ℕ} {B = ℕ} (λ t. t .2) vectors
+pub vector-examples : map {A = Call × ℕ × ℕ} {B = ℕ} (λ t. hearNumber (these (t .0 ∷ [])) (enough lacking) (t .1)) vectors
+    ≡ map {A = Call × ℕ × ℕ} {B = ℕ} (λ t. t .2) vectors
 unfolding vectors hearOf sound firstThat
 vector-examples = refl
 
@@ -355,7 +364,8 @@ pub hearing-examples : map {A = Told × ℕ} {B = ℕ} (λ row. numberTold (row 
 unfolding hearings hearOf endOf sound firstThat placeIn anyOf upFrom givenTo finished all
 hearing-examples = refl
 
--- the span is read "only from an undamaged vector of a call still without one": where a damaged vector or a second one has a bad span, the call stays; it is closed by 9 alone
+-- the span is read "only from an undamaged vector of a call still without one": where a damaged vector or a second
+-- one has a bad span, the call stays; it is closed by 9 alone
 pub unread-spans :
     map (λ (t : Calls × ℕ). opens (heardIn (t .0) (enough lacking) (t .1)))
     ((these (waits 0 2 ∷ []), 0x02830002) ∷ (these (spans 0 2 3 1 0 ∷ []), bad) ∷ (these (waits 0 2 ∷ []), bad) ∷ [])

@@ -28,10 +28,13 @@ use Rattle.call.specs.declared.Calls.{Calls}
 use Rattle.call.specs.Calls.{blank, fresh, opens, hasVector, isLong, fits, bringsWords, isOf, holds, sound}
 use Rattle.call.specs.Words.{lacking, placeOf, holdsWord, wordPlace, lacks, givenTo, isHeld, isLacked}
 use Rattle.call.specs.Steps.{callOf, added, vectorFits, changed, removed, incompleteIn}
-use Rattle.call.specs.Answers.{addressIn, telling, openingOf, openOf, openedIn, messageIn, isShort, vectorTold, wordTold, vectorPlace, isForVector, vectorCall, vectorGiven, hearOf, hearNumber, heardIn, memoryAfter, endOf, endedWith, endedIn}
+use Rattle.call.specs.Answers.{addressIn, telling, openingOf, openOf, openedIn, messageIn, isShort, vectorTold}
+use Rattle.call.specs.Answers.{wordTold, vectorPlace, isForVector, vectorCall, vectorGiven, hearOf, hearNumber}
+use Rattle.call.specs.Answers.{heardIn, memoryAfter, endOf, endedWith, endedIn}
 use Rattle.call.specs.Runs.{Event, addressed, heard, ended, State, after}
 use Rattle.call.proofs.Records.{InSpan, fits-span, Limits, is-of, held, sound-row, fresh-sound}
-use Rattle.call.proofs.Rows.{opens-added, opens-size, opens-changed, opens-removed, opens-listed, left, placeThen, then-order, left-stays, added-sound, set-sound, left-sound}
+use Rattle.call.proofs.Rows.{opens-added, opens-size, opens-changed, opens-removed, opens-listed, left}
+use Rattle.call.proofs.Rows.{placeThen, then-order, left-stays, added-sound, set-sound, left-sound}
 
 -- ---- an address packet
 
@@ -76,13 +79,15 @@ module _ (s : Calls) (n : ℕ) where
   told-tone a tone = address-passes a ∙ picks-first (eqb (addressIn n .«tone_only») 1) _ (openingOf s (addressIn n)) tone
 
   -- an answer that tells what no refusal tells opens a call, or is one to a tone-only address
-  open-says : (tells : Told → ℕ) (number : ℕ) → ((r : Refusal) → tells (refused r) ≡ number → ⊥) → tells (openOf s n) ≡ number → Opens ⊎ (Addressed × (eqb (addressIn n .«tone_only») 1 ≡ true))
+  open-says : (tells : Told → ℕ) (number : ℕ) → ((r : Refusal) → tells (refused r) ≡ number → ⊥)
+      → tells (openOf s n) ≡ number → Opens ⊎ (Addressed × (eqb (addressIn n .«tone_only») 1 ≡ true))
   open-says tells number none e =
       let a = passed-address tells number none e in
       ⊎-elim
       (λ tone. inr (a, tone))
       (λ speaks.
-      let rest : tells (openingOf s (addressIn n)) ≡ number = sym (ap tells (address-passes a ∙ picks-second (eqb (addressIn n .«tone_only») 1) _ (openingOf s (addressIn n)) speaks)) ∙ e in
+      let rest : tells (openingOf s (addressIn n)) ≡ number =
+      sym (ap tells (address-passes a ∙ picks-second (eqb (addressIn n .«tone_only») 1) _ (openingOf s (addressIn n)) speaks)) ∙ e in
       let turn = passed-to tells number (holds (addressIn n .phase) (addressIn n .vector) (opens s)) refusals.OutOfTurn _ (none refusals.OutOfTurn) rest in
       let full = passed-to tells number (leb (length (s .calls)) (length (opens s))) refusals.Full _ (none refusals.Full) (turn .1) in
       inl (record { addressed = a; speaks = speaks; alone = turn .0; free = leb-false (length (s .calls)) (length (opens s)) (full .0) }))
@@ -186,10 +191,12 @@ any-weaker test other (x ∷ row) less e =
     (decided (test x))
 
 -- the span of a vector is one for its call exactly if it brings no words or they are in a span's limits
-pub vector-fits : (c : Call) (v : Vector) → (vectorFits c v ≡ true) ↔ (bringsWords (v .kind) ≡ true → InSpan (isLong c) (c .vector) (v .span .start) (v .span .words))
+pub vector-fits : (c : Call) (v : Vector)
+    → (vectorFits c v ≡ true) ↔ (bringsWords (v .kind) ≡ true → InSpan (isLong c) (c .vector) (v .span .start) (v .span .words))
 vector-fits c v = (λ e is. fits-span (isLong c) (c .vector) (v .span .start) (v .span .words) .0 (rw is at e), λ spans. by-kind (bringsWords (v .kind)) spans)
   where
-    by-kind : (brings : Bool) → (brings ≡ true → InSpan (isLong c) (c .vector) (v .span .start) (v .span .words)) → (not brings || fits (isLong c) (c .vector) (v .span .start) (v .span .words)) ≡ true
+    by-kind : (brings : Bool) → (brings ≡ true → InSpan (isLong c) (c .vector) (v .span .start) (v .span .words))
+        → (not brings || fits (isLong c) (c .vector) (v .span .start) (v .span .words)) ≡ true
     by-kind true spans = fits-span (isLong c) (c .vector) (v .span .start) (v .span .words) .1 (spans refl)
     by-kind false spans = refl
 
@@ -197,7 +204,8 @@ vector-fits c v = (λ e is. fits-span (isLong c) (c .vector) (v .span .start) (v
 pub no-words : (n : ℕ) → bringsWords (vectorOf n .kind) ≡ false → vectorOf n .span .words ≡ 0
 no-words n = by-kind (isNumeric (vectorType n)) (isText (vectorType n)) _ _
   where
-    by-kind : (numeric text : Bool) (a b : Span) → (numeric || text) ≡ false → pick numeric a (pick text b (record { check = 0; words = 0; start = 0 })) .words ≡ 0
+    by-kind : (numeric text : Bool) (a b : Span) → (numeric || text) ≡ false
+        → pick numeric a (pick text b (record { check = 0; words = 0; start = 0 })) .words ≡ 0
     by-kind true text a b e = absurd (true≢false e)
     by-kind false true a b e = absurd (true≢false e)
     by-kind false false a b e = refl
@@ -222,7 +230,8 @@ module _ (s : Calls) (memory : List ℕ) (n : ℕ) where
   -- 01: "The vector packet (same phase, that word number) gives the span of message words": it is taken where its span is good, and the memory has room
   pub record VectorTaken : Type 0 where
     pub vectored : Vectored s n
-    pub good : bringsWords (vectorOf n .kind) ≡ true → InSpan (isLong (vectorCall s n)) (vectorCall s n .vector) (vectorOf n .span .start) (vectorOf n .span .words)
+    pub good : bringsWords (vectorOf n .kind) ≡ true
+        → InSpan (isLong (vectorCall s n)) (vectorCall s n .vector) (vectorOf n .span .start) (vectorOf n .span .words)
     pub room : 680 ≤ length memory
 
   -- 01's table, 9: "a bad span closes its call"
@@ -238,7 +247,8 @@ module _ (s : Calls) (memory : List ℕ) (n : ℕ) where
     pub room : 680 ≤ length memory
 
   -- the questions that are asked of both are passed
-  heard-passes : Heard s n → hearOf s memory n ≡ pick (isForVector s n) (vectorTold s memory (vectorPlace s n) (vectorCall s n) (vectorOf n)) (wordTold s memory (messageIn n))
+  heard-passes : Heard s n
+      → hearOf s memory n ≡ pick (isForVector s n) (vectorTold s memory (vectorPlace s n) (vectorCall s n) (vectorOf n)) (wordTold s memory (messageIn n))
   unfolding hearOf
   heard-passes h =
       passes (not (sound (opens s))) refusals.State _ (ap not (h .right))
@@ -247,13 +257,20 @@ module _ (s : Calls) (memory : List ℕ) (n : ℕ) where
 
   -- every answer that is none of their refusals has passed the questions that are asked of both
   passed-heard : (number : ℕ) → (2 ≡ number → ⊥) → (7 ≡ number → ⊥) → (10 ≡ number → ⊥) → hearNumber s memory n ≡ number
-      → Heard s n × (numberTold (pick (isForVector s n) (vectorTold s memory (vectorPlace s n) (vectorCall s n) (vectorOf n)) (wordTold s memory (messageIn n))) ≡ number)
+      → Heard s n
+      × (numberTold (pick (isForVector s n) (vectorTold s memory (vectorPlace s n) (vectorCall s n) (vectorOf n)) (wordTold s memory (messageIn n))) ≡ number)
   unfolding hearOf
   passed-heard number no-state no-packet no-damaged e =
       let state = passed-to numberTold number (not (sound (opens s))) refusals.State _ no-state e in
       let packet = passed-to numberTold number (not (isVector n)) refusals.Packet _ no-packet (state .1) in
-      let damaged = passed-to numberTold number (not (eqb (messageIn n .damaged) 0)) refusals.Damaged _ no-damaged (packet .1) in
-      (record { right = not-false _ (state .0); packet = not-false _ (packet .0); whole = eqb-true (messageIn n .damaged) 0 (not-false _ (damaged .0)) }, damaged .1)
+      let damaged = passed-to numberTold number (not (eqb (messageIn n .damaged) 0)) refusals.Damaged _ no-damaged (packet .1) in (
+        record {
+          right = not-false _ (state .0);
+          packet = not-false _ (packet .0);
+          whole = eqb-true (messageIn n .damaged) 0 (not-false _ (damaged .0));
+        },
+        damaged .1,
+      )
 
   -- a vector is taken exactly then
   pub vector-accepted : ((hearNumber s memory n ≡ 0) × (isForVector s n ≡ true)) ↔ VectorTaken
@@ -262,7 +279,9 @@ module _ (s : Calls) (memory : List ℕ) (n : ℕ) where
       there : (hearNumber s memory n ≡ 0) × (isForVector s n ≡ true) → VectorTaken
       there e =
           let both = passed-heard 0 (λ x. omega arith) (λ x. omega arith) (λ x. omega arith) (e .0) in
-          let taken = vector-taken (hasVector (vectorCall s n)) (vectorFits (vectorCall s n) (vectorOf n)) (isShort memory) _ (sym (ap numberTold (picks-first (isForVector s n) _ (wordTold s memory (messageIn n)) (e .1))) ∙ both .1) in
+          let taken =
+          vector-taken (hasVector (vectorCall s n)) (vectorFits (vectorCall s n) (vectorOf n)) (isShort memory) _
+          (sym (ap numberTold (picks-first (isForVector s n) _ (wordTold s memory (messageIn n)) (e .1))) ∙ both .1) in
           record {
             vectored = record { heard = both .0; is-vector = e .1; first = taken .0 };
             good = vector-fits (vectorCall s n) (vectorOf n) .0 (taken .1);
@@ -275,7 +294,8 @@ module _ (s : Calls) (memory : List ℕ) (n : ℕ) where
             ap numberTold
                 (heard-passes (v .vectored .heard)
                 ∙ picks-first (isForVector s n) _ (wordTold s memory (messageIn n)) (v .vectored .is-vector)
-                ∙ passes (not (hasVector c) && not (vectorFits c (vectorOf n))) refusals.Size _ (rw (vector-fits c (vectorOf n) .1 (v .good)) (and-false (not (hasVector c))))
+                ∙ passes (not (hasVector c) && not (vectorFits c (vectorOf n))) refusals.Size _
+                (rw (vector-fits c (vectorOf n) .1 (v .good)) (and-false (not (hasVector c))))
                 ∙ passes (hasVector c) refusals.OutOfTurn _ (v .vectored .first)
                 ∙ passes (isShort memory) refusals.Room _ (le-ltb (length memory) 680 (v .room))),
             v .vectored .is-vector,
@@ -290,7 +310,9 @@ module _ (s : Calls) (memory : List ℕ) (n : ℕ) where
           let both = passed-heard 9 (λ x. omega arith) (λ x. omega arith) (λ x. omega arith) e in
           ⊎-elim
           (λ is.
-          let bad = vector-bad (hasVector (vectorCall s n)) (vectorFits (vectorCall s n) (vectorOf n)) (isShort memory) _ (sym (ap numberTold (picks-first (isForVector s n) _ (wordTold s memory (messageIn n)) is)) ∙ both .1) in
+          let bad =
+          vector-bad (hasVector (vectorCall s n)) (vectorFits (vectorCall s n) (vectorOf n)) (isShort memory) _
+          (sym (ap numberTold (picks-first (isForVector s n) _ (wordTold s memory (messageIn n)) is)) ∙ both .1) in
           record { vectored = record { heard = both .0; is-vector = is; first = bad .0 }; bad = bad .1 })
           (λ none.
           absurd
@@ -312,13 +334,16 @@ module _ (s : Calls) (memory : List ℕ) (n : ℕ) where
       there : (hearNumber s memory n ≡ 0) × (isForVector s n ≡ false) → WordTaken
       there e =
           let both = passed-heard 0 (λ x. omega arith) (λ x. omega arith) (λ x. omega arith) (e .0) in
-          let taken = word-taken (isHeld (opens s) (messageIn n)) (isLacked (opens s) (messageIn n) memory) (isShort memory) _ (sym (ap numberTold (picks-second (isForVector s n) (vectorTold s memory (vectorPlace s n) (vectorCall s n) (vectorOf n)) _ (e .1))) ∙ both .1) in
+          let taken =
+          word-taken (isHeld (opens s) (messageIn n)) (isLacked (opens s) (messageIn n) memory) (isShort memory) _
+          (sym (ap numberTold (picks-second (isForVector s n) (vectorTold s memory (vectorPlace s n) (vectorCall s n) (vectorOf n)) _ (e .1))) ∙ both .1) in
           record { heard = both .0; no-vector = e .1; lacked = taken .1; room = ltb-false (length memory) 680 (taken .2) }
 
       back : WordTaken → (hearNumber s memory n ≡ 0) × (isForVector s n ≡ false)
       back w =
           let m = messageIn n in
-          let is-held = any-weaker (λ c. lacks c m memory) (λ c. holdsWord c m) (opens s) (λ c e. first-of (holdsWord c m) (leb lacking (getD memory (wordPlace c m) lacking)) e) (w .lacked) in (
+          let is-held = any-weaker (λ c. lacks c m memory) (λ c. holdsWord c m) (opens s)
+          (λ c e. first-of (holdsWord c m) (leb lacking (getD memory (wordPlace c m) lacking)) e) (w .lacked) in (
             ap numberTold
                 (heard-passes (w .heard)
                 ∙ picks-second (isForVector s n) (vectorTold s memory (vectorPlace s n) (vectorCall s n) (vectorOf n)) _ (w .no-vector)
@@ -331,12 +356,17 @@ module _ (s : Calls) (memory : List ℕ) (n : ℕ) where
   -- ---- the records and the memory then
 
   -- the records then: without the call of a bad span, with the vector of one that is taken, or as they were
-  pub heard-by : (P : Calls → Type 0) → (BadSpan → P (removed s (vectorPlace s n))) → (VectorTaken → P (changed s (vectorPlace s n) (vectorGiven s n))) → P s → P (heardIn s memory n)
+  pub heard-by : (P : Calls → Type 0) → (BadSpan → P (removed s (vectorPlace s n)))
+      → (VectorTaken → P (changed s (vectorPlace s n) (vectorGiven s n))) → P s → P (heardIn s memory n)
   unfolding heardIn
   heard-by P closed taken else =
       by-number (eqb (hearNumber s memory n) 9) (eqb (hearNumber s memory n) 0 && isForVector s n)
       (λ is. closed (bad-span .0 (eqb-true (hearNumber s memory n) 9 is)))
-      (λ is. taken (vector-accepted .0 (eqb-true (hearNumber s memory n) 0 (first-of (eqb (hearNumber s memory n) 0) (isForVector s n) is), second-of (eqb (hearNumber s memory n) 0) (isForVector s n) is)))
+      (λ is. taken
+      (vector-accepted .0 (
+        eqb-true (hearNumber s memory n) 0 (first-of (eqb (hearNumber s memory n) 0) (isForVector s n) is),
+        second-of (eqb (hearNumber s memory n) 0) (isForVector s n) is,
+      )))
     where
       by-number : (nine given : Bool) → (nine ≡ true → P (removed s (vectorPlace s n))) → (given ≡ true → P (changed s (vectorPlace s n) (vectorGiven s n)))
           → P (pick nine (removed s (vectorPlace s n)) (pick given (changed s (vectorPlace s n) (vectorGiven s n)) s))
@@ -345,7 +375,9 @@ module _ (s : Calls) (memory : List ℕ) (n : ℕ) where
       by-number false false there here = else
 
   -- the open calls then: without the call of a bad span, with the vector of one that is taken, or as they were
-  pub heard-rows : (P : List Call → Type 0) → (BadSpan → P (left (vectorPlace s n) (opens s))) → (VectorTaken → P (set (opens s) (vectorPlace s n) (vectorGiven s n))) → P (opens s) → P (opens (heardIn s memory n))
+  pub heard-rows : (P : List Call → Type 0) → (BadSpan → P (left (vectorPlace s n) (opens s)))
+      → (VectorTaken → P (set (opens s) (vectorPlace s n) (vectorGiven s n))) → P (opens s)
+      → P (opens (heardIn s memory n))
   heard-rows P closed taken else =
       heard-by (λ t. P (opens t))
       (λ b. rw (opens-removed s (vectorPlace s n) (vectored-within s n (b .vectored))) (closed b))
@@ -383,7 +415,9 @@ module _ (s : Calls) (memory : List ℕ) (n : ℕ) where
   refused-memory some = picks-second (eqb (hearNumber s memory n) 0) _ memory (ne-eqb (hearNumber s memory n) 0 some)
 
   -- the memory: a vector that is taken has its words lacking, a word that is taken is given to the calls, else it is as it was
-  pub memory-by : (P : List ℕ → Type 0) → (VectorTaken → P (put memory (placeOf (vectorGiven s n)) (replicate (vectorGiven s n .words) lacking))) → (WordTaken → P (givenTo (opens s) (messageIn n) memory)) → P memory → P (memoryAfter s memory n)
+  pub memory-by : (P : List ℕ → Type 0)
+      → (VectorTaken → P (put memory (placeOf (vectorGiven s n)) (replicate (vectorGiven s n .words) lacking)))
+      → (WordTaken → P (givenTo (opens s) (messageIn n) memory)) → P memory → P (memoryAfter s memory n)
   unfolding memoryAfter
   memory-by P taken given else =
       by-number (eqb (hearNumber s memory n) 0) (isForVector s n)
@@ -393,7 +427,10 @@ module _ (s : Calls) (memory : List ℕ) (n : ℕ) where
       by-number : (none is-vector : Bool)
           → (none ≡ true → is-vector ≡ true → P (put memory (placeOf (vectorGiven s n)) (replicate (vectorGiven s n .words) lacking)))
           → (none ≡ true → is-vector ≡ false → P (givenTo (opens s) (messageIn n) memory))
-          → P (pick none (pick is-vector (put memory (placeOf (vectorGiven s n)) (replicate (vectorGiven s n .words) lacking)) (givenTo (opens s) (messageIn n) memory)) memory)
+          → P
+          (pick none
+          (pick is-vector (put memory (placeOf (vectorGiven s n)) (replicate (vectorGiven s n .words) lacking))
+          (givenTo (opens s) (messageIn n) memory)) memory)
       by-number true true there here = there refl refl
       by-number true false there here = here refl refl
       by-number false is-vector there here = else
@@ -544,7 +581,8 @@ module _ (s : Calls) (memory : List ℕ) (n : ℕ) where
         (λ bad.
         let e = eqb-true (hearNumber s memory n) 9 bad in
         let stays = left-stays (opens s) (vectorPlace s n) (vectored-within s n (bad-span s memory n .0 e .vectored)) i inside other in
-        rw (picks-first (eqb (hearNumber s memory n) 9) (placeThen (vectorPlace s n) i) i bad, bad-span-closes e .0) (record { within = stays .0; here = stays .1 }))
+        rw (picks-first (eqb (hearNumber s memory n) 9) (placeThen (vectorPlace s n) i) i bad, bad-span-closes e .0)
+        (record { within = stays .0; here = stays .1 }))
         (λ good.
         rw (picks-second (eqb (hearNumber s memory n) 9) (placeThen (vectorPlace s n) i) i good)
         (heard-rows s memory n (Stands (getD (opens s) i blank) i)
@@ -576,7 +614,8 @@ module _ (s : Calls) (memory : List ℕ) (n : ℕ) where
     other-place other same =
         other
         (ap (λ (k : ℕ). getD (opens s) k blank .phase) same
-        ∙ is-of (messageIn n .phase) (messageIn n .word) (vectorCall s n) .0 (first-passes (isOf (messageIn n .phase) (messageIn n .word)) (opens s) blank (rw (← same) inside)) .same-phase)
+        ∙ is-of (messageIn n .phase) (messageIn n .word) (vectorCall s n) .0
+        (first-passes (isOf (messageIn n .phase) (messageIn n .word)) (opens s) blank (rw (← same) inside)) .same-phase)
 
     -- a call of another phase than the packet's stays
     pub other-phase : (getD (opens s) i blank .phase ≡ messageIn n .phase → ⊥) → Stands (getD (opens s) i blank) (placeAfter i) (opens (heardIn s memory n))

@@ -18,12 +18,36 @@ use Rattle.call.proofs.Rows.{left}
 -- a call of a key that awaits its vector
 abbrev pub waits : ℕ → ℕ → Call
 waits phase vector =
-    record { phase = phase; vector = vector; address = 0; priority = 0; «long_address» = 0; «has_vector» = 0; kind = 0; check = 0; start = 0; words = 0; area = 0 }
+    record {
+      phase = phase;
+      vector = vector;
+      address = 0;
+      priority = 0;
+      «long_address» = 0;
+      «has_vector» = 0;
+      kind = 0;
+      check = 0;
+      start = 0;
+      words = 0;
+      area = 0;
+    }
 
 -- a call of a key whose vector has come, a standard numeric one (V 3): where its words begin, how many they are, and their area
 abbrev pub spans : ℕ → ℕ → ℕ → ℕ → ℕ → Call
 spans phase vector start words area =
-    record { phase = phase; vector = vector; address = 0; priority = 0; «long_address» = 0; «has_vector» = 1; kind = 3; check = 0; start = start; words = words; area = area }
+    record {
+      phase = phase;
+      vector = vector;
+      address = 0;
+      priority = 0;
+      «long_address» = 0;
+      «has_vector» = 1;
+      kind = 3;
+      check = 0;
+      start = start;
+      words = words;
+      area = area;
+    }
 
 -- a call whose vector has come, a short message (V 2), which brings no words: the words that its record names all the same
 abbrev pub brief : ℕ → ℕ → ℕ → ℕ → Call
@@ -93,12 +117,14 @@ unfolding afterAll hearOf heardIn memoryAfter endOf endedIn sound firstThat
 unsound-stays = refl
 
 -- a key's second call, or one outside the limits, put after a row
-pub alone-needed : sound ((waits 0 2 ∷ []) ++ waits 0 2 ∷ []) ∷ sound ((waits 0 2 ∷ []) ++ waits 4 2 ∷ []) ∷ sound ((waits 0 2 ∷ []) ++ waits 0 88 ∷ []) ∷ [] ≡ false ∷ false ∷ false ∷ []
+pub alone-needed : sound ((waits 0 2 ∷ []) ++ waits 0 2 ∷ []) ∷ sound ((waits 0 2 ∷ []) ++ waits 4 2 ∷ []) ∷ sound ((waits 0 2 ∷ []) ++ waits 0 88 ∷ []) ∷ []
+    ≡ false ∷ false ∷ false ∷ []
 unfolding sound firstThat
 alone-needed = refl
 
 -- a call changed that takes another's key, or a span outside the limits
-pub key-needed : sound (set (waits 0 2 ∷ waits 1 2 ∷ []) 0 (waits 1 2)) ∷ sound (set (waits 0 2 ∷ waits 1 2 ∷ []) 0 (spans 0 2 2 1 0)) ∷ [] ≡ false ∷ false ∷ []
+pub key-needed : sound (set (waits 0 2 ∷ waits 1 2 ∷ []) 0 (waits 1 2)) ∷ sound (set (waits 0 2 ∷ waits 1 2 ∷ []) 0 (spans 0 2 2 1 0)) ∷ []
+    ≡ false ∷ false ∷ []
 unfolding sound firstThat
 key-needed = refl
 
@@ -135,7 +161,8 @@ room-needed = refl
 -- ---- calls that stay
 
 -- the call of a vector changes, or is closed; the other stays, one place down, as it came after the closed one
-pub other-needed : map opens (after (state (two 2 (waits 0 2) (waits 1 2))) (heard good) .calls ∷ after (state (two 2 (waits 0 2) (waits 1 2))) (heard bad) .calls ∷ [])
+pub other-needed : map opens
+    (after (state (two 2 (waits 0 2) (waits 1 2))) (heard good) .calls ∷ after (state (two 2 (waits 0 2) (waits 1 2))) (heard bad) .calls ∷ [])
     ≡ (spans 0 2 3 1 0 ∷ waits 1 2 ∷ []) ∷ (waits 1 2 ∷ []) ∷ []
 unfolding hearOf heardIn sound firstThat those
 other-needed = refl
@@ -153,7 +180,8 @@ frame-needed = refl
 -- ---- areas
 
 -- a call left out that has its vector: the other's area is then not below the number of those with one
-pub vector-needed : (nextArea (left 0 (spans 0 2 3 1 0 ∷ spans 1 2 3 1 1 ∷ [])) ≡ 1) × (getD (left 0 (spans 0 2 3 1 0 ∷ spans 1 2 3 1 1 ∷ [])) 0 blank .area ≡ 1)
+pub vector-needed : (nextArea (left 0 (spans 0 2 3 1 0 ∷ spans 1 2 3 1 1 ∷ [])) ≡ 1)
+    × (getD (left 0 (spans 0 2 3 1 0 ∷ spans 1 2 3 1 1 ∷ [])) 0 blank .area ≡ 1)
 unfolding those
 vector-needed = (refl, refl)
 
@@ -175,6 +203,9 @@ unfolding afterAll openOf openedIn hearOf heardIn memoryAfter sound firstThat pl
 taken-calls = refl
 
 -- the end of the frame lists a call before its word has come, and not after
-pub listed-calls : opens (endedWith (two 1 (spans 0 2 3 1 0) blank) (replicate 680 lacking)) ∷ opens (endedWith (two 1 (spans 0 2 3 1 0) blank) (5 ∷ replicate 679 lacking)) ∷ [] ≡ (spans 0 2 3 1 0 ∷ []) ∷ [] ∷ []
+pub listed-calls :
+    opens (endedWith (two 1 (spans 0 2 3 1 0) blank) (replicate 680 lacking))
+    ∷ opens (endedWith (two 1 (spans 0 2 3 1 0) blank) (5 ∷ replicate 679 lacking)) ∷ []
+    ≡ (spans 0 2 3 1 0 ∷ []) ∷ [] ∷ []
 unfolding endOf endedWith sound firstThat those all
 listed-calls = refl

@@ -18,7 +18,8 @@ use Rattle.call.specs.Calls.{blank, fresh, opens, hasVector, isLong, fit
 
 -- ---- one call
 
--- 01: "The span, 1 to 85 words in all, must lie after the vector (a long call's rest after its first word) and end by word 87", in numbers; of one word alone, which follows the vector, the start says nothing
+-- 01: "The span, 1 to 85 words in all, must lie after the vector (a long call's rest after its first word) and end by
+-- word 87", in numbers; of one word alone, which follows the vector, the start says nothing
 pub record InSpan (long : Bool) (vector start words : ℕ) : Type 0 where
   pub some-words : 1 ≤ words
   pub most-words : words ≤ 85
@@ -146,7 +147,9 @@ module _ (phase vector : ℕ) (row : List Call) where
 
 -- no two calls are of one key: two places of one key are one place
 abbrev pub Apart : List Call → Type 0
-Apart row = (i j : ℕ) → i < length row → j < length row → getD row i blank .phase ≡ getD row j blank .phase → getD row i blank .vector ≡ getD row j blank .vector → i ≡ j
+Apart row =
+    (i j : ℕ) → i < length row → j < length row → getD row i blank .phase ≡ getD row j blank .phase
+    → getD row i blank .vector ≡ getD row j blank .vector → i ≡ j
 
 -- 01's table, 2: what a row is that is not refused
 pub record Sound (row : List Call) : Type 0 where
@@ -170,9 +173,11 @@ sound-says (c ∷ row) e =
     at-each here rest zero within = here
     at-each here rest (suc i) within = rest .limits i (omega arith)
 
-    only-here : holds (c .phase) (c .vector) row ≡ false → (j : ℕ) → j < length row → c .phase ≡ getD row j blank .phase → c .vector ≡ getD row j blank .vector → ⊥
+    only-here : holds (c .phase) (c .vector) row ≡ false → (j : ℕ) → j < length row
+        → c .phase ≡ getD row j blank .phase → c .vector ≡ getD row j blank .vector → ⊥
     only-here none j within phase vector =
-        not-both (isOf (c .phase) (c .vector) (getD row j blank)) (is-of (c .phase) (c .vector) (getD row j blank) .1 (record { same-phase = sym phase; same-vector = sym vector }))
+        not-both (isOf (c .phase) (c .vector) (getD row j blank))
+        (is-of (c .phase) (c .vector) (getD row j blank) .1 (record { same-phase = sym phase; same-vector = sym vector }))
         (none-held (c .phase) (c .vector) row none j within)
 
     apart-each : holds (c .phase) (c .vector) row ≡ false → Sound row → Apart (c ∷ row)
@@ -186,7 +191,11 @@ says-sound : (row : List Call) → Sound row → sound row ≡ true
 unfolding sound
 says-sound [] s = refl
 says-sound (c ∷ row) s =
-    let rest = says-sound row (record { limits = λ i within. s .limits (suc i) (omega arith); apart = λ i j within inside phase vector. omega (arith, s .apart (suc i) (suc j) (omega arith) (omega arith) phase vector) }) in
+    let rest =
+    says-sound row (record {
+      limits = λ i within. s .limits (suc i) (omega arith);
+      apart = λ i j within inside phase vector. omega (arith, s .apart (suc i) (suc j) (omega arith) (omega arith) phase vector);
+    }) in
     rw (in-limits c .1 (s .limits 0 (omega arith)), no-other (s .apart), rest)
   where
     no-other : Apart (c ∷ row) → holds (c .phase) (c .vector) row ≡ false
@@ -217,7 +226,8 @@ module _ (row : List Call) (good : sound row ≡ true) where
       let inside : find phase vector row < length row = omega arith in
       let found = is-of phase vector (getD row (find phase vector row) blank) .0 (first-passes (isOf phase vector) row blank inside) in
       let here = is-of phase vector (getD row i blank) .0 is in
-      sound-row row .0 good .apart (find phase vector row) i inside within (found .same-phase ∙ sym (here .same-phase)) (found .same-vector ∙ sym (here .same-vector))
+      sound-row row .0 good .apart (find phase vector row) i inside within
+      (found .same-phase ∙ sym (here .same-phase)) (found .same-vector ∙ sym (here .same-vector))
 
   -- each call is what is found for its own key
   pub found-at : (i : ℕ) → i < length row → find (getD row i blank .phase) (getD row i blank .vector) row ≡ i

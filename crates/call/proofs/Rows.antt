@@ -9,7 +9,9 @@ use native.Mathlib.Omega.{arith}
 use borrow.Author.Tests.{eqb-true, eqb-false, lt-ltb, le-ltb, ltb-true, ltb-false}
 use lib.Dec.{ltb, eqb}
 use lib.ListN.{length, getD, take, drop, set, length-append, length-take, length-drop, length-set, length-replicate, List·getD-append}
-use lib.Seq.{length-take-le, take-take, take-append-le, take-append-seam, take-append-add, take-suc-set, take-set-lt, take-set-le, set-out, getD-append-seam, getD-append-add, getD-set-same, getD-set-other, getD-take, getD-drop}
+use lib.Seq.{length-take-le, take-take, take-append-le, take-append-seam, take-append-add, take-suc-set, take-set-lt}
+use lib.Seq.{take-set-le, set-out, getD-append-seam, getD-append-add, getD-set-same, getD-set-other, getD-take}
+use lib.Seq.{getD-drop}
 use Rattle.laws.specs.Choice.{pick}
 use Rattle.laws.proofs.Counting.{take-min}
 use Rattle.laws.proofs.Tests.{decided, not-both}
@@ -187,7 +189,8 @@ module _ (row : List Call) (place : ℕ) (within : place < length row) where
       ⊎-elim (λ first. rw first (omega arith)) (λ later. rw later (omega arith)) (decided (ltb i place))
 
   -- a call at another place stays
-  pub left-stays : (i : ℕ) → i < length row → (i ≡ place → ⊥) → (placeThen place i < length (left place row)) × (getD (left place row) (placeThen place i) blank ≡ getD row i blank)
+  pub left-stays : (i : ℕ) → i < length row → (i ≡ place → ⊥)
+      → (placeThen place i < length (left place row)) × (getD (left place row) (placeThen place i) blank ≡ getD row i blank)
   left-stays i inside other =
       (rw left-length (by-side i inside other), left-at (placeThen place i) ∙ ap (λ (n : ℕ). getD row n blank) (before-then place i other))
     where
@@ -224,15 +227,20 @@ module _ (row : List Call) (good : sound row ≡ true) where
   pub left-sound : (place : ℕ) → place < length row → sound (left place row) ≡ true
   left-sound place within =
       sound-by row (left place row) (placeBefore place) good (before-within row place within) (before-apart place)
-      (λ i less. record { same-phase = ap (λ (c : Call). c .phase) (left-at row place within i); same-vector = ap (λ (c : Call). c .vector) (left-at row place within i) })
+      (λ i less. record {
+        same-phase = ap (λ (c : Call). c .phase) (left-at row place within i);
+        same-vector = ap (λ (c : Call). c .vector) (left-at row place within i);
+      })
       (λ i less. rw (left-at row place within i) (sound-row row .0 good .limits (placeBefore place i) (before-within row place within i less)))
 
   -- a call changed that keeps its key and is within its limits
-  pub set-sound : (place : ℕ) (c : Call) → c .phase ≡ getD row place blank .phase → c .vector ≡ getD row place blank .vector → Limits c → sound (set row place c) ≡ true
+  pub set-sound : (place : ℕ) (c : Call) → c .phase ≡ getD row place blank .phase
+      → c .vector ≡ getD row place blank .vector → Limits c → sound (set row place c) ≡ true
   set-sound place c phase vector limits =
       sound-by row (set row place c) (λ i. i) good (λ i less. rw length-set at less) (λ i j e. e) (λ i less. each i less .0) (λ i less. each i less .1)
     where
-      each : (i : ℕ) → i < length (set row place c) → Key (getD row i blank .phase) (getD row i blank .vector) (getD (set row place c) i blank) × Limits (getD (set row place c) i blank)
+      each : (i : ℕ) → i < length (set row place c)
+          → Key (getD row i blank .phase) (getD row i blank .vector) (getD (set row place c) i blank) × Limits (getD (set row place c) i blank)
       each i less =
           let inside : i < length row = rw length-set at less in
           ⊎-elim
@@ -266,7 +274,8 @@ module _ (row : List Call) (good : sound row ≡ true) where
 
       only-new : (i : ℕ) → i < length row → getD row i blank .phase ≡ c .phase → getD row i blank .vector ≡ c .vector → ⊥
       only-new i less phase vector =
-          not-both (isOf (c .phase) (c .vector) (getD row i blank)) (is-of (c .phase) (c .vector) (getD row i blank) .1 (record { same-phase = phase; same-vector = vector }))
+          not-both (isOf (c .phase) (c .vector) (getD row i blank))
+          (is-of (c .phase) (c .vector) (getD row i blank) .1 (record { same-phase = phase; same-vector = vector }))
           (none-held (c .phase) (c .vector) row alone i less)
 
       apart-each : Apart (row ++ c ∷ [])

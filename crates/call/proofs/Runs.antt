@@ -26,8 +26,11 @@ use Rattle.call.specs.Runs.{Event, addressed, heard, ended, State, after
 use Rattle.call.proofs.Invariants.{Placed}
 use Rattle.call.proofs.Records.{fresh-sound, in-limits}
 use Rattle.call.proofs.MemoryLaws.{given-length, words-most}
-use Rattle.call.proofs.Rows.{opens-most, listed-length, added-length, changed-length, removed-length, left, placeBefore, before-apart, before-within, left-at}
-use Rattle.call.proofs.Laws.{open-told, opened-by, opened-row, opened-rows, VectorTaken, vectored-within, heard-by, heard-rows, memory-by, Ended, end-lists, ended-by, given-limits, stays-sound, Stands, open-stays, placeAfter, with-vector-stays}
+use Rattle.call.proofs.Rows.{opens-most, listed-length, added-length, changed-length, removed-length, left}
+use Rattle.call.proofs.Rows.{placeBefore, before-apart, before-within, left-at}
+use Rattle.call.proofs.Laws.{open-told, opened-by, opened-row, opened-rows, VectorTaken, vectored-within}
+use Rattle.call.proofs.Laws.{heard-by, heard-rows, memory-by, Ended, end-lists, ended-by, given-limits}
+use Rattle.call.proofs.Laws.{stays-sound, Stands, open-stays, placeAfter, with-vector-stays}
 
 -- ---- sound, and as long
 
@@ -38,7 +41,8 @@ run-sound s [] right = right
 run-sound s (event ∷ events) right = run-sound (after s event) events (stays-sound s event right)
 
 -- a run that begins with no call open has sound records after each event
-pub fresh-run-sound : (count : ℕ) (memory : List ℕ) (events : List Event) → sound (opens (afterAll (record { calls = fresh count; memory = memory }) events .calls)) ≡ true
+pub fresh-run-sound : (count : ℕ) (memory : List ℕ) (events : List Event)
+    → sound (opens (afterAll (record { calls = fresh count; memory = memory }) events .calls)) ≡ true
 fresh-run-sound count memory events = run-sound (record { calls = fresh count; memory = memory }) events (fresh-sound count)
 
 -- the words of a vector that is taken have room in their area
@@ -46,8 +50,10 @@ pub given-most : (s : Calls) (memory : List ℕ) (n : ℕ) → VectorTaken s mem
 given-most s memory n v = words-most (vectorGiven s n) (in-limits (vectorGiven s n) .1 (given-limits s memory n v)) refl
 
 -- an event leaves as many records and as much memory
-pub event-lengths : (s : State) (event : Event) → (length (after s event .calls .calls) ≡ length (s .calls .calls)) × (length (after s event .memory) ≡ length (s .memory))
-event-lengths s (addressed n) = (opened-by (s .calls) n (λ t. length (t .calls) ≡ length (s .calls .calls)) (λ o. added-length (s .calls) (callOf (addressIn n))) refl, refl)
+pub event-lengths : (s : State) (event : Event)
+    → (length (after s event .calls .calls) ≡ length (s .calls .calls)) × (length (after s event .memory) ≡ length (s .memory))
+event-lengths s (addressed n) =
+    (opened-by (s .calls) n (λ t. length (t .calls) ≡ length (s .calls .calls)) (λ o. added-length (s .calls) (callOf (addressIn n))) refl, refl)
 event-lengths s (heard n) = (
   heard-by (s .calls) (s .memory) n (λ t. length (t .calls) ≡ length (s .calls .calls))
       (λ b. removed-length (s .calls) (vectorPlace (s .calls) n) (vectored-within (s .calls) n (b .vectored)))
@@ -60,10 +66,12 @@ event-lengths s (heard n) = (
       (λ w. given-length (messageIn n) (opens (s .calls)) (s .memory))
       refl,
 )
-event-lengths s ended = (ended-by (s .calls) (s .memory) (λ t. length (t .calls) ≡ length (s .calls .calls)) (length-replicate (length (s .calls .calls)) blank) refl, refl)
+event-lengths s ended =
+    (ended-by (s .calls) (s .memory) (λ t. length (t .calls) ≡ length (s .calls .calls)) (length-replicate (length (s .calls .calls)) blank) refl, refl)
 
 -- a run leaves as many records and as much memory
-pub run-lengths : (s : State) (events : List Event) → (length (afterAll s events .calls .calls) ≡ length (s .calls .calls)) × (length (afterAll s events .memory) ≡ length (s .memory))
+pub run-lengths : (s : State) (events : List Event)
+    → (length (afterAll s events .calls .calls) ≡ length (s .calls .calls)) × (length (afterAll s events .memory) ≡ length (s .memory))
 unfolding afterAll
 run-lengths s [] = (refl, refl)
 run-lengths s (event ∷ events) =
@@ -131,14 +139,16 @@ order s (addressed n) = ⊎-elim opened not-opened (decided (eqb (valueTold (ope
     now-none : eqb (valueTold (openOf (s .calls) n) 0) 1 ≡ false → openedNow s (addressed n) ≡ []
     now-none unopened = rw unopened
 
-    opened : eqb (valueTold (openOf (s .calls) n) 0) 1 ≡ true → Among (map unheard (opens (openedIn (s .calls) n))) (map unheard row ++ openedNow s (addressed n))
+    opened : eqb (valueTold (openOf (s .calls) n) 0) 1 ≡ true
+        → Among (map unheard (opens (openedIn (s .calls) n))) (map unheard row ++ openedNow s (addressed n))
     opened is =
         among-is
         (ap (map unheard) (opened-row (s .calls) n (open-told (s .calls) n .0 (eqb-true (valueTold (openOf (s .calls) n) 0) 1 is)))
         ∙ map-append unheard row (callOf (addressIn n) ∷ [])
         ∙ ap (λ (more : List Call). map unheard row ++ more) (sym (now-one is)))
 
-    not-opened : eqb (valueTold (openOf (s .calls) n) 0) 1 ≡ false → Among (map unheard (opens (openedIn (s .calls) n))) (map unheard row ++ openedNow s (addressed n))
+    not-opened : eqb (valueTold (openOf (s .calls) n) 0) 1 ≡ false
+        → Among (map unheard (opens (openedIn (s .calls) n))) (map unheard row ++ openedNow s (addressed n))
     not-opened unopened =
         opened-rows (s .calls) n (λ r. Among (map unheard r) (map unheard row ++ openedNow s (addressed n)))
         (λ o. absurd (eqb-false (valueTold (openOf (s .calls) n) 0) 1 unopened (open-told (s .calls) n .1 o)))
@@ -157,7 +167,8 @@ order s ended =
 
 -- 01: "in the order opened": after a run, in a frame or over the ends of frames, the open calls are those before and the
 -- ones that it opens after them, with some left out
-pub run-order : (s : State) (events : List Event) → Among (map unheard (opens (afterAll s events .calls))) (map unheard (opens (s .calls)) ++ openedBy s events)
+pub run-order : (s : State) (events : List Event)
+    → Among (map unheard (opens (afterAll s events .calls))) (map unheard (opens (s .calls)) ++ openedBy s events)
 unfolding afterAll openedBy
 run-order s [] = among-is (sym (append-nil (map unheard (opens (s .calls)))))
 run-order s (event ∷ events) =
@@ -166,7 +177,8 @@ run-order s (event ∷ events) =
     (among-again (run-order (after s event) events) (among-joined (order s event) (among-same more)))
 
 -- 01: "End of frame .. lists those incomplete, in the order opened"
-pub end-list : (s : Calls) (memory : List ℕ) → Ended s memory → (opens (endedWith s memory) ≡ incompleteIn (opens s) memory) × Among (opens (endedWith s memory)) (opens s)
+pub end-list : (s : Calls) (memory : List ℕ) → Ended s memory
+    → (opens (endedWith s memory) ≡ incompleteIn (opens s) memory) × Among (opens (endedWith s memory)) (opens s)
 end-list s memory a = (end-lists s memory a, rw (end-lists s memory a) (among-those _ (opens s)))
 
 -- the list at the end of a frame has as many records as before, where the end is refused too
@@ -174,7 +186,9 @@ pub end-length : (s : Calls) (memory : List ℕ) → length (endedWith s memory 
 unfolding endedWith
 end-length s memory =
     ⊎-elim
-    (λ taken. rw taken (listed-length (length (s .calls)) (incompleteIn (opens s) memory) (omega (arith, those-most (λ c. not (isComplete c memory)) (opens s), opens-most s .0))))
+    (λ taken. rw taken
+    (listed-length (length (s .calls)) (incompleteIn (opens s) memory)
+    (omega (arith, those-most (λ c. not (isComplete c memory)) (opens s), opens-most s .0))))
     (λ refused. rw refused (length-replicate (length (s .calls)) blank))
     (decided (eqb (numberTold (endOf s memory)) 0))
 
@@ -229,7 +243,8 @@ module _ (row : List Call) (placed : Placed row) where
       placed-by row (row ++ c ∷ []) (λ i. i) placed (λ i j e. e) same
       (area-join row (c ∷ []) ∙ rw (those-length-cons hasVector c [], before) (omega (arith, those-most hasVector [])))
     where
-      same : (i : ℕ) → i < length (row ++ c ∷ []) → hasVector (getD (row ++ c ∷ []) i blank) ≡ true → (i < length row) × (getD (row ++ c ∷ []) i blank ≡ getD row i blank)
+      same : (i : ℕ) → i < length (row ++ c ∷ []) → hasVector (getD (row ++ c ∷ []) i blank) ≡ true
+          → (i < length row) × (getD (row ++ c ∷ []) i blank ≡ getD row i blank)
       same i within has =
           let longer = length-append row (c ∷ []) in
           ⊎-elim
@@ -243,7 +258,8 @@ module _ (row : List Call) (placed : Placed row) where
     -- a call closed that has no vector
     pub left-placed : Placed (left place row)
     left-placed =
-        placed-by row (left place row) (placeBefore place) placed (before-apart place) (λ i inside has. (before-within row place within i inside, left-at row place within i))
+        placed-by row (left place row) (placeBefore place) placed (before-apart place)
+        (λ i inside has. (before-within row place within i inside, left-at row place within i))
         (area-left row place within before)
 
     -- a call that gets its vector, in the next area
@@ -284,7 +300,8 @@ module _ (row : List Call) (placed : Placed row) where
         at-other : (i : ℕ) → eqb i place ≡ false → getD (set row place c) i blank ≡ getD row i blank
         at-other i other = getD-set-other row place i c blank (eqb-false i place other)
 
-        later : (i : ℕ) → i < length row → eqb i place ≡ false → hasVector (getD (set row place c) i blank) ≡ true → getD (set row place c) i blank .area ≡ c .area → ⊥
+        later : (i : ℕ) → i < length row → eqb i place ≡ false → hasVector (getD (set row place c) i blank) ≡ true
+            → getD (set row place c) i blank .area ≡ c .area → ⊥
         later i inside other with-vector area =
             let old = at-other i other in
             let less = placed .below i inside (rw old at with-vector) in
@@ -301,7 +318,8 @@ placed-after s (addressed n) placed = opened-rows (s .calls) n Placed (λ o. add
 placed-after s (heard n) placed =
     heard-rows (s .calls) (s .memory) n Placed
     (λ b. left-placed (opens (s .calls)) placed (vectorPlace (s .calls) n) (vectored-within (s .calls) n (b .vectored)) (b .vectored .first))
-    (λ v. set-placed (opens (s .calls)) placed (vectorPlace (s .calls) n) (vectored-within (s .calls) n (v .vectored)) (v .vectored .first) (vectorGiven (s .calls) n) refl refl)
+    (λ v. set-placed (opens (s .calls)) placed (vectorPlace (s .calls) n) (vectored-within (s .calls) n (v .vectored))
+    (v .vectored .first) (vectorGiven (s .calls) n) refl refl)
     placed
 placed-after s ended placed = ended-by (s .calls) (s .memory) (λ t. Placed (opens t)) (placed-fresh (length (s .calls .calls))) placed
 
@@ -312,7 +330,8 @@ run-placed s [] placed = placed
 run-placed s (event ∷ events) placed = run-placed (after s event) events (placed-after s event placed)
 
 -- after each event of a run that begins with no call open the calls have areas of their own
-pub fresh-run-placed : (count : ℕ) (memory : List ℕ) (events : List Event) → Placed (opens (afterAll (record { calls = fresh count; memory = memory }) events .calls))
+pub fresh-run-placed : (count : ℕ) (memory : List ℕ) (events : List Event)
+    → Placed (opens (afterAll (record { calls = fresh count; memory = memory }) events .calls))
 fresh-run-placed count memory events = run-placed (record { calls = fresh count; memory = memory }) events (placed-fresh count)
 
 -- ---- to the end of the frame
@@ -329,7 +348,8 @@ runPlace s [] i = i
 runPlace s (event ∷ events) i = runPlace (after s event) events (eventPlace s event i)
 
 -- 01: "it keeps its place until the end of frame": a call that has its vector is open after a run in the frame, with the same record
-pub run-stays : (s : State) (events : List Event) (i : ℕ) → inFrame events ≡ true → i < length (opens (s .calls)) → hasVector (getD (opens (s .calls)) i blank) ≡ true
+pub run-stays : (s : State) (events : List Event) (i : ℕ) → inFrame events ≡ true → i < length (opens (s .calls))
+    → hasVector (getD (opens (s .calls)) i blank) ≡ true
     → Stands (getD (opens (s .calls)) i blank) (runPlace s events i) (opens (afterAll s events .calls))
 unfolding afterAll inFrame runPlace
 run-stays s [] i in-frame inside has = record { within = inside; here = refl }

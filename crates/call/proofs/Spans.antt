@@ -57,7 +57,8 @@ number-at true vector start (suc n) zero within = refl
 number-at true vector start (suc n) (suc k) within = ap (λ (row : List ℕ). getD row (suc k) 0) (numbers-long vector start n) ∙ up-at start n k (omega arith)
 
 -- each word number stands after the vector and by word 87
-number-within : (long : Bool) (vector start words k : ℕ) → InSpan long vector start words → k < words → (vector < numberAt long vector start k) × (numberAt long vector start k ≤ 87)
+number-within : (long : Bool) (vector start words k : ℕ) → InSpan long vector start words → k < words
+    → (vector < numberAt long vector start k) × (numberAt long vector start k ≤ 87)
 number-within false vector start words k s within =
     ⊎-elim (λ alone. absurd (omega (arith, s .some-words))) (λ after. (omega (arith, after .0), omega (arith, after .1))) (s .rest)
 number-within true vector start words zero s within = (omega arith, omega (arith, s .first-word))
@@ -65,7 +66,8 @@ number-within true vector start words (suc k) s within =
     ⊎-elim (λ alone. absurd (omega arith)) (λ after. (omega (arith, after .0), omega (arith, after .1))) (s .rest)
 
 -- the word numbers of a span ascend
-number-ascends : (long : Bool) (vector start words j k : ℕ) → InSpan long vector start words → j < k → k < words → numberAt long vector start j < numberAt long vector start k
+number-ascends : (long : Bool) (vector start words j k : ℕ) → InSpan long vector start words → j < k → k < words
+    → numberAt long vector start j < numberAt long vector start k
 number-ascends false vector start words j k s before within = omega arith
 number-ascends true vector start words j zero s before within = absurd (omega arith)
 number-ascends true vector start words zero (suc k) s before within =

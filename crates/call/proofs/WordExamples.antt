@@ -1,4 +1,5 @@
--- Worked examples: a group page whose words two calls share, and what each premise of the laws of words is for. Packets worked by hand from Tables 30, 31 and 40.
+-- Worked examples: a group page whose words two calls share, and what each premise of the laws of words is for.
+-- Packets worked by hand from Tables 30, 31 and 40.
 use Prim.Native.Nat.{ℕ, _+_, _/_, _%_, _^_}
 use mathlib.Core.Bool.{_&&_}
 use mathlib.Core.List.{List, [], _∷_, map}
@@ -29,14 +30,16 @@ opening = addressed 0x01200503 ∷ addressed 0x01200604 ∷ heard 0x0323008A ∷
 abbrev later : List Event
 later = heard 0x0B200ABC ∷ heard 0x0423008A ∷ heard 0x0B200111 ∷ heard 0x0A200123 ∷ heard 0x0A200123 ∷ []
 
--- 01: "A word goes to the calls that still lack it, and is refused 14 only if all that hold its place have it": the last completes both, and a second one is refused
+-- 01: "A word goes to the calls that still lack it, and is refused 14 only if all that hold its place have it": the
+-- last completes both, and a second one is refused
 pub group-answers : answers (afterAll start opening) later
     ≡ given (0 ∷ 0 ∷ 0 ∷ 0 ∷ 0 ∷ []) ∷ given (1 ∷ 1 ∷ 3 ∷ 0 ∷ 0 ∷ []) ∷ given (0 ∷ 0 ∷ 0 ∷ 0 ∷ 0 ∷ []) ∷ given (0 ∷ 0 ∷ 0 ∷ 0 ∷ 3 ∷ []) ∷ told 14 [] ∷ []
 unfolding answers afterAll openOf openedIn hearOf heardIn memoryAfter givenTo finished sound firstThat placeIn anyOf those upFrom all
 group-answers = refl
 
 -- each has its own words, in the order of the message: word 10 goes to both, and what the first had of word 11 stays
-pub group-words : map (λ (c : Call). wordsOf c (afterAll (afterAll start opening) later .memory)) (opens (afterAll (afterAll start opening) later .calls)) ≡ (0x123 ∷ 0xABC ∷ []) ∷ (0x123 ∷ 0x111 ∷ []) ∷ []
+pub group-words : map (λ (c : Call). wordsOf c (afterAll (afterAll start opening) later .memory)) (opens (afterAll (afterAll start opening) later .calls))
+    ≡ (0x123 ∷ 0xABC ∷ []) ∷ (0x123 ∷ 0x111 ∷ []) ∷ []
 unfolding afterAll openOf openedIn hearOf heardIn memoryAfter givenTo finished sound firstThat placeIn anyOf those upFrom all
 group-words = refl
 
@@ -45,7 +48,19 @@ group-words = refl
 -- a call of phase 0 with or without its vector, by where its words begin, how many they are and their area
 abbrev callWith : ℕ → ℕ → ℕ → ℕ → Call
 callWith has start words area =
-    record { phase = 0; vector = 3; address = 0; priority = 0; «long_address» = 0; «has_vector» = has; kind = 3; check = 0; start = start; words = words; area = area }
+    record {
+      phase = 0;
+      vector = 3;
+      address = 0;
+      priority = 0;
+      «long_address» = 0;
+      «has_vector» = has;
+      kind = 3;
+      check = 0;
+      start = start;
+      words = words;
+      area = area;
+    }
 
 -- a message word of phase 0 that is 7
 abbrev sevenAt : ℕ → Message
@@ -120,6 +135,7 @@ next-frame = ended ∷ addressed 0x01200503 ∷ heard 0x03230094 ∷ heard 0x142
 pub next-frame-words :
     let s = afterAll start opening in
     let c = getD (opens (s .calls)) 0 blank in
-    wordsOf c (afterAll s next-frame .memory) ∷ map (cameFor s next-frame (c .phase)) (numbersOf c) ∷ [] ≡ (0x456 ∷ lacking ∷ []) ∷ (lacking ∷ lacking ∷ []) ∷ []
+    wordsOf c (afterAll s next-frame .memory) ∷ map (cameFor s next-frame (c .phase)) (numbersOf c) ∷ []
+    ≡ (0x456 ∷ lacking ∷ []) ∷ (lacking ∷ lacking ∷ []) ∷ []
 unfolding afterAll cameFor openOf openedIn hearOf heardIn memoryAfter endOf endedIn givenTo finished sound firstThat placeIn anyOf those upFrom all
 next-frame-words = refl

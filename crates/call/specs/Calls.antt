@@ -45,7 +45,9 @@ hasVector c = not (eqb (c .«has_vector») 0)
 abbrev pub isLong : Call → Bool
 isLong c = not (eqb (c .«long_address») 0)
 
--- 01: "The span, 1 to 85 words in all, must lie after the vector (a long call's rest after its first word) and end by word 87". The first word of a long call stands right after the vector; b, the start, is not looked at where there is no rest
+-- 01: "The span, 1 to 85 words in all, must lie after the vector (a long call's rest after its first word) and end by
+-- word 87". The first word of a long call stands right after the vector; b, the start, is not looked at where there
+-- is no rest
 abbrev pub fits : Bool → ℕ → ℕ → ℕ → Bool
 fits long vector start words =
     leb 1 words && leb words mostWords && leb (vector + bitOf long) lastWord

@@ -154,7 +154,10 @@ fn completed_by(kind: u32, place: usize) -> u32
 fn take_vector(calls: Calls, memory: &mut [u32], packet: Packet, place: usize) -> Turn
     requires { ⌜ isVector (packet .bits) ≡ true ⌝ }
     requires { ⌜ place < length (opens calls) ⌝ }
-    ensures told { λ r. ⌜ hearingOf calls r ≡ asHearing (vectorTold calls (now (memory .entry)) place (getD (opens calls) place blank) (vectorOf (packet .bits))) (vectorCalls calls (now (memory .entry)) place (vectorOf (packet .bits))) ⌝ }
+    ensures told { λ r. ⌜ hearingOf calls r
+        ≡ asHearing
+        (vectorTold calls (now (memory .entry)) place (getD (opens calls) place blank) (vectorOf (packet .bits)))
+        (vectorCalls calls (now (memory .entry)) place (vectorOf (packet .bits))) ⌝ }
     ensures placed { λ r. ⌜ r .place + bitOf (changes r) ≤ length (opens calls) ⌝ }
     ensures memory { λ r. ⌜ now (memory .exit) ≡ vectorMemory calls (now (memory .entry)) place (vectorOf (packet .bits)) ⌝ }
 {
@@ -228,7 +231,8 @@ fn vector_place(calls: Calls, message: Message) -> usize
 // What a vector or message packet makes of the calls, and the words in the lent memory. Vector places are looked at
 // before spans.
 fn turn_of(calls: Calls, memory: &mut [u32], packet: Packet) -> Turn
-    ensures told { λ r. ⌜ hearingOf calls r ≡ asHearing (hearOf calls (now (memory .entry)) (packet .bits)) (heardIn calls (now (memory .entry)) (packet .bits)) ⌝ }
+    ensures told { λ r. ⌜ hearingOf calls r
+        ≡ asHearing (hearOf calls (now (memory .entry)) (packet .bits)) (heardIn calls (now (memory .entry)) (packet .bits)) ⌝ }
     ensures placed { λ r. ⌜ r .place + bitOf (changes r) ≤ length (opens calls) ⌝ }
     ensures memory { λ r. ⌜ now (memory .exit) ≡ memoryAfter calls (now (memory .entry)) (packet .bits) ⌝ }
 {

@@ -9,7 +9,8 @@ use native.Mathlib.Omega.{arith}
 use borrow.Author.Tests.{leb-true}
 use Rattle.laws.specs.Choice.{pick}
 use Rattle.capcode.specs.declared.Class.{Class}
-use Rattle.capcode.specs.declared.Class.the-variants.{Short, InformationService, Network, Operator, Set12, Set13, Set14, Set23Country, Set23InformationService}
+use Rattle.capcode.specs.declared.Class.the-variants.{Short, InformationService, Network, Operator, Set12}
+use Rattle.capcode.specs.declared.Class.the-variants.{Set13, Set14, Set23Country, Set23InformationService}
 use Rattle.capcode.specs.declared.ranges.Row.{Row}
 use Rattle.capcode.specs.declared.Classed.{Classed}
 use Rattle.capcode.specs.Ranges.{rows, holds, classIn, classOf, classNumber, found, accepted}
@@ -35,7 +36,9 @@ in-one : {a b : Class} → Classed.In a ≡ Classed.In b → a ≡ b
 in-one e = cc
 
 -- one row of the table: it holds the address, or the rest has it
-at-row : (r : Row) (rest : Classed) (address : ℕ) (class : Class) (b : Bool) → holds r address ≡ b → Own r → pick b (Classed.In (r .class)) rest ≡ Classed.In class → (rest ≡ Classed.In class → holds (rowOf class) address ≡ true) → holds (rowOf class) address ≡ true
+at-row : (r : Row) (rest : Classed) (address : ℕ) (class : Class) (b : Bool) → holds r address ≡ b → Own r
+    → pick b (Classed.In (r .class)) rest ≡ Classed.In class
+    → (rest ≡ Classed.In class → holds (rowOf class) address ≡ true) → holds (rowOf class) address ≡ true
 at-row r rest address class true h own e later = ap (λ (x : Row). holds x address) (sym (ap rowOf (in-one e)) ∙ own) ∙ h
 at-row r rest address class false h own e later = later e
 

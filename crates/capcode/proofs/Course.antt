@@ -26,7 +26,8 @@ module _ (text : List ℕ) (i : ℕ) (s : Reading) where
   turn within = rw (drop-cons text i 0 within)
 
   -- a step on
-  turn-on : (t : Reading) → i < length text → stepOf s (getD text i 0) ≡ Step.On t → follow (going i s) (drop i text) ≡ follow (going (suc i) t) (drop (suc i) text)
+  turn-on : (t : Reading) → i < length text → stepOf s (getD text i 0) ≡ Step.On t
+      → follow (going i s) (drop i text) ≡ follow (going (suc i) t) (drop (suc i) text)
   turn-on t within e = turn within ∙ rw e
 
   -- a step that stops says where

@@ -4,7 +4,8 @@ use mathlib.Core.Path.{_≡_, ap, sym, subst}
 use native.Mathlib.Omega.{arith}
 use Rattle.refusal.specs.Told.{given}
 use Rattle.capcode.specs.declared.Class.{Class}
-use Rattle.capcode.specs.declared.Class.the-variants.{Short, InformationService, Network, Operator, Set12, Set13, Set14, Set23Country, Set23InformationService}
+use Rattle.capcode.specs.declared.Class.the-variants.{Short, InformationService, Network, Operator, Set12}
+use Rattle.capcode.specs.declared.Class.the-variants.{Set13, Set14, Set23Country, Set23InformationService}
 use Rattle.capcode.specs.declared.Classed.{Classed}
 use Rattle.capcode.specs.Ranges.{rows, classOf}
 use Rattle.capcode.proofs.Bounds.{rowOf, class-bounds}

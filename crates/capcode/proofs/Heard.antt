@@ -53,7 +53,8 @@ bytes-by s t byte (by-address digit some goes-on same) =
 
 -- a reading that comes to the end of a text has taken it
 heard-by : (text : List ℕ) (byte i j : ℕ) (s t : Reading) (next : Step) → stepOf s byte ≡ next → Sound s → follow (onward i next) text ≡ going j t
-    → ((u : Reading) → Sound u → follow (going (suc i) u) text ≡ going j t → Sound t × (bytes t ≡ bytes u ++ text)) → Sound t × (bytes t ≡ bytes s ++ byte ∷ text)
+    → ((u : Reading) → Sound u → follow (going (suc i) u) text ≡ going j t → Sound t × (bytes t ≡ bytes u ++ text))
+    → Sound t × (bytes t ≡ bytes s ++ byte ∷ text)
 heard-by text byte i j s t (Step.On u) step sound e rest =
     let r = rest u (sound-step s u byte sound step) e in
     (r .0, r .1 ∙ ap (λ (b : List ℕ). b ++ text) (bytes-by s u byte (stepped s u byte step)) ∙ append-snoc (bytes s) byte text)
@@ -85,7 +86,8 @@ ending (going place s) c e =
 ending (stopped place) c e = absurd (let no : _≡_ {A = ℕ} 0 1 = cc in omega arith)
 
 -- the letter of a reading that has one goes on
-follows-of : (s : Reading) → eqb (s .letter) 0 ≡ false → (s .letter ≡ 0) ⊎ (letterGoesOn (s .before) (s .letter) ≡ true) → letterGoesOn (s .before) (s .letter) ≡ true
+follows-of : (s : Reading) → eqb (s .letter) 0 ≡ false
+    → (s .letter ≡ 0) ⊎ (letterGoesOn (s .before) (s .letter) ≡ true) → letterGoesOn (s .before) (s .letter) ≡ true
 follows-of s some (inl none) = absurd (eqb-false (s .letter) 0 some none)
 follows-of s some (inr follows) = follows
 
@@ -96,8 +98,14 @@ said s sound whole =
     let some : eqb (s .letter) 0 ≡ false = not-true _ (first-of _ _ whole) in
     let end : Ended (s .address) (s .after) = record { goes-on = sound .address; whole = second-of (not (eqb (s .letter) 0)) _ whole } in
     let follows : letterGoesOn (s .before) (s .letter) ≡ true = follows-of s some (sound .letter) in
-    let head = headed (saidBy s) (s .number) (lettered (s .before) (s .letter) follows) (sound .head) refl refl in
-    (rw (head .written, width-of (s .address) (s .after) end, some), record { letter = head .letter; fields = head .fields; address = address-below (s .address) (s .after) (sound .address) })
+    let head = headed (saidBy s) (s .number) (lettered (s .before) (s .letter) follows) (sound .head) refl refl in (
+      rw (head .written, width-of (s .address) (s .after) end, some),
+      record {
+        letter = head .letter;
+        fields = head .fields;
+        address = address-below (s .address) (s .after) (sound .address);
+      },
+    )
 
 -- a text in the form is the text of what it says, which is sayable
 pub printed-of-read : (text : List ℕ) (c : Capcode) → formOf text ≡ Form.Says c → (textOf c ≡ text) × Sayable c

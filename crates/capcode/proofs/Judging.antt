@@ -53,7 +53,8 @@ same-by false false false false false values other r e = absurd (given-not-refus
 pub refused-asked : (c : Capcode) (values : List ℕ) (other : Told) (r : Refusal) → refused r ≡ asked c (given values) → refused r ≡ asked c other
 unfolding asked
 refused-asked c values other r e =
-    same-by (not (standard (c .letter) || framed (c .letter))) (allPhase (c .letter)) (not (accepted (c .address))) (ltb (c .address) (offsetOf (c .letter))) (not (fieldsFit c)) values other r e
+    same-by (not (standard (c .letter) || framed (c .letter))) (allPhase (c .letter)) (not (accepted (c .address)))
+    (ltb (c .address) (offsetOf (c .letter))) (not (fieldsFit c)) values other r e
 
 -- of a fine CAPCODE the answer is what follows the questions
 pub fine-asked : (c : Capcode) (rest : Told) → Fine c → rest ≡ asked c rest

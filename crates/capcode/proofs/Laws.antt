@@ -29,7 +29,8 @@ fine-sayable c fine =
     record { letter = not-false _ (fine .text); fields = not-false _ (fine .packet); address = ten-digits }
 
 -- a text is in the form exactly if it is the text of a CAPCODE that a text could have
-pub form-exactly : (text : List ℕ) (c : Capcode) → (formOf text ≡ Form.Says c → (textOf c ≡ text) × Sayable c) × ((textOf c ≡ text) × Sayable c → formOf text ≡ Form.Says c)
+pub form-exactly : (text : List ℕ) (c : Capcode)
+    → (formOf text ≡ Form.Says c → (textOf c ≡ text) × Sayable c) × ((textOf c ≡ text) × Sayable c → formOf text ≡ Form.Says c)
 form-exactly text c = (printed-of-read text c, λ both. ap formOf (sym (both .0)) ∙ read-of-printed c (both .1))
 
 -- two different texts never say the same CAPCODE
@@ -42,7 +43,8 @@ valueAt t n = getD (toldValues t) n 0
 
 -- one telling, one answer to `assign`
 pub assign-tells : (a b : AssignAnswer) → toldAssign a ≡ toldAssign b → a ≡ b
-assign-tells (AssignAnswer.Assigned a) (AssignAnswer.Assigned b) e = ap (λ (t : Told). AssignAnswer.Assigned (record { phase = valueAt t 0; frame = valueAt t 1 })) e
+assign-tells (AssignAnswer.Assigned a) (AssignAnswer.Assigned b) e =
+    ap (λ (t : Told). AssignAnswer.Assigned (record { phase = valueAt t 0; frame = valueAt t 1 })) e
 assign-tells (AssignAnswer.Assigned a) (AssignAnswer.Refused r) e = absurd (given-not-refused _ r e)
 assign-tells (AssignAnswer.Refused r) (AssignAnswer.Assigned b) e = absurd (given-not-refused _ r (sym e))
 assign-tells (AssignAnswer.Refused r) (AssignAnswer.Refused q) e = ap AssignAnswer.Refused (refused-tells r q e)
@@ -50,7 +52,12 @@ assign-tells (AssignAnswer.Refused r) (AssignAnswer.Refused q) e = ap AssignAnsw
 -- one telling, one answer to `read`
 pub read-tells : (a b : ReadAnswer) → toldRead a ≡ toldRead b → a ≡ b
 read-tells (ReadAnswer.Whole c a) (ReadAnswer.Whole d b) e =
-    ap (λ (t : Told). ReadAnswer.Whole (record { letter = valueAt t 0; frame = valueAt t 1; collapse = valueAt t 2; address = valueAt t 3 }) (record { phase = valueAt t 4; frame = valueAt t 5 })) e
+    ap (λ (t : Told). ReadAnswer.Whole (record {
+      letter = valueAt t 0;
+      frame = valueAt t 1;
+      collapse = valueAt t 2;
+      address = valueAt t 3;
+    }) (record { phase = valueAt t 4; frame = valueAt t 5 })) e
 read-tells (ReadAnswer.Whole c a) (ReadAnswer.Refused r) e = absurd (given-not-refused _ r e)
 read-tells (ReadAnswer.Refused r) (ReadAnswer.Whole d b) e = absurd (given-not-refused _ r (sym e))
 read-tells (ReadAnswer.Refused r) (ReadAnswer.Refused q) e = ap ReadAnswer.Refused (refused-tells r q e)

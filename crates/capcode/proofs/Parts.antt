@@ -101,7 +101,13 @@ module _ (c : Capcode) (sayable : Sayable c) where
       let width : headWidth c ≡ 4 = rw s in
       record {
         written = head-digits c (omega arith) ∙ ap (λ (w : ℕ). digits w number) width;
-        goes-on = (le-leb (number % 10) 5 (omega arith), (rw (le-leb (number / 10) 127 (omega arith)), (rw (le-leb (number / 10 / 10) 12 (omega arith)), (rw (le-leb (number / 10 / 10 / 10) 3 (omega arith)), omega arith))));
+        goes-on = (
+          le-leb (number % 10) 5 (omega arith),
+          (
+            rw (le-leb (number / 10) 127 (omega arith)),
+            (rw (le-leb (number / 10 / 10) 12 (omega arith)), (rw (le-leb (number / 10 / 10 / 10) 3 (omega arith)), omega arith)),
+          ),
+        );
         letter = other-of _ _ (sayable .letter) s;
         frame = omega arith;
         collapse = omega arith;
@@ -169,7 +175,13 @@ ended-by address true small below =
 ended-by address false small below =
     let over = leb-false address lastOfSeven small in
     record {
-      goes-on = (le-leb 2031615 address (omega arith), (rw (le-leb 203161 (address / 10) (omega arith)), (rw (le-leb 20316 (address / 10 / 10) (omega arith)), address-few 7 (address / 10 / 10 / 10) (omega arith) (omega arith))));
+      goes-on = (
+        le-leb 2031615 address (omega arith),
+        (
+          rw (le-leb 203161 (address / 10) (omega arith)),
+          (rw (le-leb 20316 (address / 10 / 10) (omega arith)), address-few 7 (address / 10 / 10 / 10) (omega arith) (omega arith)),
+        ),
+      );
       whole = refl;
     }
 
@@ -177,7 +189,8 @@ pub ended : (address : ℕ) → address < 10 ^ 10 → Ended address (widthOf add
 ended address below = ended-by address _ refl below
 
 -- seven digits or ten: the width of the address that they are
-width-by : (address width : ℕ) → Digits addressGoesOn width address → ((eqb width 7 && leb address lastOfSeven) ≡ true) ⊎ (eqb width 10 ≡ true) → widthOf address ≡ width
+width-by : (address width : ℕ) → Digits addressGoesOn width address
+    → ((eqb width 7 && leb address lastOfSeven) ≡ true) ⊎ (eqb width 10 ≡ true) → widthOf address ≡ width
 width-by address width goes-on (inl e) = rw (second-of (eqb width 7) _ e) (sym (eqb-true width 7 (first-of _ _ e)))
 width-by address width goes-on (inr e) =
     let ten : width ≡ 10 = eqb-true width 10 e in

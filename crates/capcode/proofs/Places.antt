@@ -15,7 +15,9 @@ use Rattle.capcode.specs.declared.Capcode.{Capcode}
 use Rattle.capcode.specs.declared.reading.Reading.{Reading}
 use Rattle.capcode.specs.declared.reading.Step.{Step}
 use Rattle.capcode.specs.declared.reading.Form.{Form}
-use Rattle.capcode.specs.Reads.{isDigit, headGoesOn, letterGoesOn, addressGoesOn, withHead, withLetter, withAddress, addressDigit, stepOf, Course, going, stopped, onward, follow, blank, isWhole, saidBy, endOf, formOf}
+use Rattle.capcode.specs.Reads.{isDigit, headGoesOn, letterGoesOn, addressGoesOn, withHead, withLetter}
+use Rattle.capcode.specs.Reads.{withAddress, addressDigit, stepOf, Course, going, stopped, onward, follow}
+use Rattle.capcode.specs.Reads.{blank, isWhole, saidBy, endOf, formOf}
 use Rattle.capcode.specs.Underway.{Digits, Sound}
 use Rattle.capcode.proofs.Steps.{step-head, step-letter, step-address}
 use Rattle.capcode.proofs.Sound.{sound-blank}
@@ -38,10 +40,12 @@ step-completes s t byte step rest = (byte ∷ rest .0, rest .1, λ i. rw step (r
 -- ---- after the letter
 
 -- one digit more
-address-more : (s : Reading) (digit : ℕ) → digit ≤ 9 → (s .letter ≡ 0 → ⊥) → addressGoesOn (s .after + 1) (s .address * 10 + digit) ≡ true → Completes (withAddress s digit) → Completes s
+address-more : (s : Reading) (digit : ℕ) → digit ≤ 9 → (s .letter ≡ 0 → ⊥)
+    → addressGoesOn (s .after + 1) (s .address * 10 + digit) ≡ true → Completes (withAddress s digit) → Completes s
 address-more s digit small some goes rest =
     let back : 48 + digit - 48 ≡ digit = omega arith in
-    step-completes s (withAddress s digit) (48 + digit) (sym (step-address s (48 + digit) (digit-byte digit small) some) ∙ ap (addressDigit s) back ∙ rw goes) rest
+    step-completes s (withAddress s digit) (48 + digit)
+    (sym (step-address s (48 + digit) (digit-byte digit small) some) ∙ ap (addressDigit s) back ∙ rw goes) rest
 
 complete-ten : (s : Reading) → (s .letter ≡ 0 → ⊥) → s .after ≡ 10 → Completes s
 complete-ten s some e = whole-completes s (rw (ne-eqb (s .letter) 0 some, e))
@@ -70,10 +74,16 @@ complete-after : (s : Reading) (after : ℕ) → (s .letter ≡ 0 → ⊥) → s
 complete-after s zero some e digits = complete-upto 7 s some (omega arith)
 complete-after s (suc n) some e digits = by-count (one-of _ _ _ _ (digits .0))
   where
-    by-count : (leb (suc n) 7 ≡ true) ⊎ (((eqb (suc n) 8 && leb 20316 (s .address)) ≡ true) ⊎ (((eqb (suc n) 9 && leb 203161 (s .address)) ≡ true) ⊎ ((eqb (suc n) 10 && leb 2031615 (s .address)) ≡ true))) → Completes s
+    by-count :
+        (leb (suc n) 7 ≡ true)
+        ⊎ (((eqb (suc n) 8 && leb 20316 (s .address)) ≡ true)
+        ⊎ (((eqb (suc n) 9 && leb 203161 (s .address)) ≡ true) ⊎ ((eqb (suc n) 10 && leb 2031615 (s .address)) ≡ true)))
+        → Completes s
     by-count (inl few) = complete-upto (7 - suc n) s some (omega (arith, leb-true (suc n) 7 few))
-    by-count (inr (inl eight)) = complete-eight s some (omega (arith, eqb-true (suc n) 8 (first-of _ _ eight))) (leb-true 20316 (s .address) (second-of (eqb (suc n) 8) _ eight))
-    by-count (inr (inr (inl nine))) = complete-nine s some (omega (arith, eqb-true (suc n) 9 (first-of _ _ nine))) (leb-true 203161 (s .address) (second-of (eqb (suc n) 9) _ nine))
+    by-count (inr (inl eight)) =
+        complete-eight s some (omega (arith, eqb-true (suc n) 8 (first-of _ _ eight))) (leb-true 20316 (s .address) (second-of (eqb (suc n) 8) _ eight))
+    by-count (inr (inr (inl nine))) =
+        complete-nine s some (omega (arith, eqb-true (suc n) 9 (first-of _ _ nine))) (leb-true 203161 (s .address) (second-of (eqb (suc n) 9) _ nine))
     by-count (inr (inr (inr ten))) = complete-ten s some (omega (arith, eqb-true (suc n) 10 (first-of _ _ ten)))
 
 -- ---- before the letter
@@ -105,7 +115,11 @@ complete-before : (s : Reading) (before : ℕ) → s .letter ≡ 0 → s .before
 complete-before s zero none e digits = complete-few s none (rw e)
 complete-before s (suc n) none e digits = by-count (one-of _ _ _ _ (digits .0))
   where
-    by-count : ((eqb (suc n) 1 && (leb (s .number) 3 || eqb (s .number) 5)) ≡ true) ⊎ (((eqb (suc n) 2 && leb (s .number) 12) ≡ true) ⊎ (((eqb (suc n) 3 && leb (s .number) 127) ≡ true) ⊎ ((eqb (suc n) 4 && leb (s .number % 10) 5) ≡ true))) → Completes s
+    by-count :
+        ((eqb (suc n) 1 && (leb (s .number) 3 || eqb (s .number) 5)) ≡ true)
+        ⊎ (((eqb (suc n) 2 && leb (s .number) 12) ≡ true)
+        ⊎ (((eqb (suc n) 3 && leb (s .number) 127) ≡ true) ⊎ ((eqb (suc n) 4 && leb (s .number % 10) 5) ≡ true)))
+        → Completes s
     by-count (inl one) = complete-few s none (rw (e ∙ eqb-true (suc n) 1 (first-of _ _ one)))
     by-count (inr (inl two)) = complete-two s none (e ∙ eqb-true (suc n) 2 (first-of _ _ two)) (leb-true (s .number) 12 (second-of (eqb (suc n) 2) _ two))
     by-count (inr (inr (inl three))) = complete-three s none (e ∙ eqb-true (suc n) 3 (first-of _ _ three))
@@ -140,7 +154,9 @@ unfolding follow
 going-end [] j i s t e = let same : j ≡ i = cc in omega arith
 going-end (byte ∷ text) j i s t e = by-step (stepOf s byte) e (λ u. going-end text (suc j) i u t)
   where
-    by-step : (step : Step) → follow (onward j step) text ≡ going i t → ((u : Reading) → follow (going (suc j) u) text ≡ going i t → i ≡ suc j + length text) → i ≡ j + suc (length text)
+    by-step : (step : Step) → follow (onward j step) text ≡ going i t
+        → ((u : Reading) → follow (going (suc j) u) text ≡ going i t → i ≡ suc j + length text)
+        → i ≡ j + suc (length text)
     by-step (Step.On u) f later = omega (arith, later u f)
     by-step Step.Stop f later = absurd (let no : _≡_ {A = ℕ} 0 1 = cc (sym (follow-stopped j text) ∙ f) in omega arith)
 
@@ -158,15 +174,25 @@ unfolding follow
 stopping [] j place s e = absurd (let no : _≡_ {A = ℕ} 0 1 = cc in omega arith)
 stopping (byte ∷ text) j place s e = by-step (stepOf s byte) refl e (λ u. stopping text (suc j) place u)
   where
-    by-step : (step : Step) → stepOf s byte ≡ step → follow (onward j step) text ≡ stopped place → ((u : Reading) → follow (going (suc j) u) text ≡ stopped place → Stopping (suc j) u text place) → Stopping j s (byte ∷ text) place
+    by-step : (step : Step) → stepOf s byte ≡ step → follow (onward j step) text ≡ stopped place
+        → ((u : Reading) → follow (going (suc j) u) text ≡ stopped place → Stopping (suc j) u text place)
+        → Stopping j s (byte ∷ text) place
     by-step (Step.On u) h f later =
         let r = later u f in
-        record { past = suc (r .past); at = omega (arith, r .at); within = omega (arith, r .within); reading = r .reading; before = ap (λ (next : Step). follow (onward j next) (take (r .past) text)) h ∙ r .before; there = ap (λ (next : Step). follow (onward j next) (take (suc (r .past)) text)) h ∙ r .there }
+        record {
+          past = suc (r .past);
+          at = omega (arith, r .at);
+          within = omega (arith, r .within);
+          reading = r .reading;
+          before = ap (λ (next : Step). follow (onward j next) (take (r .past) text)) h ∙ r .before;
+          there = ap (λ (next : Step). follow (onward j next) (take (suc (r .past)) text)) h ∙ r .there;
+        }
     by-step Step.Stop h f later =
         let here : j ≡ place = cc (sym (follow-stopped j text) ∙ f) in
         record { past = 0; at = omega arith; within = omega arith; reading = s; before = ap (λ (n : ℕ). going n s) here; there = rw h (ap stopped here) }
 
--- the first place at which no text in the form could go on: what stands before it could, and with the byte there nothing can; it is the length of a text that only stops too soon
+-- the first place at which no text in the form could go on: what stands before it could, and with the byte there
+-- nothing can; it is the length of a text that only stops too soon
 pub record FirstWrong (text : List ℕ) (place : ℕ) : Type 0 where
   pub within : place ≤ length text
   pub before : CouldGoOn (take place text)
@@ -177,7 +203,8 @@ pub first-wrong : (text : List ℕ) (place : ℕ) → formOf text ≡ Form.Wrong
 unfolding formOf
 first-wrong text place e = by-course (follow (going 0 blank) text) refl e
   where
-    at-end : (i : ℕ) (s : Reading) (whole : Bool) → follow (going 0 blank) text ≡ going i s → pick whole (Form.Says (saidBy s)) (Form.Wrong i) ≡ Form.Wrong place → FirstWrong text place
+    at-end : (i : ℕ) (s : Reading) (whole : Bool) → follow (going 0 blank) text ≡ going i s
+        → pick whole (Form.Says (saidBy s)) (Form.Wrong i) ≡ Form.Wrong place → FirstWrong text place
     at-end i s true f g = absurd (let no : _≡_ {A = ℕ} 0 1 = cc in omega arith)
     at-end i s false f g =
         let here : i ≡ place = cc in

@@ -5,7 +5,8 @@ use mathlib.Core.List.{[], _∷_}
 use lib.ListN.{getD}
 use Rattle.refusal.proofs.Laws.{given-not-refused, given-head, refused-tells}
 use Rattle.capcode.specs.declared.Class.{Class}
-use Rattle.capcode.specs.declared.Class.the-variants.{Short, InformationService, Network, Operator, Set12, Set13, Set14, Set23Country, Set23InformationService}
+use Rattle.capcode.specs.declared.Class.the-variants.{Short, InformationService, Network, Operator, Set12}
+use Rattle.capcode.specs.declared.Class.the-variants.{Set13, Set14, Set23Country, Set23InformationService}
 use Rattle.capcode.specs.declared.Classed.{Classed}
 use Rattle.capcode.specs.Ranges.{classNumber, toldClassed}
 

@@ -16,7 +16,9 @@ use Rattle.capcode.proofs.Steps.{Stepped, by-head, by-letter, by-addres
 use Rattle.laws.proofs.Tests.{first-of, second-of, either-of, one-of}
 
 -- one digit more
-digits-more : (goesOn : ℕ → ℕ → Bool) (n number digit : ℕ) → digit ≤ 9 → goesOn (n + 1) (number * 10 + digit) ≡ true → Digits goesOn n number → Digits goesOn (n + 1) (number * 10 + digit)
+digits-more : (goesOn : ℕ → ℕ → Bool) (n number digit : ℕ) → digit ≤ 9
+    → goesOn (n + 1) (number * 10 + digit) ≡ true → Digits goesOn n number
+    → Digits goesOn (n + 1) (number * 10 + digit)
 digits-more goesOn n number digit small e before =
     let back : (number * 10 + digit) / 10 ≡ number = omega arith in
     rw (add-one n) (rw (add-one n) at e, rw back before)
@@ -38,7 +40,8 @@ one-digit number e =
 
 -- digits before the letter that go on are four, or three or fewer of a number up to 127
 head-by : (count number : ℕ)
-    → ((eqb count 1 && (leb number 3 || eqb number 5)) ≡ true) ⊎ (((eqb count 2 && leb number 12) ≡ true) ⊎ (((eqb count 3 && leb number 127) ≡ true) ⊎ ((eqb count 4 && leb (number % 10) 5) ≡ true)))
+    → ((eqb count 1 && (leb number 3 || eqb number 5)) ≡ true)
+    ⊎ (((eqb count 2 && leb number 12) ≡ true) ⊎ (((eqb count 3 && leb number 127) ≡ true) ⊎ ((eqb count 4 && leb (number % 10) 5) ≡ true)))
     → (count ≡ 4) ⊎ ((count ≤ 3) × (number ≤ 127))
 head-by count number (inl one) =
     let exact = eqb-true count 1 (first-of _ _ one) in
@@ -73,7 +76,8 @@ head-upto (suc n) number e =
 
 -- digits after the letter that go on are ten at most
 address-by : (count number : ℕ)
-    → (leb count 7 ≡ true) ⊎ (((eqb count 8 && leb 20316 number) ≡ true) ⊎ (((eqb count 9 && leb 203161 number) ≡ true) ⊎ ((eqb count 10 && leb 2031615 number) ≡ true)))
+    → (leb count 7 ≡ true)
+    ⊎ (((eqb count 8 && leb 20316 number) ≡ true) ⊎ (((eqb count 9 && leb 203161 number) ≡ true) ⊎ ((eqb count 10 && leb 2031615 number) ≡ true)))
     → count ≤ 10
 address-by count number (inl upto-seven) = let few = leb-true count 7 upto-seven in omega arith
 address-by count number (inr (inl eight)) = let exact = eqb-true count 8 (first-of _ _ eight) in omega arith
@@ -116,7 +120,11 @@ sound-by s t byte sound (by-letter none goes-on same) =
     subst (λ (u : Reading). Sound u) same (record { head = sound .head; letter = inr goes-on; address = refl })
 sound-by s t byte sound (by-address digit some goes-on same) =
     subst (λ (u : Reading). Sound u) same
-    (record { head = sound .head; letter = sound .letter; address = digits-more addressGoesOn (s .after) (s .address) _ (digit-small byte digit) goes-on (sound .address) })
+    (record {
+      head = sound .head;
+      letter = sound .letter;
+      address = digits-more addressGoesOn (s .after) (s .address) _ (digit-small byte digit) goes-on (sound .address);
+    })
 
 -- it holds after each byte with which the reading goes on
 pub sound-step : (s t : Reading) (byte : ℕ) → Sound s → stepOf s byte ≡ Step.On t → Sound t

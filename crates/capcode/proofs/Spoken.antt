@@ -12,7 +12,8 @@ use Rattle.capcode.specs.declared.reading.Reading.{Reading}
 use Rattle.capcode.specs.declared.reading.Step.{Step}
 use Rattle.capcode.specs.declared.reading.Form.{Form}
 use Rattle.capcode.specs.Text.{digits, widthOf, headOf, textOf, Sayable}
-use Rattle.capcode.specs.Reads.{isDigit, headGoesOn, letterGoesOn, addressGoesOn, withLetter, stepOf, Course, going, takes, onward, follow, blank, endOf, formOf}
+use Rattle.capcode.specs.Reads.{isDigit, headGoesOn, letterGoesOn, addressGoesOn, withLetter, stepOf, Course}
+use Rattle.capcode.specs.Reads.{going, takes, onward, follow, blank, endOf, formOf}
 use Rattle.capcode.specs.Underway.{Digits}
 use Rattle.capcode.proofs.Steps.{step-head, step-letter, step-address}
 use Rattle.capcode.proofs.Parts.{Lettered, none, one, four, lettered, Head, head-of, Ended, ended}
@@ -30,7 +31,9 @@ digit-byte digit small = rw (le-leb 48 (48 + digit) (omega arith), le-leb (48 + 
 
 -- digits that go on are taken one by one; `at` is where the reading stands after so many of a number
 module _ (goesOn : ℕ → ℕ → Bool) (at : ℕ → ℕ → Reading)
-    (steps : (n number digit : ℕ) → digit ≤ 9 → goesOn (suc n) (number * 10 + digit) ≡ true → stepOf (at n number) (48 + digit) ≡ Step.On (at (suc n) (number * 10 + digit)))
+    (steps :
+    (n number digit : ℕ) → digit ≤ 9 → goesOn (suc n) (number * 10 + digit) ≡ true
+    → stepOf (at n number) (48 + digit) ≡ Step.On (at (suc n) (number * 10 + digit)))
     (place : ℕ) where
   pub taken : (n number : ℕ) → Digits goesOn n number → follow (going place (at 0 0)) (digits n number) ≡ going (place + n) (at n number)
   unfolding digits follow
@@ -49,13 +52,16 @@ abbrev addressAt : Reading → ℕ → ℕ → Reading
 addressAt s n number = record { before = s .before; number = s .number; letter = s .letter; after = n; address = number }
 
 -- a digit before the letter that goes on
-head-steps : (n number digit : ℕ) → digit ≤ 9 → headGoesOn (suc n) (number * 10 + digit) ≡ true → stepOf (headAt n number) (48 + digit) ≡ Step.On (headAt (suc n) (number * 10 + digit))
+head-steps : (n number digit : ℕ) → digit ≤ 9 → headGoesOn (suc n) (number * 10 + digit) ≡ true
+    → stepOf (headAt n number) (48 + digit) ≡ Step.On (headAt (suc n) (number * 10 + digit))
 head-steps n number digit small e =
     let back : 48 + digit - 48 ≡ digit = omega arith in
     sym (step-head (headAt n number) (48 + digit) (digit-byte digit small) refl) ∙ rw (back, add-one, e)
 
 -- and one after it
-address-steps : (s : Reading) → (s .letter ≡ 0 → ⊥) → (n number digit : ℕ) → digit ≤ 9 → addressGoesOn (suc n) (number * 10 + digit) ≡ true → stepOf (addressAt s n number) (48 + digit) ≡ Step.On (addressAt s (suc n) (number * 10 + digit))
+address-steps : (s : Reading) → (s .letter ≡ 0 → ⊥) → (n number digit : ℕ) → digit ≤ 9
+    → addressGoesOn (suc n) (number * 10 + digit) ≡ true
+    → stepOf (addressAt s n number) (48 + digit) ≡ Step.On (addressAt s (suc n) (number * 10 + digit))
 address-steps s some n number digit small e =
     let back : 48 + digit - 48 ≡ digit = omega arith in
     sym (step-address (addressAt s n number) (48 + digit) (digit-byte digit small) some) ∙ rw (back, add-one, e)
@@ -83,7 +89,8 @@ module _ (c : Capcode) (width number : ℕ) (head : Head c width number) (end : 
       omega arith
 
   -- the reading of the whole text
-  course : follow (going 0 blank) (textOf c) ≡ going (suc (0 + width) + widthOf (c .address)) (addressAt (withLetter (headAt width number) (c .letter)) (widthOf (c .address)) (c .address))
+  course : follow (going 0 blank) (textOf c)
+      ≡ going (suc (0 + width) + widthOf (c .address)) (addressAt (withLetter (headAt width number) (c .letter)) (widthOf (c .address)) (c .address))
   unfolding textOf follow
   course =
       let there = withLetter (headAt width number) (c .letter) in

@@ -7,7 +7,8 @@ use lib.Dec.{leb, eqb}
 use borrow.Author.Tests.{eq-eqb, ne-eqb, eqb-true, eqb-false, leb-true}
 use Rattle.capcode.specs.declared.reading.Reading.{Reading}
 use Rattle.capcode.specs.declared.reading.Step.{Step}
-use Rattle.capcode.specs.Reads.{isDigit, headGoesOn, letterGoesOn, addressGoesOn, goOn, withHead, withLetter, withAddress, headDigit, theLetter, addressDigit, stepOf}
+use Rattle.capcode.specs.Reads.{isDigit, headGoesOn, letterGoesOn, addressGoesOn, goOn, withHead, withLetter}
+use Rattle.capcode.specs.Reads.{withAddress, headDigit, theLetter, addressDigit, stepOf}
 use Rattle.laws.proofs.Tests.{first-of, second-of}
 
 module _ (s : Reading) (byte : ℕ) where
@@ -46,9 +47,12 @@ went-on false u t e = absurd (let no : _≡_ {A = ℕ} 0 1 = cc in omega arith)
 
 -- how a reading goes on with a byte: a digit before the letter, the letter, or a digit after it
 pub data Stepped (s : Reading) (byte : ℕ) (t : Reading) : Type 0 where
-  by-head : isDigit byte ≡ true → s .letter ≡ 0 → headGoesOn (s .before + 1) (s .number * 10 + (byte - 48)) ≡ true → withHead s (byte - 48) ≡ t → Stepped s byte t
+  by-head : isDigit byte ≡ true → s .letter ≡ 0 → headGoesOn (s .before + 1) (s .number * 10 + (byte - 48)) ≡ true
+      → withHead s (byte - 48) ≡ t → Stepped s byte t
   by-letter : s .letter ≡ 0 → letterGoesOn (s .before) byte ≡ true → withLetter s byte ≡ t → Stepped s byte t
-  by-address : isDigit byte ≡ true → (s .letter ≡ 0 → ⊥) → addressGoesOn (s .after + 1) (s .address * 10 + (byte - 48)) ≡ true → withAddress s (byte - 48) ≡ t → Stepped s byte t
+  by-address : isDigit byte ≡ true → (s .letter ≡ 0 → ⊥)
+      → addressGoesOn (s .after + 1) (s .address * 10 + (byte - 48)) ≡ true → withAddress s (byte - 48) ≡ t
+      → Stepped s byte t
 
 stepped-by : (s t : Reading) (byte : ℕ) (digit none : Bool) → isDigit byte ≡ digit → eqb (s .letter) 0 ≡ none → stepOf s byte ≡ Step.On t → Stepped s byte t
 stepped-by s t byte true true digit none e =
@@ -63,7 +67,8 @@ stepped-by s t byte false true digit none e =
     let before = eqb-true (s .letter) 0 none in
     let went = went-on (letterGoesOn (s .before) byte) (withLetter s byte) t (step-letter s byte digit before ∙ e) in
     by-letter before (went .0) (went .1)
-stepped-by s t byte false false digit none e = absurd (let no : _≡_ {A = ℕ} 0 1 = cc (step-stop s byte digit (eqb-false (s .letter) 0 none) ∙ e) in omega arith)
+stepped-by s t byte false false digit none e =
+    absurd (let no : _≡_ {A = ℕ} 0 1 = cc (step-stop s byte digit (eqb-false (s .letter) 0 none) ∙ e) in omega arith)
 
 -- a reading goes on in one of these ways
 pub stepped : (s t : Reading) (byte : ℕ) → stepOf s byte ≡ Step.On t → Stepped s byte t

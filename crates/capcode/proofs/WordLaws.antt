@@ -12,13 +12,15 @@ use Rattle.refusal.specs.declared.Refusal.the-variants.{Range}
 use Rattle.refusal.specs.Told.{Told, told, refused, given}
 use Rattle.refusal.proofs.Laws.{given-not-refused, given-head, given-tells, refused-tells}
 use Rattle.capcode.specs.declared.Class.{Class}
-use Rattle.capcode.specs.declared.Class.the-variants.{Short, InformationService, Network, Operator, Set12, Set13, Set14, Set23Country, Set23InformationService}
+use Rattle.capcode.specs.declared.Class.the-variants.{Short, InformationService, Network, Operator, Set12}
+use Rattle.capcode.specs.declared.Class.the-variants.{Set13, Set14, Set23Country, Set23InformationService}
 use Rattle.capcode.specs.declared.Classed.{Classed}
 use Rattle.capcode.specs.declared.Worded.{Worded}
 use Rattle.capcode.specs.declared.Addressed.{Addressed}
 use Rattle.capcode.specs.Ranges.{rows, classIn, classOf, found, accepted}
 use Rattle.capcode.proofs.Bounds.{rowOf, class-bounds}
-use Rattle.capcode.specs.Words.{pair12, pair13, pair23, layoutOf, wordsAs, wordsBy, wordsOf, same, gives, fromWord, fromPair, confirmed, addressOf, toldWorded, toldAddressed}
+use Rattle.capcode.specs.Words.{pair12, pair13, pair23, layoutOf, wordsAs, wordsBy, wordsOf, same, gives}
+use Rattle.capcode.specs.Words.{fromWord, fromPair, confirmed, addressOf, toldWorded, toldAddressed}
 use Rattle.capcode.proofs.Fits.{known-class}
 
 -- a list is the same as itself
@@ -225,7 +227,8 @@ addressed-tells (Addressed.Refused r) (Addressed.Refused s) e = ap Addressed.Ref
 -- 01's marked cases 1 to 5, and the last and first addresses round them that are refused
 pub marked-words :
     map wordsOf (1 ∷ 1933312 ∷ 2101249 ∷ 1075843073 ∷ 3223326721 ∷ 0 ∷ 1933313 ∷ [])
-    ≡ given (0x008001 ∷ []) ∷ given (0x1E0000 ∷ []) ∷ given (0x000001 ∷ 0x1FFFFE ∷ []) ∷ given (0x000001 ∷ 0x1E0001 ∷ []) ∷ given (0x1F8001 ∷ 0x1E0001 ∷ []) ∷ refused Range ∷ refused Range ∷ []
+    ≡ given (0x008001 ∷ []) ∷ given (0x1E0000 ∷ []) ∷ given (0x000001 ∷ 0x1FFFFE ∷ [])
+    ∷ given (0x000001 ∷ 0x1E0001 ∷ []) ∷ given (0x1F8001 ∷ 0x1E0001 ∷ []) ∷ refused Range ∷ refused Range ∷ []
 unfolding wordsOf classOf classIn rows
 marked-words = refl
 

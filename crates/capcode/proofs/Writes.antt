@@ -18,7 +18,8 @@ length-digits zero number = refl
 length-digits (suc n) number = length-append (digits n (number / 10)) _ ∙ rw (length-digits n (number / 10)) (add-one n)
 
 -- frame and collapse are the last digits of one number
-head-by : (c : Capcode) (is-standard four : Bool) → standard (c .letter) ≡ is-standard → eqb (c .collapse) 4 ≡ four → c .collapse ≤ 9 → headOf c ≡ digits (headWidth c) (c .frame * 10 + c .collapse)
+head-by : (c : Capcode) (is-standard four : Bool) → standard (c .letter) ≡ is-standard
+    → eqb (c .collapse) 4 ≡ four → c .collapse ≤ 9 → headOf c ≡ digits (headWidth c) (c .frame * 10 + c .collapse)
 unfolding digits
 head-by c true true s f small = rw (s, f)
 head-by c true false s f small =
@@ -33,7 +34,8 @@ pub head-digits : (c : Capcode) → c .collapse ≤ 9 → headOf c ≡ digits (h
 head-digits c = head-by c _ _ refl refl
 
 -- a text is its two numbers with the letter between them
-pub text-numbers : (c : Capcode) → c .collapse ≤ 9 → textOf c ≡ digits (headWidth c) (c .frame * 10 + c .collapse) ++ c .letter ∷ digits (widthOf (c .address)) (c .address)
+pub text-numbers : (c : Capcode) → c .collapse ≤ 9
+    → textOf c ≡ digits (headWidth c) (c .frame * 10 + c .collapse) ++ c .letter ∷ digits (widthOf (c .address)) (c .address)
 unfolding textOf
 text-numbers c small = rw (head-digits c small)
 

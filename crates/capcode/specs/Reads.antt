@@ -19,7 +19,8 @@ use Rattle.capcode.specs.Text.{lastOfSeven}
 abbrev pub isDigit : ℕ → Bool
 isDigit byte = leb (code "0") byte && leb byte (code "9")
 
--- digits before the letter, so many and of this number, with which some correct text begins: a collapse digit (never 4) or the frame digits 000 to 127 and a collapse digit
+-- digits before the letter, so many and of this number, with which some correct text begins: a collapse digit (never
+-- 4) or the frame digits 000 to 127 and a collapse digit
 abbrev pub headGoesOn : ℕ → ℕ → Bool
 headGoesOn count number =
     (eqb count 1 && (leb number 3 || eqb number 5))

@@ -1,7 +1,9 @@
 // CAPCODEs, from text to value (document 01, "CAPCODE text"; S8.6.2).
 ghost use mathlib.Core.Path.{_≡_};
 ghost use lib.ListN.{drop};
-ghost use Rattle.capcode.specs.Reads.{isDigit, headGoesOn, letterGoesOn, addressGoesOn, Bounded, headDigit, theLetter, addressDigit, stepOf, going, follow, isWhole, saidBy, endOf, formOf, readBy, readOf, toldRead};
+ghost use Rattle.capcode.specs.Reads.{isDigit, headGoesOn, letterGoesOn, addressGoesOn, Bounded, headDigit, theLetter};
+ghost use Rattle.capcode.specs.Reads.{addressDigit, stepOf, going, follow, isWhole, saidBy, endOf, formOf, readBy};
+ghost use Rattle.capcode.specs.Reads.{readOf, toldRead};
 ghost use Rattle.capcode.specs.Underway.{Sound};
 use crate::AssignAnswer;
 use crate::Capcode;

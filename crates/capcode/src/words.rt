@@ -3,7 +3,8 @@
 ghost use mathlib.Core.Path.{_≡_};
 ghost use Prim.Native.Nat.{_≤_, _<_, _^_, _-_};
 ghost use Rattle.refusal.specs.Told.{given};
-ghost use Rattle.capcode.specs.Words.{oneWord, pair12, pair13, pair23, layoutOf, wordsAs, FitsAs, wordsOf, toldWorded, isOne, isPair, fromPair, addressOf, toldAddressed};
+ghost use Rattle.capcode.specs.Words.{oneWord, pair12, pair13, pair23, layoutOf, wordsAs, FitsAs, wordsOf, toldWorded};
+ghost use Rattle.capcode.specs.Words.{isOne, isPair, fromPair, addressOf, toldAddressed};
 ghost use mathlib.Core.List.{[], _∷_};
 use crate::Addressed;
 use crate::Class;

@@ -61,7 +61,8 @@ premises host =
 
 -- the text that a host hands out first; none where it hands out none
 unfoldable pub firstText : Host → List ℕ
-unfolding textsOut cut fragmentsFrom fragmentAt fragmentOf messageOf wordsOf number stepOf chainsAfter bufferAfter sound fate cellsOf withoutFill digits sumBy all firstThat
+unfolding textsOut cut fragmentsFrom fragmentAt fragmentOf messageOf wordsOf number stepOf chainsAfter bufferAfter
+    sound fate cellsOf withoutFill digits sumBy all firstThat
 firstText host = getD (textsOut host hello free inTurn) 0 []
 
 -- where the demand is kept, the text handed out first is the sender's
@@ -225,7 +226,8 @@ only-counting-breaks = breaks onlyCounts 2 (eqb-false 0 76 refl)
 -- ---- "A frame count that isn't the marked bits breaks the frame rule"
 
 -- whatever it counts, and wherever it is another number
-pub miscounting-breaks : (count : List Listener → ℕ) (listeners : List Listener) → (count listeners ≡ onesOf (masksOf (heard listeners)) → ⊥) → FrameRule count → ⊥
+pub miscounting-breaks : (count : List Listener → ℕ) (listeners : List Listener)
+    → (count listeners ≡ onesOf (masksOf (heard listeners)) → ⊥) → FrameRule count → ⊥
 miscounting-breaks count listeners other kept = other (kept listeners)
 
 -- a listener of a base frame, which hears four frames of the 128

@@ -45,7 +45,8 @@ isPartOf (a ∷ row) (b ∷ all) = pick (eqb a b) (isPartOf row all) (isPartOf (
 
 -- what becomes of a chain has the number of the first of 14, 15, 16 and 12 that is given
 of-chain : (row : List Chain) (address : ℕ) (h : FragmentRead) (c : Chain) (late over on wrong : Bool)
-    → numberTold (toldOf row address h (losing late refusals.OutOfTurn (losing over refusals.TooLong (pick on (grows c) (losing wrong refusals.Signature whole)))))
+    → numberTold
+    (toldOf row address h (losing late refusals.OutOfTurn (losing over refusals.TooLong (pick on (grows c) (losing wrong refusals.Signature whole)))))
     ≡ pick late 14 (pick over 15 (pick (not on && wrong) 16 (pick (full row address h) 12 0)))
 of-chain row address h c true over on wrong = refl
 of-chain row address h c false true on wrong = refl
@@ -67,7 +68,8 @@ table-kept s (came address words) =
     (number-asked (not (undamaged words)) refusals.Damaged _ _
     (number-asked (not (checked words)) refusals.Checksum _ _
     (number-asked (not (isFirst h) && not (known row address h)) refusals.NoChain _ _
-    (of-chain row address h (grown c h) (not (eqb (h .«fragment_number») (c .«next_fragment»))) (ltb mostCharacters (charactersAfter c h)) (goesOn h) (not (eqb (sumAfter c h) 127)))))))))
+    (of-chain row address h (grown c h) (not (eqb (h .«fragment_number») (c .«next_fragment»)))
+    (ltb mostCharacters (charactersAfter c h)) (goesOn h) (not (eqb (sumAfter c h) 127)))))))))
 table-kept s (dropped address n) =
     number-asked (not (sound (s .chains))) refusals.State _ _
     (number-asked (not (isMessage n)) refusals.Packet _ _
@@ -117,7 +119,8 @@ state-kept s (dropped address n) some =
     )
 
 -- the lines stand in the table's order: its numbers, some left out
-pub lines-in-order : (s : State) (event : Event) → isPartOf (map {A = Line} {B = ℕ} (λ line. numberOf (line .refusal)) (linesFor s event)) (map numberOf order) ≡ true
+pub lines-in-order : (s : State) (event : Event)
+    → isPartOf (map {A = Line} {B = ℕ} (λ line. numberOf (line .refusal)) (linesFor s event)) (map numberOf order) ≡ true
 unfolding isPartOf order
 lines-in-order s (came address words) = refl
 lines-in-order s (dropped address n) = refl

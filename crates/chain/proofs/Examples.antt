@@ -1,4 +1,5 @@
--- Worked examples: a text of three fragments joined, what is refused, and what each premise of the laws is for. All worked by hand from Tables 44, 45 and 60 and from 01.
+-- Worked examples: a text of three fragments joined, what is refused, and what each premise of the laws is for. All
+-- worked by hand from Tables 44, 45 and 60 and from 01.
 use Prim.Native.Nat.{ℕ}
 use mathlib.Core.Bool.{true, false}
 use mathlib.Core.List.{List, [], _∷_, _++_, map}
@@ -27,7 +28,8 @@ opened address n next sum characters =
 -- ---- fragments
 
 -- "HELLO ME", N 5, in fragments of two words: 72, 69, 76, 76, 79, 32, 77 and 69 make 550, whose low seven bits are 38, so that S is 89.
--- The first has F 3 and C 1: 00BC00, then 89, "H" and "E", 59H, 72 at i7 and 69 at i14, 116459. The groups BCH, and 59H, 64H, 11H make 394; 1023 - 394 is 629, 275H
+-- The first has F 3 and C 1: 00BC00, then 89, "H" and "E", 59H, 72 at i7 and 69 at i14, 116459. The groups BCH, and
+-- 59H, 64H, 11H make 394; 1023 - 394 is 629, 275H
 abbrev pub one : List ℕ
 one = 0x00BE75 ∷ 0x116459 ∷ []
 
@@ -35,17 +37,20 @@ one = 0x00BE75 ∷ 0x116459 ∷ []
 abbrev pub two : List ℕ
 two = 0x00A616 ∷ 0x13E64C ∷ []
 
--- the third has F 1 and C 0: 00A800, then " ", "M" and "E", 20H, 77 at i7 and 69 at i14, 1166A0. The groups A8H, and A0H, 66H, 11H make 447; 1023 - 447 is 576, 240H
+-- the third has F 1 and C 0: 00A800, then " ", "M" and "E", 20H, 77 at i7 and 69 at i14, 1166A0. The groups A8H, and
+-- A0H, 66H, 11H make 447; 1023 - 447 is 576, 240H
 abbrev pub three : List ℕ
 three = 0x00AA40 ∷ 0x1166A0 ∷ []
 
 -- the sums of the three: 89, 72 and 69 make 230, of which 102 is left; 76, 76 and 79 make 231, of which 103 is left; 32,
 -- 77 and 69 make 178, of which 50 is left
-pub told-of-three : map headingOf (one ∷ two ∷ three ∷ []) ≡ given (1 ∷ 3 ∷ 5 ∷ 0 ∷ 0 ∷ 89 ∷ 102 ∷ 2 ∷ []) ∷ given (1 ∷ 0 ∷ 5 ∷ 0 ∷ 0 ∷ 0 ∷ 103 ∷ 3 ∷ []) ∷ given (0 ∷ 1 ∷ 5 ∷ 0 ∷ 0 ∷ 0 ∷ 50 ∷ 3 ∷ []) ∷ []
+pub told-of-three : map headingOf (one ∷ two ∷ three ∷ [])
+    ≡ given (1 ∷ 3 ∷ 5 ∷ 0 ∷ 0 ∷ 89 ∷ 102 ∷ 2 ∷ []) ∷ given (1 ∷ 0 ∷ 5 ∷ 0 ∷ 0 ∷ 0 ∷ 103 ∷ 3 ∷ []) ∷ given (0 ∷ 1 ∷ 5 ∷ 0 ∷ 0 ∷ 0 ∷ 50 ∷ 3 ∷ []) ∷ []
 unfolding headingOf cellsOf withoutFill digits sumBy all
 told-of-three = refl
 
--- "HI", N 5, a first fragment and the only one: 00B800, then 110, which is S, 72 and 73, 12646E. The groups B8H, and 6EH, 64H, 12H make 412; 1023 - 412 is 611, 263H
+-- "HI", N 5, a first fragment and the only one: 00B800, then 110, which is S, 72 and 73, 12646E. The groups B8H, and
+-- 6EH, 64H, 12H make 412; 1023 - 412 is 611, 263H
 abbrev pub hi : List ℕ
 hi = 0x00BA63 ∷ 0x12646E ∷ []
 
@@ -229,12 +234,16 @@ unfolding losses stepOf sound fate cellsOf withoutFill digits sumBy all firstTha
 loss-examples = refl
 
 -- the record of a chain that is lost is all zero
-pub lost-records : chainsAfter 1008 (opened 7 5 0 102 2 ∷ []) 7 three ∷ chainsAfter 1008 (long 1006) 7 three ∷ chainsAfter 1008 (opened 7 5 1 76 5 ∷ []) 7 three ∷ chainsAfter 1008 (opened 7 5 1 76 5 ∷ []) 7 unsigned ∷ [] ≡ fresh 1 ∷ fresh 1 ∷ fresh 1 ∷ fresh 1 ∷ []
+pub lost-records :
+    chainsAfter 1008 (opened 7 5 0 102 2 ∷ []) 7 three ∷ chainsAfter 1008 (long 1006) 7 three
+    ∷ chainsAfter 1008 (opened 7 5 1 76 5 ∷ []) 7 three ∷ chainsAfter 1008 (opened 7 5 1 76 5 ∷ []) 7 unsigned ∷ []
+    ≡ fresh 1 ∷ fresh 1 ∷ fresh 1 ∷ fresh 1 ∷ []
 unfolding chainsAfter sound fate cellsOf withoutFill digits sumBy all firstThat
 lost-records = refl
 
 -- any other refusal leaves the records, here 11 and 12
-pub refused-records : chainsAfter 1008 (opened 7 5 0 102 2 ∷ []) 7 (0x00A617 ∷ 0x13E64C ∷ []) ∷ chainsAfter 1008 (opened 3 5 0 102 2 ∷ []) 7 one ∷ [] ≡ (opened 7 5 0 102 2 ∷ []) ∷ (opened 3 5 0 102 2 ∷ []) ∷ []
+pub refused-records : chainsAfter 1008 (opened 7 5 0 102 2 ∷ []) 7 (0x00A617 ∷ 0x13E64C ∷ []) ∷ chainsAfter 1008 (opened 3 5 0 102 2 ∷ []) 7 one ∷ []
+    ≡ (opened 7 5 0 102 2 ∷ []) ∷ (opened 3 5 0 102 2 ∷ []) ∷ []
 unfolding chainsAfter sound fate cellsOf withoutFill digits sumBy all firstThat
 refused-records = refl
 
@@ -307,7 +316,19 @@ unfolding fate cellsOf withoutFill digits sumBy firstThat
 zero-needed = refl
 
 -- an address number over 31, and N over 63: the record would not be sound
-pub limits-needed : sound (rowAfter (fresh 1) 32 (headingIn one)) ∷ sound (rowAfter (fresh 1) 7 (record { number = 0; continued = 1; «fragment_number» = 3; «message_number» = 64; retrieval = 0; «mail_drop» = 0; signature = 0; sum = 0; characters = 0 })) ∷ [] ≡ false ∷ false ∷ []
+pub limits-needed :
+    sound (rowAfter (fresh 1) 32 (headingIn one)) ∷ sound (rowAfter (fresh 1) 7 (record {
+      number = 0;
+      continued = 1;
+      «fragment_number» = 3;
+      «message_number» = 64;
+      retrieval = 0;
+      «mail_drop» = 0;
+      signature = 0;
+      sum = 0;
+      characters = 0;
+    })) ∷ []
+    ≡ false ∷ false ∷ []
 unfolding sound fate cellsOf withoutFill digits sumBy firstThat
 limits-needed = refl
 
@@ -332,7 +353,8 @@ unfolding fate cellsOf withoutFill digits sumBy
 turn-needed = refl
 
 -- where more follows no text is told: place and length are 0
-pub whole-needed : asAnswer (stepOf 2016 (opened 3 5 0 0 0 ∷ blank ∷ []) 7 one) ≡ record { number = 0; lost = 0; begun = 1; retrieval = 0; «mail_drop» = 0; complete = 0; slot = 0; place = 0; characters = 0 }
+pub whole-needed : asAnswer (stepOf 2016 (opened 3 5 0 0 0 ∷ blank ∷ []) 7 one)
+    ≡ record { number = 0; lost = 0; begun = 1; retrieval = 0; «mail_drop» = 0; complete = 0; slot = 0; place = 0; characters = 0 }
 unfolding stepOf sound fate cellsOf withoutFill digits sumBy all firstThat
 whole-needed = refl
 

@@ -61,7 +61,8 @@ module _ (c : Chain) (h : FragmentRead) where
       (λ other. rw other (late (eqb-false (h .«fragment_number») (c .«next_fragment») other)))
       (decided (eqb (h .«fragment_number») (c .«next_fragment»)))
     where
-      at-end : h .«fragment_number» ≡ c .«next_fragment» → charactersAfter c h ≤ 1008 → goesOn h ≡ false → P (losing (not (eqb (sumAfter c h) 127)) Signature whole)
+      at-end : h .«fragment_number» ≡ c .«next_fragment» → charactersAfter c h ≤ 1008 → goesOn h ≡ false
+          → P (losing (not (eqb (sumAfter c h) 127)) Signature whole)
       at-end turn fits ends =
           ⊎-elim
           (λ right. rw right (last (record { turn = turn; fits = fits; total = λ ends. eqb-true (sumAfter c h) 127 right }) ends))
@@ -69,7 +70,9 @@ module _ (c : Chain) (h : FragmentRead) where
           (decided (eqb (sumAfter c h) 127))
 
       at-room : h .«fragment_number» ≡ c .«next_fragment»
-          → P (losing (ltb mostCharacters (charactersAfter c h)) TooLong (pick (goesOn h) (grows (grown c h)) (losing (not (eqb (sumAfter c h) 127)) Signature whole)))
+          → P
+          (losing (ltb mostCharacters (charactersAfter c h)) TooLong
+          (pick (goesOn h) (grows (grown c h)) (losing (not (eqb (sumAfter c h) 127)) Signature whole)))
       at-room turn =
           ⊎-elim
           (λ over. rw over (long turn (ltb-true mostCharacters (charactersAfter c h) over)))
@@ -87,7 +90,8 @@ module _ (c : Chain) (h : FragmentRead) where
   out-of-turn other = rw (ne-eqb (h .«fragment_number») (c .«next_fragment») other)
 
   -- 16: the last fragment's total differs
-  pub wrong-total : h .«fragment_number» ≡ c .«next_fragment» → charactersAfter c h ≤ 1008 → goesOn h ≡ false → (sumAfter c h ≡ 127 → ⊥) → fate c h ≡ lost Signature
+  pub wrong-total : h .«fragment_number» ≡ c .«next_fragment» → charactersAfter c h ≤ 1008 → goesOn h ≡ false
+      → (sumAfter c h ≡ 127 → ⊥) → fate c h ≡ lost Signature
   unfolding fate
   wrong-total turn fits ends other =
       rw (eq-eqb (h .«fragment_number») (c .«next_fragment») turn, le-ltb mostCharacters (charactersAfter c h) fits, ends, ne-eqb (sumAfter c h) 127 other)
@@ -101,7 +105,12 @@ module _ (c : Chain) (h : FragmentRead) where
   pub is-whole : Taken → goesOn h ≡ false → fate c h ≡ whole
   unfolding fate
   is-whole t ends =
-      rw (eq-eqb (h .«fragment_number») (c .«next_fragment») (t .turn), le-ltb mostCharacters (charactersAfter c h) (t .fits), ends, eq-eqb (sumAfter c h) 127 (t .total ends))
+      rw (
+        eq-eqb (h .«fragment_number») (c .«next_fragment») (t .turn),
+        le-ltb mostCharacters (charactersAfter c h) (t .fits),
+        ends,
+        eq-eqb (sumAfter c h) 127 (t .total ends),
+      )
 
   -- 15: of a fragment in its turn the text is too long exactly if it comes to more than 1,008 characters
   pub join-room : h .«fragment_number» ≡ c .«next_fragment» → (fate c h ≡ lost TooLong) ↔ (1008 < c .characters + h .characters)
@@ -141,7 +150,8 @@ module _ (c : Chain) (h : FragmentRead) where
       grown-slot t on = record { opened = λ is. grown-limits address message (t .fits); closed = λ shut. absurd (true≢false shut) }
 
   -- the record that a fragment leaves is of the chain's key, or closed
-  pub record-key : isOpen (recordAfter (fate c h)) ≡ true → (recordAfter (fate c h) .address ≡ c .address) × (recordAfter (fate c h) .«message_number» ≡ c .«message_number»)
+  pub record-key : isOpen (recordAfter (fate c h)) ≡ true
+      → (recordAfter (fate c h) .address ≡ c .address) × (recordAfter (fate c h) .«message_number» ≡ c .«message_number»)
   record-key =
       fate-by (λ f. isOpen (recordAfter f) ≡ true → (recordAfter f .address ≡ c .address) × (recordAfter f .«message_number» ≡ c .«message_number»))
       (λ late is. absurd (false≢true is)) (λ turn over is. absurd (false≢true is)) (λ turn fits ends wrong is. absurd (false≢true is))

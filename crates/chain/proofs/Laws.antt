@@ -57,7 +57,9 @@ module _ (lent : ℕ) (row : List Chain) (address : ℕ) (words : List ℕ) wher
 
   -- what holds of the refusals of these questions, and of what follows them, holds of the answer
   pub when-each : (P : Told → Type 0) (rest : Told)
-      → P (refused refusals.Room) → P (refused refusals.State) → P (refused refusals.Address) → P (refused refusals.Size) → P (refused refusals.Damaged) → P (refused refusals.Checksum) → P (refused refusals.NoChain)
+      → P (refused refusals.Room) → P (refused refusals.State) → P (refused refusals.Address)
+      → P (refused refusals.Size) → P (refused refusals.Damaged) → P (refused refusals.Checksum)
+      → P (refused refusals.NoChain)
       → P rest → P (whenHeard lent row address words rest)
   when-each P rest room state number size damaged sum chain then =
       either (ltb lent (length row * 1008)) refusals.Room _ room
@@ -137,7 +139,9 @@ module _ (lent : ℕ) (row : List Chain) (address : ℕ) (words : List ℕ) wher
   chains-length = chains-by (λ r. length r ≡ length row) (λ a. after-length row address (headingIn words)) refl
 
   -- 01: "A closed slot's record is all zero"
-  pub closed-is-zero : sound row ≡ true → (i : ℕ) → isOpen (getD (chainsAfter lent row address words) i blank) ≡ false → getD (chainsAfter lent row address words) i blank ≡ blank
+  pub closed-is-zero : sound row ≡ true → (i : ℕ)
+      → isOpen (getD (chainsAfter lent row address words) i blank) ≡ false
+      → getD (chainsAfter lent row address words) i blank ≡ blank
   closed-is-zero right i shut = closed-blank (chainsAfter lent row address words) (stays-sound right) i shut
 
   -- ---- other keys
@@ -153,7 +157,8 @@ module _ (lent : ℕ) (row : List Chain) (address : ℕ) (words : List ℕ) wher
   other-record whose n i other is = kept-chain whose n row (chainsAfter lent row address words) (others-stay whose n other) i is
 
   -- no chain of another key appears or goes
-  pub other-slot : (whose n : ℕ) → OtherKey whose n address (headingIn words .«message_number») → find whose n (chainsAfter lent row address words) ≡ find whose n row
+  pub other-slot : (whose n : ℕ) → OtherKey whose n address (headingIn words .«message_number»)
+      → find whose n (chainsAfter lent row address words) ≡ find whose n row
   other-slot whose n other = kept-find whose n row (chainsAfter lent row address words) (others-stay whose n other)
 
   -- ---- what is accepted
@@ -172,14 +177,17 @@ module _ (lent : ℕ) (row : List Chain) (address : ℕ) (words : List ℕ) wher
       (rw (ne-eqb (slotFor row address (headingIn words)) (length row) (λ e. omega (arith, a .free))))
 
   -- what is told of a fragment that ends its text
-  pub told-whole : Accepted → goesOn (headingIn words) ≡ false → stepOf lent row address words ≡ given (beginning row address (headingIn words) (handingOut row address (headingIn words)))
+  pub told-whole : Accepted → goesOn (headingIn words) ≡ false
+      → stepOf lent row address words ≡ given (beginning row address (headingIn words) (handingOut row address (headingIn words)))
   told-whole a ends =
       step-heard (a .heard)
       ∙ rw (is-whole (chainBefore row address (headingIn words)) (headingIn words) (a .taken) ends)
       (rw (ne-eqb (slotFor row address (headingIn words)) (length row) (λ e. omega (arith, a .free))))
 
   -- what is told of a fragment that is accepted: whether a first one closed an older chain of its key, and whether it is a first one
-  pub beginning-told : Accepted → (valueTold (stepOf lent row address words) 0 ≡ bitOf (isFirst (headingIn words) && known row address (headingIn words))) × (valueTold (stepOf lent row address words) 1 ≡ bitOf (isFirst (headingIn words)))
+  pub beginning-told : Accepted
+      → (valueTold (stepOf lent row address words) 0 ≡ bitOf (isFirst (headingIn words) && known row address (headingIn words)))
+      × (valueTold (stepOf lent row address words) 1 ≡ bitOf (isFirst (headingIn words)))
   beginning-told a =
       ⊎-elim (λ on. rw (told-on a on) (refl, refl)) (λ ends. rw (told-whole a ends) (refl, refl)) (decided (goesOn (headingIn words)))
 
@@ -197,7 +205,8 @@ module _ (lent : ℕ) (row : List Chain) (address : ℕ) (words : List ℕ) wher
 
       both : numberTold (toldOf row address h (fateOf row address h)) ≡ 0 → Taken (chainBefore row address h) h × (slotFor row address h < length row)
       both =
-          fate-by (chainBefore row address h) h (λ f. numberTold (toldOf row address h f) ≡ 0 → Taken (chainBefore row address h) h × (slotFor row address h < length row))
+          fate-by (chainBefore row address h) h
+          (λ f. numberTold (toldOf row address h f) ≡ 0 → Taken (chainBefore row address h) h × (slotFor row address h < length row))
           (λ late e. absurd (omega arith)) (λ turn over e. absurd (omega arith)) (λ turn fits ends wrong e. absurd (omega arith))
           (λ t on e. (t, given-slot _ e))
           (λ t ends e. (t, given-slot _ e))
@@ -218,7 +227,8 @@ module _ (lent : ℕ) (row : List Chain) (address : ℕ) (words : List ℕ) wher
   known-not-full is = ne-eqb (slotFor row address (headingIn words)) (length row) (λ e. omega (arith, known-has-slot row address (headingIn words) is))
 
   -- a refusal under 14 leaves the records as they were: 12 too, since a first fragment whose key is open finds a slot
-  pub refused-stays : (numberTold (stepOf lent row address words) ≡ 0 → ⊥) → numberTold (stepOf lent row address words) < 14 → chainsAfter lent row address words ≡ row
+  pub refused-stays : (numberTold (stepOf lent row address words) ≡ 0 → ⊥)
+      → numberTold (stepOf lent row address words) < 14 → chainsAfter lent row address words ≡ row
   refused-stays some early =
       chains-by (λ r. r ≡ row) (λ a. unchanged (rw (step-heard a) at some) (rw (step-heard a) at early)) refl
     where
@@ -232,9 +242,11 @@ module _ (lent : ℕ) (row : List Chain) (address : ℕ) (words : List ℕ) wher
           (λ none. absurd (some (rw none)))
           (decided (full row address h))
 
-      unchanged : (numberTold (toldOf row address h (fateOf row address h)) ≡ 0 → ⊥) → numberTold (toldOf row address h (fateOf row address h)) < 14 → rowAfter row address h ≡ row
+      unchanged : (numberTold (toldOf row address h (fateOf row address h)) ≡ 0 → ⊥)
+          → numberTold (toldOf row address h (fateOf row address h)) < 14 → rowAfter row address h ≡ row
       unchanged =
-          fate-by (chainBefore row address h) h (λ f. (numberTold (toldOf row address h f) ≡ 0 → ⊥) → numberTold (toldOf row address h f) < 14 → rowAfter row address h ≡ row)
+          fate-by (chainBefore row address h) h
+          (λ f. (numberTold (toldOf row address h f) ≡ 0 → ⊥) → numberTold (toldOf row address h f) < 14 → rowAfter row address h ≡ row)
           (λ late some early. absurd (omega arith)) (λ turn over some early. absurd (omega arith)) (λ turn fits ends wrong some early. absurd (omega arith))
           (λ t on some early. without _ some)
           (λ t ends some early. without _ some)
@@ -273,38 +285,47 @@ module _ (lent : ℕ) (row : List Chain) (address : ℕ) (words : List ℕ) wher
       h = headingIn words
 
       not-late : (values : List ℕ) → 14 ≤ numberTold (ask (full row address h) refusals.Full (given values)) → ⊥
-      not-late values late = ⊎-elim (λ is. let no-more = rw is at late in omega arith) (λ none. let no-more = rw none at late in omega arith) (decided (full row address h))
+      not-late values late =
+          ⊎-elim (λ is. let no-more = rw is at late in omega arith) (λ none. let no-more = rw none at late in omega arith) (decided (full row address h))
 
       lost-fate : 14 ≤ numberTold (toldOf row address h (fateOf row address h))
-          → (recordAfter (fateOf row address h) ≡ blank) × (toldOf row address h (fateOf row address h) ≡ told (numberTold (toldOf row address h (fateOf row address h))) (bitOf (known row address h) ∷ []))
+          → (recordAfter (fateOf row address h) ≡ blank)
+          × (toldOf row address h (fateOf row address h) ≡ told (numberTold (toldOf row address h (fateOf row address h))) (bitOf (known row address h) ∷ []))
       lost-fate =
-          fate-by (chainBefore row address h) h (λ f. 14 ≤ numberTold (toldOf row address h f) → (recordAfter f ≡ blank) × (toldOf row address h f ≡ told (numberTold (toldOf row address h f)) (bitOf (known row address h) ∷ [])))
+          fate-by (chainBefore row address h) h
+          (λ f. 14 ≤ numberTold (toldOf row address h f)
+          → (recordAfter f ≡ blank) × (toldOf row address h f ≡ told (numberTold (toldOf row address h f)) (bitOf (known row address h) ∷ [])))
           (λ late e. (refl, refl)) (λ turn over e. (refl, refl)) (λ turn fits ends wrong e. (refl, refl))
           (λ t on e. absurd (not-late _ e))
           (λ t ends e. absurd (not-late _ e))
 
   -- a text handed out closes its chain in the same way
-  pub whole-closes : Accepted → goesOn (headingIn words) ≡ false → chainsAfter lent row address words ≡ set row (find address (headingIn words .«message_number») row) blank
+  pub whole-closes : Accepted → goesOn (headingIn words) ≡ false
+      → chainsAfter lent row address words ≡ set row (find address (headingIn words .«message_number») row) blank
   whole-closes a ends =
       chains-heard (a .heard)
       ∙ closes row address (headingIn words) (a .heard .right) (rw (is-whole (chainBefore row address (headingIn words)) (headingIn words) (a .taken) ends))
 
   -- after 14, 15 or 16 no chain of the key is open
-  pub lost-not-found : 14 ≤ numberTold (stepOf lent row address words) → find address (headingIn words .«message_number») (chainsAfter lent row address words) ≡ length row
+  pub lost-not-found : 14 ≤ numberTold (stepOf lent row address words)
+      → find address (headingIn words .«message_number») (chainsAfter lent row address words) ≡ length row
   lost-not-found late =
       let heard = lost-heard late in
       rw (lost-closes late .0) (cleared-not-found row address (headingIn words .«message_number») (heard .right))
 
   -- after 14, 15 or 16 the record of the chain's slot is all zero
-  pub lost-zero : 14 ≤ numberTold (stepOf lent row address words) → getD (chainsAfter lent row address words) (find address (headingIn words .«message_number») row) blank ≡ blank
+  pub lost-zero : 14 ≤ numberTold (stepOf lent row address words)
+      → getD (chainsAfter lent row address words) (find address (headingIn words .«message_number») row) blank ≡ blank
   lost-zero late = rw (lost-closes late .0) (zero-there row (find address (headingIn words .«message_number») row))
 
   -- after a text handed out no chain of the key is open
-  pub whole-not-found : Accepted → goesOn (headingIn words) ≡ false → find address (headingIn words .«message_number») (chainsAfter lent row address words) ≡ length row
+  pub whole-not-found : Accepted → goesOn (headingIn words) ≡ false
+      → find address (headingIn words .«message_number») (chainsAfter lent row address words) ≡ length row
   whole-not-found a ends = rw (whole-closes a ends) (cleared-not-found row address (headingIn words .«message_number») (a .heard .right))
 
   -- after a text handed out the record of the slot that is told is all zero
-  pub whole-zero : Accepted → goesOn (headingIn words) ≡ false → getD (chainsAfter lent row address words) (slotFor row address (headingIn words)) blank ≡ blank
+  pub whole-zero : Accepted → goesOn (headingIn words) ≡ false
+      → getD (chainsAfter lent row address words) (slotFor row address (headingIn words)) blank ≡ blank
   whole-zero a ends =
       rw (chains-heard (a .heard), is-whole (chainBefore row address (headingIn words)) (headingIn words) (a .taken) ends)
       (zero-there (cleared row address (headingIn words)) (slotFor row address (headingIn words)))
@@ -331,13 +352,18 @@ module _ (lent : ℕ) (row : List Chain) (address : ℕ) (words : List ℕ) wher
     pub grows-on : goesOn (headingIn words) ≡ true
         → let c = chainBefore row address (headingIn words) in
         let slot = slotFor row address (headingIn words) in
-        (getD (chainsAfter lent row address words) slot blank ≡ grown c (headingIn words)) × (find address (headingIn words .«message_number») (chainsAfter lent row address words) ≡ slot)
+        (getD (chainsAfter lent row address words) slot blank ≡ grown c (headingIn words))
+        × (find address (headingIn words .«message_number») (chainsAfter lent row address words) ≡ slot)
     grows-on on =
         let c = chainBefore row address (headingIn words) in
         let slot = slotFor row address (headingIn words) in
         let before = before-of row address (headingIn words) (a .heard .has) in
         let here : getD (chainsAfter lent row address words) slot blank ≡ grown c (headingIn words) =
         ap (λ (r : List Chain). getD r slot blank) (chains-heard (a .heard))
-        ∙ rw (goes-on c (headingIn words) (a .taken) on) (getD-set-same (cleared row address (headingIn words)) slot (grown c (headingIn words)) blank (rw (cleared-length row address (headingIn words)) (a .free))) in
-        let key = is-of address (headingIn words .«message_number») (grown c (headingIn words)) .1 (record { opened = refl; same-address = before .1; same-message = before .2 }) in
+        ∙ rw (goes-on c (headingIn words) (a .taken) on)
+        (getD-set-same (cleared row address (headingIn words)) slot (grown c (headingIn words)) blank
+        (rw (cleared-length row address (headingIn words)) (a .free))) in
+        let key =
+        is-of address (headingIn words .«message_number») (grown c (headingIn words)) .1
+        (record { opened = refl; same-address = before .1; same-message = before .2 }) in
         (here, found-at (chainsAfter lent row address words) (stays-sound (a .heard .right)) address (headingIn words .«message_number») slot (rw here key))

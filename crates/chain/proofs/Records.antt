@@ -39,7 +39,8 @@ module _ (c : Chain) where
   -- the limits of an open chain, as they are tested
   pub limits : inLimits c ≡ true → Limits c
   limits e =
-      let each = each-of-five (isAddress (c .address)) (isMessage (c .«message_number»)) (leb (c .«next_fragment») 2) (leb (c .sum) 127) (leb (c .characters) 1008) e in
+      let each =
+      each-of-five (isAddress (c .address)) (isMessage (c .«message_number»)) (leb (c .«next_fragment») 2) (leb (c .sum) 127) (leb (c .characters) 1008) e in
       record {
         of-address = leb-true (c .address) 31 (each .0);
         of-message = leb-true (c .«message_number») 63 (each .1);
@@ -51,7 +52,13 @@ module _ (c : Chain) where
   -- a record within its limits passes the test of them
   pub in-limits : Limits c → inLimits c ≡ true
   in-limits l =
-      rw (le-leb (c .address) 31 (l .of-address), le-leb (c .«message_number») 63 (l .of-message), le-leb (c .«next_fragment») 2 (l .of-next), le-leb (c .sum) 127 (l .of-sum), le-leb (c .characters) 1008 (l .of-characters))
+      rw (
+        le-leb (c .address) 31 (l .of-address),
+        le-leb (c .«message_number») 63 (l .of-message),
+        le-leb (c .«next_fragment») 2 (l .of-next),
+        le-leb (c .sum) 127 (l .of-sum),
+        le-leb (c .characters) 1008 (l .of-characters),
+      )
 
   -- a closed slot whose other numbers are 0 is all zero
   pub all-zero : isOpen c ≡ false → isBlank c ≡ true → c ≡ blank
@@ -113,7 +120,10 @@ of-own c is = is-of (c .address) (c .«message_number») c .1 (record { opened =
 
 -- a slot of the row, and not one past it, can be open
 pub open-within : (row : List Chain) (i : ℕ) → isOpen (getD row i blank) ≡ true → i < length row
-open-within row i is = ⊎-elim (λ within. ltb-true i (length row) within) (λ out. absurd (not-both (isOpen (getD row i blank)) is (rw (List·getD-eq-default row blank (ltb-false i (length row) out))))) (decided (ltb i (length row)))
+open-within row i is =
+    ⊎-elim (λ within. ltb-true i (length row) within)
+    (λ out. absurd (not-both (isOpen (getD row i blank)) is (rw (List·getD-eq-default row blank (ltb-false i (length row) out)))))
+    (decided (ltb i (length row)))
 
 module _ (address n : ℕ) (row : List Chain) where
   -- a key has an open chain exactly if a slot has it
@@ -140,7 +150,9 @@ module _ (address n : ℕ) (row : List Chain) where
 
 -- no two open chains are of one key
 abbrev pub Apart : List Chain → Type 0
-Apart row = (i j : ℕ) → i < j → j < length row → isOpen (getD row i blank) ≡ true → isOf (getD row i blank .address) (getD row i blank .«message_number») (getD row j blank) ≡ false
+Apart row =
+    (i j : ℕ) → i < j → j < length row → isOpen (getD row i blank) ≡ true
+    → isOf (getD row i blank .address) (getD row i blank .«message_number») (getD row j blank) ≡ false
 
 -- 01's table, 2: what a row is that is not refused
 pub record Sound (row : List Chain) : Type 0 where
@@ -174,7 +186,11 @@ says-sound : (row : List Chain) → Sound row → sound row ≡ true
 unfolding sound
 says-sound [] s = refl
 says-sound (c ∷ row) s =
-    let rest = says-sound row (record { slots = λ i within. s .slots (suc i) (omega arith); apart = λ i j before within is. s .apart (suc i) (suc j) (omega arith) (omega arith) is }) in
+    let rest =
+    says-sound row (record {
+      slots = λ i within. s .slots (suc i) (omega arith);
+      apart = λ i j before within is. s .apart (suc i) (suc j) (omega arith) (omega arith) is;
+    }) in
     rw (slot-sound c .1 (s .slots 0 (omega arith)), no-other (s .apart), rest)
   where
     no-other : Apart (c ∷ row) → (isOpen c && holds (c .address) (c .«message_number») row) ≡ false

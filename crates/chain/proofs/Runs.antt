@@ -83,10 +83,13 @@ module _ (row : List Chain) (address n : ℕ) where
   -- a drop changes nothing of another key
   pub drop-others : (whose number : ℕ) → OtherKey whose number address n → Kept whose number row (droppedFrom row address n)
   drop-others whose number other =
-      drop-by (Kept whose number row) (kept-set whose number row (find address n row) blank (other-found whose number row address n other) refl) (kept-same whose number row)
+      drop-by (Kept whose number row)
+      (kept-set whose number row (find address n row) blank (other-found whose number row address n other) refl)
+      (kept-same whose number row)
 
   -- a drop of one key leaves the record of another key's chain
-  pub drop-other-record : (whose number i : ℕ) → OtherKey whose number address n → isOf whose number (getD row i blank) ≡ true → getD (droppedFrom row address n) i blank ≡ getD row i blank
+  pub drop-other-record : (whose number i : ℕ) → OtherKey whose number address n
+      → isOf whose number (getD row i blank) ≡ true → getD (droppedFrom row address n) i blank ≡ getD row i blank
   drop-other-record whose number i other is = kept-chain whose number row (droppedFrom row address n) (drop-others whose number other) i is
 
   -- with a drop of one key no chain of another appears or goes
@@ -107,7 +110,8 @@ run-sound s [] right = right
 run-sound s (event ∷ events) right = run-sound (after s event) events (event-sound s event right)
 
 -- a run that begins with closed slots has sound records after each event
-pub fresh-run-sound : (count : ℕ) (bytes : List ℕ) (events : List Event) → sound (afterAll (record { chains = fresh count; bytes = bytes }) events .chains) ≡ true
+pub fresh-run-sound : (count : ℕ) (bytes : List ℕ) (events : List Event)
+    → sound (afterAll (record { chains = fresh count; bytes = bytes }) events .chains) ≡ true
 fresh-run-sound count bytes events = run-sound (record { chains = fresh count; bytes = bytes }) events (fresh-sound count)
 
 -- an event leaves as many slots and as many lent bytes
@@ -116,7 +120,8 @@ event-length s (came address words) = (chains-length (length (s .bytes)) (s .cha
 event-length s (dropped address n) = (drop-length (s .chains) address n, refl)
 
 -- a run keeps the number of records and of bytes
-pub run-length : (s : State) (events : List Event) → (length (afterAll s events .chains) ≡ length (s .chains)) × (length (afterAll s events .bytes) ≡ length (s .bytes))
+pub run-length : (s : State) (events : List Event)
+    → (length (afterAll s events .chains) ≡ length (s .chains)) × (length (afterAll s events .bytes) ≡ length (s .bytes))
 unfolding afterAll
 run-length s [] = (refl, refl)
 run-length s (event ∷ events) =
@@ -147,7 +152,8 @@ pub record Same (i : ℕ) (before then : State) : Type 0 where
   pub same-text : textAt (then .bytes) i (getD (before .chains) i blank .characters) ≡ textAt (before .bytes) i (getD (before .chains) i blank .characters)
 
 -- an event leaves the record and the text of another key's chain
-pub event-others : (s : State) (event : Event) (whose n i : ℕ) → Others whose n event → isOf whose n (getD (s .chains) i blank) ≡ true → Same i s (after s event)
+pub event-others : (s : State) (event : Event) (whose n i : ℕ) → Others whose n event
+    → isOf whose n (getD (s .chains) i blank) ≡ true → Same i s (after s event)
 event-others s (came address words) whose n i other is =
     record {
       same-record = other-record (length (s .bytes)) (s .chains) address words whose n i other is;
@@ -157,7 +163,8 @@ event-others s (dropped address number) whose n i other is =
     record { same-record = drop-other-record (s .chains) address number whose n i other is; same-text = refl }
 
 -- a run of any length of other keys' events leaves a key's chain and its text
-pub run-others : (s : State) (events : List Event) (whose n i : ℕ) → AllOthers whose n events → isOf whose n (getD (s .chains) i blank) ≡ true → Same i s (afterAll s events)
+pub run-others : (s : State) (events : List Event) (whose n i : ℕ) → AllOthers whose n events
+    → isOf whose n (getD (s .chains) i blank) ≡ true → Same i s (afterAll s events)
 unfolding afterAll AllOthers
 run-others s [] whose n i others is = record { same-record = refl; same-text = refl }
 run-others s (event ∷ events) whose n i others is =

@@ -16,7 +16,8 @@ use Rattle.chain.specs.Steps.{isFirst, recordAfter, fate, unbegun, older
 use Rattle.chain.specs.Answers.{known}
 use Rattle.chain.proofs.Records.{is-of, closed-of-none, held, not-found, found-at}
 use Rattle.chain.proofs.Fates.{record-slot, record-key}
-use Rattle.chain.proofs.Stores.{set-sound, clear-sound, cleared-of-none, free-closed, free-cleared, OtherKey, Kept, kept-same, kept-on, kept-set, other-found}
+use Rattle.chain.proofs.Stores.{set-sound, clear-sound, cleared-of-none, free-closed, free-cleared, OtherKey}
+use Rattle.chain.proofs.Stores.{Kept, kept-same, kept-on, kept-set, other-found}
 
 module _ (row : List Chain) (address : ℕ) (h : FragmentRead) where
   -- ---- the slot
@@ -55,7 +56,8 @@ module _ (row : List Chain) (address : ℕ) (h : FragmentRead) where
 
   -- the chain before is open and of its key where the fragment is a first one, or finds one
   pub before-of : (isFirst h ≡ false → known row address h ≡ true)
-      → (isOpen (chainBefore row address h) ≡ true) × (chainBefore row address h .address ≡ address) × (chainBefore row address h .«message_number» ≡ h .«message_number»)
+      → (isOpen (chainBefore row address h) ≡ true) × (chainBefore row address h .address ≡ address)
+      × (chainBefore row address h .«message_number» ≡ h .«message_number»)
   before-of has =
       ⊎-elim
       (λ first. rw first (refl, refl, refl))

@@ -18,7 +18,9 @@ use Rattle.chain.proofs.Records.{Slot, blank-slot, is-of, Apart, Sound,
 -- ---- the row stays sound
 
 -- a chain that is not of another's key has another key than that
-apart-back : (a b : Chain) → isOpen a ≡ true → (isOpen b ≡ true → isOf (b .address) (b .«message_number») a ≡ false) → isOf (a .address) (a .«message_number») b ≡ false
+apart-back : (a b : Chain) → isOpen a ≡ true
+    → (isOpen b ≡ true → isOf (b .address) (b .«message_number») a ≡ false)
+    → isOf (a .address) (a .«message_number») b ≡ false
 apart-back a b is other = ⊎-elim (λ same. absurd (both same)) (λ no-other. no-other) (decided (isOf (a .address) (a .«message_number») b))
   where
     both : isOf (a .address) (a .«message_number») b ≡ true → ⊥
@@ -30,7 +32,9 @@ apart-back a b is other = ⊎-elim (λ same. absurd (both same)) (λ no-other. n
 
 module _ (row : List Chain) (i : ℕ) (c : Chain) where
   -- a sound record put into a sound row, where no other slot is of its key
-  pub set-sound : sound row ≡ true → Slot c → (isOpen c ≡ true → (j : ℕ) → (j ≡ i → ⊥) → isOf (c .address) (c .«message_number») (getD row j blank) ≡ false) → sound (set row i c) ≡ true
+  pub set-sound : sound row ≡ true → Slot c
+      → (isOpen c ≡ true → (j : ℕ) → (j ≡ i → ⊥) → isOf (c .address) (c .«message_number») (getD row j blank) ≡ false)
+      → sound (set row i c) ≡ true
   set-sound good here alone = sound-row (set row i c) .1 (record { slots = slots-after; apart = apart-after })
     where
       before : Sound row
@@ -115,7 +119,8 @@ module _ (row : List Chain) where
   pub free-closed : isOpen (getD row (firstFree row) blank) ≡ false
   free-closed =
       ⊎-elim
-      (λ within. not-true (isOpen (getD row (firstFree row) blank)) (first-passes (λ c. not (isOpen c)) row blank (ltb-true (firstFree row) (length row) within)))
+      (λ within. not-true (isOpen (getD row (firstFree row) blank))
+      (first-passes (λ c. not (isOpen c)) row blank (ltb-true (firstFree row) (length row) within)))
       (λ out. rw (List·getD-eq-default row blank (ltb-false (firstFree row) (length row) out)))
       (decided (ltb (firstFree row) (length row)))
 
@@ -154,10 +159,13 @@ module _ (address n : ℕ) where
       joined i (inr a) (inr b) = inr (a .0, b .1)
 
   -- a slot that is not the key's and was not changes nothing of the key
-  pub kept-set : (row : List Chain) (i : ℕ) (c : Chain) → isOf address n (getD row i blank) ≡ false → isOf address n c ≡ false → Kept address n row (set row i c)
+  pub kept-set : (row : List Chain) (i : ℕ) (c : Chain) → isOf address n (getD row i blank) ≡ false
+      → isOf address n c ≡ false → Kept address n row (set row i c)
   kept-set row i c was is = record { long = length-set row i c; each = at-each }
     where
-      at-each : (j : ℕ) → (getD (set row i c) j blank ≡ getD row j blank) ⊎ ((isOf address n (getD row j blank) ≡ false) × (isOf address n (getD (set row i c) j blank) ≡ false))
+      at-each : (j : ℕ)
+          → (getD (set row i c) j blank ≡ getD row j blank)
+          ⊎ ((isOf address n (getD row j blank) ≡ false) × (isOf address n (getD (set row i c) j blank) ≡ false))
       at-each j =
           ⊎-elim
           (λ same.
@@ -183,7 +191,8 @@ module _ (address n : ℕ) where
         (λ i within. ⊎-elim (λ same. ap (isOf address n) same) (λ none. none .1 ∙ sym (none .0)) (kept .each i))
 
   -- the slot of another key's chain, or none: not of this one
-  pub other-found : (row : List Chain) (theirs number : ℕ) → OtherKey address n theirs number → isOf address n (getD row (find theirs number row) blank) ≡ false
+  pub other-found : (row : List Chain) (theirs number : ℕ) → OtherKey address n theirs number
+      → isOf address n (getD row (find theirs number row) blank) ≡ false
   other-found row theirs number other =
       ⊎-elim
       (λ is.

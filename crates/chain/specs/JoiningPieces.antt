@@ -22,7 +22,9 @@ turnOf row address h =
 -- what a fragment tells that was taken there
 abbrev pub takenOf : Turn → FragmentRead → Told
 takenOf t h =
-    given (bitOf (isFirst h && t .known) ∷ bitOf (isFirst h) ∷ h .retrieval ∷ h .«mail_drop» ∷ pick (goesOn h) [] (1 ∷ t .slot ∷ t .slot * mostCharacters ∷ charactersAfter (t .chain) h ∷ []))
+    given
+    (bitOf (isFirst h && t .known) ∷ bitOf (isFirst h) ∷ h .retrieval ∷ h .«mail_drop»
+    ∷ pick (goesOn h) [] (1 ∷ t .slot ∷ t .slot * mostCharacters ∷ charactersAfter (t .chain) h ∷ []))
 
 -- whether a fragment is a later one of a key that has no open chain
 abbrev pub orphan : List Chain → ℕ → FragmentRead → Bool

@@ -19,7 +19,8 @@ use refusal::Refusal;
 
 // 2, 7 or 8 of 01's table, the first that applies; 0 where none does.
 fn first_refusal(is_sound: bool, address: u32, message_number: u32) -> u32
-    ensures { λ r. ⌜ r ≡ numberTold (ask (not «is_sound») State (ask (not (isMessage «message_number»)) Packet (ask (not (isAddress address)) Address (given [])))) ⌝ }
+    ensures { λ r. ⌜ r
+        ≡ numberTold (ask (not «is_sound») State (ask (not (isMessage «message_number»)) Packet (ask (not (isAddress address)) Address (given [])))) ⌝ }
 {
     if !is_sound {
         return Refusal::State.number();

@@ -207,7 +207,9 @@ fn join(
 // A fragment for an address number: the answer, the records then, and its text in the lent buffer at its chain's end
 // unless it is refused.
 pub fn step(chains: Chains, buffer: &mut [u8], address: u32, words: &[u32]) -> ChainStep
-    ensures told { λ r. ⌜ r ≡ asStep (stepOf (length (now (buffer .entry))) (chains .slots) address (now (words .entry))) (chainsAfter (length (now (buffer .entry))) (chains .slots) address (now (words .entry))) ⌝ }
+    ensures told { λ r. ⌜ r
+        ≡ asStep (stepOf (length (now (buffer .entry))) (chains .slots) address (now (words .entry)))
+        (chainsAfter (length (now (buffer .entry))) (chains .slots) address (now (words .entry))) ⌝ }
     ensures buffer { λ r. ⌜ now (buffer .exit) ≡ bufferAfter (chains .slots) address (now (words .entry)) (now (buffer .entry)) ⌝ }
 {
     let slots = chains.slots;

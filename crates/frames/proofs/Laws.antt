@@ -13,7 +13,8 @@ use Rattle.refusal.proofs.Laws.{number-tells, number-positive}
 use Rattle.frames.specs.declared.Listener.{Listener}
 use Rattle.frames.specs.declared.Listened.{Listened}
 use Rattle.frames.specs.declared.Listening.{Listening}
-use Rattle.frames.specs.Listening.{Frameset, listens, heard, framesFrom, maskFrom, masksOf, countFrom, countOf, allFit, onesOf, listened, tellListened, toldListening}
+use Rattle.frames.specs.Listening.{Frameset, listens, heard, framesFrom, maskFrom, masksOf, countFrom, countOf}
+use Rattle.frames.specs.Listening.{allFit, onesOf, listened, tellListened, toldListening}
 use Rattle.frames.proofs.Masks.{mask-bit, range-at, range-ones}
 use Rattle.frames.proofs.Hearing.{heard-by, by-heard}
 

@@ -34,7 +34,9 @@ pub extern "C" fn mortisevane_chain_step(
     address: u32,
     words: &[u32],
 ) -> ChainStep
-    ensures told { λ r. ⌜ r ≡ asStep (stepOf (length (now (buffer .entry))) (chains .slots) address (now (words .entry))) (chainsAfter (length (now (buffer .entry))) (chains .slots) address (now (words .entry))) ⌝ }
+    ensures told { λ r. ⌜ r
+        ≡ asStep (stepOf (length (now (buffer .entry))) (chains .slots) address (now (words .entry)))
+        (chainsAfter (length (now (buffer .entry))) (chains .slots) address (now (words .entry))) ⌝ }
     ensures buffer { λ r. ⌜ now (buffer .exit) ≡ bufferAfter (chains .slots) address (now (words .entry)) (now (buffer .entry)) ⌝ }
 {
     chain::step(chains, buffer, address, words)

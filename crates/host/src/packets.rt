@@ -2,9 +2,12 @@
 // input, and its contract is that of the function it calls: `number` is 0, or 01's number of the
 // refusal, and every other field is then 0.
 ghost use mathlib.Core.Path.{_≡_};
-ghost use Rattle.packet.specs.Tables.{checksum, configuration, control, allFrameMode, receiverLines, shutDown, frameAssignment, userAddress, addressEnable, partId};
-ghost use Rattle.packet.specs.Fields.{builtBy, ofChecksum, ofConfiguration, ofControl, ofAllFrameMode, ofReceiverLines, ofShutDown, ofFrameAssignment, ofUserAddress, ofAddressEnable, ofPartId};
-ghost use Rattle.packet.specs.Sent.{checksumRead, configurationRead, controlRead, allFrameModeRead, receiverLinesRead, shutDownRead, frameAssignmentRead, userAddressRead, addressEnableRead};
+ghost use Rattle.packet.specs.Tables.{checksum, configuration, control, allFrameMode, receiverLines, shutDown};
+ghost use Rattle.packet.specs.Tables.{frameAssignment, userAddress, addressEnable, partId};
+ghost use Rattle.packet.specs.Fields.{builtBy, ofChecksum, ofConfiguration, ofControl, ofAllFrameMode, ofReceiverLines};
+ghost use Rattle.packet.specs.Fields.{ofShutDown, ofFrameAssignment, ofUserAddress, ofAddressEnable, ofPartId};
+ghost use Rattle.packet.specs.Sent.{checksumRead, configurationRead, controlRead, allFrameModeRead, receiverLinesRead};
+ghost use Rattle.packet.specs.Sent.{shutDownRead, frameAssignmentRead, userAddressRead, addressEnableRead};
 ghost use Rattle.packet.specs.Rule.{sendOf};
 ghost use Rattle.packet.specs.Heard.{partIdRead, statusRead, addressRead, messageRead};
 ghost use Rattle.packet.specs.Vectors.{vectorRead};

@@ -59,5 +59,6 @@ not-talking = refl
 
 -- `same-data` beside 10H with data bits 000010: 01H does the same; 1CH and a checksum with these bits do not, nor does 10H with others
 pub not-same : map {A = ℕ} {B = Mirror} (stepOf silent) (0x10000010 ∷ 0x01000010 ∷ 0x1C000010 ∷ 0x00000010 ∷ 0x10000011 ∷ [])
-    ≡ record { register = 0x400106; talking = 0 } ∷ record { register = 0x400106; talking = 0 } ∷ silent ∷ silent ∷ record { register = 0x400107; talking = 0 } ∷ []
+    ≡ record { register = 0x400106; talking = 0 } ∷ record { register = 0x400106; talking = 0 } ∷ silent ∷ silent
+    ∷ record { register = 0x400107; talking = 0 } ∷ []
 not-same = refl

@@ -1,4 +1,5 @@
--- What the definitions promise of any run of packets: the register is the sum of the whole list, when the decoder talks, and that the closing checksum makes it talk.
+-- What the definitions promise of any run of packets: the register is the sum of the whole list, when the decoder
+-- talks, and that the closing checksum makes it talk.
 use Prim.Native.Nat.{ℕ, _^_, _≤_, _<_}
 use mathlib.Core.Bool.{Bool, true, false, not, _&&_, _||_, or-assoc, or-true, true≢false}
 use mathlib.Core.List.{List, [], _∷_, _++_}
@@ -28,7 +29,8 @@ leftOut n = isChecksum n || isSpecial n
 
 -- the register after a packet, by its kind and by whether the decoder talks
 register-by : (m : Mirror) (bits talking : ℕ) (check special talk : Bool)
-    → (pick check (pick talk m (record { register = m .register; talking = talking })) (record { register = pick special (m .register) (bitXor (m .register) bits); talking = 0 })) .register
+    → (pick check (pick talk m (record { register = m .register; talking = talking }))
+    (record { register = pick special (m .register) (bitXor (m .register) bits); talking = 0 })) .register
     ≡ pick (check || special) (m .register) (bitXor (m .register) bits)
 register-by m bits talking true special true = refl
 register-by m bits talking true special false = refl
@@ -85,7 +87,8 @@ pub step-summed : (m : Mirror) (n : ℕ) → leftOut n ≡ false → stepOf m n 
 step-summed m n summed = summed-by m (afterChecksum m n) (dataOf n) (isChecksum n) (isSpecial n) summed
 
 -- a configuration packet is summed whatever was sent before, also a control packet that turned the decoder on
-pub configuration-summed : (m : Mirror) (n : ℕ) → idOf n ≡ configurationID → (before : List ℕ) → (runOf m (before ++ n ∷ [])) .register ≡ bitXor ((runOf m before) .register) (dataOf n)
+pub configuration-summed : (m : Mirror) (n : ℕ) → idOf n ≡ configurationID → (before : List ℕ)
+    → (runOf m (before ++ n ∷ [])) .register ≡ bitXor ((runOf m before) .register) (dataOf n)
 unfolding runOf
 configuration-summed m n id before =
     ap (λ (r : Mirror). r .register) (run-joined m before (n ∷ []) ∙ step-summed (runOf m before) n (rw id))
@@ -173,7 +176,8 @@ further n ns last =
     }
 
 -- of a list with one packet more before it, the last that is no checksum is that of the list, or the packet itself before checksums alone
-last-by : (n : ℕ) (ns : List ℕ) (check : Bool) → isChecksum n ≡ check → (allChecksums ns ≡ true) ⊎ LastOther ns → (allChecksums (n ∷ ns) ≡ true) ⊎ LastOther (n ∷ ns)
+last-by : (n : ℕ) (ns : List ℕ) (check : Bool) → isChecksum n ≡ check → (allChecksums ns ≡ true) ⊎ LastOther ns
+    → (allChecksums (n ∷ ns) ≡ true) ⊎ LastOther (n ∷ ns)
 unfolding allChecksums
 last-by n ns true e (inl all) = inl (rw (e, all))
 last-by n ns true e (inr last) = inr (further n ns last)

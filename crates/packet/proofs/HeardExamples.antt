@@ -12,19 +12,38 @@ pub part-id-example : partIdRead 0xFF000106 ≡ record { number = 0; fields = re
 part-id-example = refl
 
 -- Table 12: frame 77 of cycle 5, in step, at the end of the frame; all x bits set
-pub status-example : statusRead 0x7FCDB52E ≡ record { number = 0; fields = record { «frame_valid» = 1; frame = 77; synchronous = 1; «low_battery» = 0; cycle = 5; «synchronous_update» = 0; «low_battery_update» = 0; minute = 0; «end_of_frame» = 1; overflow = 0 } }
+pub status-example : statusRead 0x7FCDB52E
+    ≡ record {
+      number = 0;
+      fields =
+          record {
+            «frame_valid» = 1;
+            frame = 77;
+            synchronous = 1;
+            «low_battery» = 0;
+            cycle = 5;
+            «synchronous_update» = 0;
+            «low_battery_update» = 0;
+            minute = 0;
+            «end_of_frame» = 1;
+            overflow = 0;
+          };
+    }
 status-example = refl
 
 -- Table 30: a priority call on phase C for the temporary address 3, its vector at word 14
-pub address-example : addressRead 0x01C0830E ≡ record { number = 0; fields = record { priority = 1; phase = 2; «long_address» = 0; address = 19; «tone_only» = 0; vector = 14 } }
+pub address-example : addressRead 0x01C0830E
+    ≡ record { number = 0; fields = record { priority = 1; phase = 2; «long_address» = 0; address = 19; «tone_only» = 0; vector = 14 } }
 address-example = refl
 
 -- Table 30: the same address as tone-only, whose word number is not looked at
-pub tone-only-example : addressRead 0x01C083FF ≡ record { number = 0; fields = record { priority = 1; phase = 2; «long_address» = 0; address = 19; «tone_only» = 1; vector = 0 } }
+pub tone-only-example : addressRead 0x01C083FF
+    ≡ record { number = 0; fields = record { priority = 1; phase = 2; «long_address» = 0; address = 19; «tone_only» = 1; vector = 0 } }
 tone-only-example = refl
 
 -- the numbers of the refusals: index 10H is 8, word 88 is 7, both are 7, and so is another ID; words 0, 1 and 87 are none
-pub address-numbers : map (λ (n : ℕ). addressRead n .number) (0x01C0100E ∷ 0x01C08358 ∷ 0x01C01058 ∷ 0x00C0830E ∷ 0x01C08300 ∷ 0x01C08301 ∷ 0x01C08357 ∷ []) ≡ 8 ∷ 7 ∷ 7 ∷ 7 ∷ 0 ∷ 0 ∷ 0 ∷ []
+pub address-numbers : map (λ (n : ℕ). addressRead n .number) (0x01C0100E ∷ 0x01C08358 ∷ 0x01C01058 ∷ 0x00C0830E ∷ 0x01C08300 ∷ 0x01C08301 ∷ 0x01C08357 ∷ [])
+    ≡ 8 ∷ 7 ∷ 7 ∷ 7 ∷ 0 ∷ 0 ∷ 0 ∷ []
 address-numbers = refl
 
 -- Table 40: the last word of a frame, in error

@@ -15,7 +15,8 @@ use Rattle.packet.specs.Names.{idOf, among, lastWordID}
 use Rattle.packet.specs.Fields.{builtOf, builtBy, numberBy, fieldsBy}
 
 -- fields that fit are built
-pub fitting-built : (row : Layout) (values : List ℕ) → fit row values ≡ true → builtBy row values ≡ record { number = 0; packet = record { bits = packed row values } }
+pub fitting-built : (row : Layout) (values : List ℕ) → fit row values ≡ true
+    → builtBy row values ≡ record { number = 0; packet = record { bits = packed row values } }
 unfolding builtOf
 fitting-built row values e = rw e
 
@@ -29,11 +30,15 @@ pub refused-read : (row : Layout) (n : ℕ) → shows row n ≡ false → number
 refused-read row n e = rw e
 
 -- whatever is told of number and fields, a packet that was built is told as 0 and its own fields
-pub read-built : {Answer : Type 0} (tell : ℕ → List ℕ → Answer) (row : Layout) (values : List ℕ) → T (laid row) → fit row values ≡ true → tell (numberBy row ((builtBy row values) .packet .bits)) (fieldsBy row ((builtBy row values) .packet .bits)) ≡ tell 0 values
+pub read-built : {Answer : Type 0} (tell : ℕ → List ℕ → Answer) (row : Layout) (values : List ℕ) → T (laid row)
+    → fit row values ≡ true
+    → tell (numberBy row ((builtBy row values) .packet .bits)) (fieldsBy row ((builtBy row values) .packet .bits)) ≡ tell 0 values
 read-built tell row values t e = rw (fitting-built row values e, shows-packed row values t e, read-packed row values t e)
 
 -- the fields that were read are built into the same packet
-pub built-read : (row : Layout) (n : ℕ) → T (laid row) → n < 2 ^ size row → shows row n ≡ true → maskOf isRead row ≡ 2 ^ size row - 1 → builtBy row (fieldsBy row n) ≡ record { number = 0; packet = record { bits = n } }
+pub built-read : (row : Layout) (n : ℕ) → T (laid row) → n < 2 ^ size row → shows row n ≡ true
+    → maskOf isRead row ≡ 2 ^ size row - 1
+    → builtBy row (fieldsBy row n) ≡ record { number = 0; packet = record { bits = n } }
 built-read row n t h e whole =
     rw (e, fitting-built row (fieldsOf row n) (fit-read row n), packed-read-whole row n t h e whole)
 

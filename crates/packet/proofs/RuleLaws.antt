@@ -15,7 +15,10 @@ use Rattle.laws.proofs.Counting.{allBelow, of-all-below}
 use Rattle.laws.proofs.Layouts.{laid, shown-bits, shows-each, shows-packed}
 use Rattle.laws.proofs.Tests.{either-of}
 use Rattle.packet.proofs.Laws.{fitting-built}
-use Rattle.packet.specs.Names.{idOf, among, checksumID, configurationID, controlID, allFrameModeID, receiverLinesID, receiverOffID, data1600ID, shutDown1ID, shutDown2ID, firstSpecialID, lastSpecialID, firstFramesID, lastFramesID, addressEnableID, firstUserAddressID, lastUserAddressID}
+use Rattle.packet.specs.Names.{idOf, among, checksumID, configurationID, controlID, allFrameModeID}
+use Rattle.packet.specs.Names.{receiverLinesID, receiverOffID, data1600ID, shutDown1ID, shutDown2ID}
+use Rattle.packet.specs.Names.{firstSpecialID, lastSpecialID, firstFramesID, lastFramesID, addressEnableID}
+use Rattle.packet.specs.Names.{firstUserAddressID, lastUserAddressID}
 use Rattle.packet.specs.Tables.{checksum, configuration, control, allFrameMode, receiverLines, shutDown, frameAssignment, userAddress, addressEnable}
 use Rattle.packet.specs.Fields.{builtBy}
 use Rattle.refusal.specs.Told.{numberUnless}
@@ -115,7 +118,8 @@ abbrev justAsks : (ℕ → Bool) → List Bool → Bool
 justAsks test asked = allBelow (λ id. implies (test id) (alike (neverSent id ∷ asks id) (false ∷ asked))) 256
 
 -- a packet may be sent where each ID that passes a test asks for just these tables, its own ID passes, and the tables are met
-sent-by-id : (test : ℕ → Bool) (asked : List Bool) → T (justAsks test asked) → (n : ℕ) → (idOf n < 256 → test (idOf n) ≡ true) → every (met asked (shown n)) ≡ true → maySend n ≡ true
+sent-by-id : (test : ℕ → Bool) (asked : List Bool) → T (justAsks test asked) → (n : ℕ)
+    → (idOf n < 256 → test (idOf n) ≡ true) → every (met asked (shown n)) ≡ true → maySend n ≡ true
 sent-by-id test asked t n passes m = by-size (ltb (idOf n) 256) refl
   where
     asked-of : idOf n < 256 → T (implies true (alike (neverSent (idOf n) ∷ asks (idOf n)) (false ∷ asked)))
@@ -193,10 +197,13 @@ id-shown configurationKind n e h = eq-eqb (idOf n) configurationID (omega (arith
 id-shown controlKind n e h = eq-eqb (idOf n) controlID (omega (arith, shown-bits control n tt e .0))
 id-shown allFrameModeKind n e h = eq-eqb (idOf n) allFrameModeID (omega (arith, shown-bits allFrameMode n tt e .0))
 id-shown receiverLinesKind n e h = eq-eqb (idOf n) receiverLinesID (omega (arith, shown-bits receiverLines n tt e .0))
-id-shown shutDownKind n e h = between shutDown1ID shutDown2ID (idOf n) (omega (arith, shown-bits shutDown n tt e .0)) (omega (arith, shown-bits shutDown n tt e .0))
-id-shown frameAssignmentKind n e h = between firstFramesID lastFramesID (idOf n) (omega (arith, shown-bits frameAssignment n tt e .0)) (omega (arith, shown-bits frameAssignment n tt e .0))
+id-shown shutDownKind n e h =
+    between shutDown1ID shutDown2ID (idOf n) (omega (arith, shown-bits shutDown n tt e .0)) (omega (arith, shown-bits shutDown n tt e .0))
+id-shown frameAssignmentKind n e h =
+    between firstFramesID lastFramesID (idOf n) (omega (arith, shown-bits frameAssignment n tt e .0)) (omega (arith, shown-bits frameAssignment n tt e .0))
 id-shown addressEnableKind n e h = eq-eqb (idOf n) addressEnableID (omega (arith, shown-bits addressEnable n tt e .0))
-id-shown userAddressKind n e h = between firstUserAddressID lastUserAddressID (idOf n) (omega (arith, shown-bits userAddress n tt e .0)) (omega (arith, shown-bits userAddress n tt e .0))
+id-shown userAddressKind n e h =
+    between firstUserAddressID lastUserAddressID (idOf n) (omega (arith, shown-bits userAddress n tt e .0)) (omega (arith, shown-bits userAddress n tt e .0))
 
 -- what can be read may be sent
 pub read-sent : (k : Kind) (n : ℕ) → shows (tableOf k) n ≡ true → maySend n ≡ true
@@ -266,14 +273,16 @@ holds true t = refl
 holds false t = absurd t
 
 -- a packet with an ID of such a row may be sent exactly if it has the bits that the kind's table prints
-pub sent-as-shown : (k : Kind) (first last : ℕ) → T (onlyOf k first last) → (n : ℕ) → n < 2 ^ 32 → first ≤ idOf n → idOf n ≤ last → shows (tableOf k) n ≡ maySend n
+pub sent-as-shown : (k : Kind) (first last : ℕ) → T (onlyOf k first last) → (n : ℕ) → n < 2 ^ 32 → first ≤ idOf n
+    → idOf n ≤ last → shows (tableOf k) n ≡ maySend n
 sent-as-shown k first last t n small from to = by-shown (shows (tableOf k) n) refl
   where
     only : (neverSent (idOf n) || isOf k (idOf n)) ≡ true
     only =
         holds
         (neverSent (idOf n) || isOf k (idOf n))
-        (rw (between first last (idOf n) from to) at (of-all-below (λ id. implies (among first last id) (neverSent id || isOf k id)) 256 t (idOf n) (omega arith)))
+        (rw (between first last (idOf n) from to) at
+        (of-all-below (λ id. implies (among first last id) (neverSent id || isOf k id)) 256 t (idOf n) (omega arith)))
 
     by-shown : (seen : Bool) → shows (tableOf k) n ≡ seen → seen ≡ maySend n
     by-shown true e = sym (read-sent k n e)

@@ -50,7 +50,8 @@ asChecksum v = record { value = getD v 0 0 }
 -- Table 5: a packet's fields as numbers
 abbrev pub ofConfiguration : Configuration → List ℕ
 ofConfiguration f =
-    f .oscillator ∷ f .polarity ∷ f .«synchronous_mode» ∷ f .«maximum_off_time» ∷ f .«clock_output_disable» ∷ f .«minute_timer» ∷ f .«low_battery_polarity» ∷ []
+    f .oscillator ∷ f .polarity ∷ f .«synchronous_mode» ∷ f .«maximum_off_time» ∷ f .«clock_output_disable»
+    ∷ f .«minute_timer» ∷ f .«low_battery_polarity» ∷ []
 
 -- Table 5: numbers as a packet's fields
 abbrev pub asConfiguration : List ℕ → Configuration

@@ -7,7 +7,9 @@ use Rattle.laws.specs.Choice.{some, every, implies}
 use Rattle.laws.specs.Layouts.{shows}
 use Rattle.refusal.specs.Told.{numberUnless}
 use Rattle.refusal.specs.declared.Refusal.the-variants as refusals
-use Rattle.packet.specs.Names.{idOf, among, configurationID, controlID, allFrameModeID, receiverLinesID, shutDown1ID, shutDown2ID, firstSpecialID, lastSpecialID, firstFramesID, lastFramesID, addressEnableID, firstUserAddressID, lastUserAddressID}
+use Rattle.packet.specs.Names.{idOf, among, configurationID, controlID, allFrameModeID, receiverLinesID}
+use Rattle.packet.specs.Names.{shutDown1ID, shutDown2ID, firstSpecialID, lastSpecialID, firstFramesID}
+use Rattle.packet.specs.Names.{lastFramesID, addressEnableID, firstUserAddressID, lastUserAddressID}
 use Rattle.packet.specs.Tables.{configuration, control, allFrameMode, receiverLines, shutDown, frameAssignment, userAddress, addressEnable}
 
 -- 01: "The host refuses to send IDs 04H to 0EH, 1CH to 1FH, 28H to 77H, 79H to 7FH, 90H to FFH"

@@ -1,7 +1,8 @@
 -- Reading back what the host sends (document 01, "Packets and the handshake").
 use Prim.Native.Nat.{ℕ}
 use Rattle.packet.specs.Tables.{checksum, configuration, control, allFrameMode, receiverLines, shutDown, frameAssignment, userAddress, addressEnable}
-use Rattle.packet.specs.Fields.{numberBy, fieldsBy, asChecksum, asConfiguration, asControl, asAllFrameMode, asReceiverLines, asShutDown, asFrameAssignment, asUserAddress, asAddressEnable}
+use Rattle.packet.specs.Fields.{numberBy, fieldsBy, asChecksum, asConfiguration, asControl, asAllFrameMode}
+use Rattle.packet.specs.Fields.{asReceiverLines, asShutDown, asFrameAssignment, asUserAddress, asAddressEnable}
 use Rattle.packet.specs.declared.sent.ChecksumRead.{ChecksumRead}
 use Rattle.packet.specs.declared.sent.ConfigurationRead.{ConfigurationRead}
 use Rattle.packet.specs.declared.sent.ControlRead.{ControlRead}

@@ -2,7 +2,8 @@
 use Prim.Native.Nat.{_/_}
 use mathlib.Core.List.{[], _∷_}
 use Rattle.laws.specs.Layouts.{Layout, printed, zeros, field}
-use Rattle.packet.specs.Names.{checksumID, configurationID, controlID, allFrameModeID, receiverLinesID, shutDown1ID, firstFramesID, addressEnableID, firstUserAddressID, partIdID}
+use Rattle.packet.specs.Names.{checksumID, configurationID, controlID, allFrameModeID, receiverLinesID}
+use Rattle.packet.specs.Names.{shutDown1ID, firstFramesID, addressEnableID, firstUserAddressID, partIdID}
 
 -- S8.4.6, Table 9: CV
 abbrev pub checksum : Layout

@@ -9,7 +9,10 @@ use Rattle.laws.specs.Layouts.{fieldsOf}
 use Rattle.refusal.specs.Told.{numberUnless, kept}
 use Rattle.refusal.specs.declared.Refusal.the-variants as refusals
 use Rattle.packet.specs.Names.{idOf, among, firstVectorID, lastWordID}
-use Rattle.packet.specs.VectorTables.{numericVector, textVector, shortVector, charactersVector, sourceVector, numberedVector, instructionVector, temporaryVector, secureType, instructionType, shortType, standardType, specialType, alphanumericType, hexType, numberedType}
+use Rattle.packet.specs.VectorTables.{numericVector, textVector, shortVector, charactersVector, sourceVector}
+use Rattle.packet.specs.VectorTables.{numberedVector, instructionVector, temporaryVector, secureType}
+use Rattle.packet.specs.VectorTables.{instructionType, shortType, standardType, specialType, alphanumericType}
+use Rattle.packet.specs.VectorTables.{hexType, numberedType}
 use Rattle.packet.specs.declared.vectors.Span.{Span}
 use Rattle.packet.specs.declared.vectors.ShortMessage.{ShortMessage}
 use Rattle.packet.specs.declared.vectors.Instruction.{Instruction}

@@ -9,8 +9,11 @@
 
 ghost use mathlib.Core.Path.{_≡_};
 ghost use Rattle.packet.specs.Names.{allIDs};
-ghost use Rattle.packet.specs.Tables.{checksum, configuration, control, allFrameMode, receiverLines, shutDown, frameAssignment, userAddress, addressEnable, partId};
-ghost use Rattle.packet.specs.Fields.{builtOf, builtBy, ofChecksum, ofConfiguration, ofControl, ofAllFrameMode, ofReceiverLines, ofShutDown, ofFrameAssignment, ofUserAddress, ofAddressEnable, ofPartId};
+ghost use Rattle.packet.specs.Tables.{checksum, configuration, control, allFrameMode, receiverLines, shutDown};
+ghost use Rattle.packet.specs.Tables.{frameAssignment, userAddress, addressEnable, partId};
+ghost use Rattle.packet.specs.Fields.{builtOf, builtBy, ofChecksum, ofConfiguration, ofControl, ofAllFrameMode};
+ghost use Rattle.packet.specs.Fields.{ofReceiverLines, ofShutDown, ofFrameAssignment, ofUserAddress, ofAddressEnable};
+ghost use Rattle.packet.specs.Fields.{ofPartId};
 
 // What the host sends, read back into its fields.
 mod sent;

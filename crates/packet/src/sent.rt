@@ -2,7 +2,9 @@
 // control and all frame mode (S8.4, S8.8), receiver lines and shut-down (S8.5), frames and user addresses (S8.6). A packet
 // whose ID is another's, or that has a bit set which its table prints as 0, is refused (7), and its fields read 0.
 ghost use mathlib.Core.Path.{_≡_};
-ghost use Rattle.packet.specs.Sent.{checksumRead, allFrameModeRead, configurationRead, controlRead, frameAssignmentRead, userAddressRead, addressEnableRead, receiverLinesRead, shutDownRead};
+ghost use Rattle.packet.specs.Sent.{checksumRead, allFrameModeRead, configurationRead, controlRead};
+ghost use Rattle.packet.specs.Sent.{frameAssignmentRead, userAddressRead, addressEnableRead, receiverLinesRead};
+ghost use Rattle.packet.specs.Sent.{shutDownRead};
 use crate::AddressEnable;
 use crate::AllFrameMode;
 use crate::Checksum;

@@ -3,8 +3,11 @@
 // table marks x are not looked at.
 ghost use mathlib.Core.Path.{_≡_};
 ghost use Rattle.laws.specs.Layouts.{fieldsOf};
-ghost use Rattle.packet.specs.VectorTables.{numericVector, textVector, shortVector, charactersVector, sourceVector, numberedVector, instructionVector, temporaryVector};
-ghost use Rattle.packet.specs.Vectors.{isNumeric, isText, asNumericSpan, asTextSpan, spanOf, asCharacters, asSource, asNumbered, asSpare, shortOf, shortMessageOf, asTemporary, asReserved, instructionOf, vectorOf, vectorRead};
+ghost use Rattle.packet.specs.VectorTables.{numericVector, textVector, shortVector, charactersVector, sourceVector};
+ghost use Rattle.packet.specs.VectorTables.{numberedVector, instructionVector, temporaryVector};
+ghost use Rattle.packet.specs.Vectors.{isNumeric, isText, asNumericSpan, asTextSpan, spanOf, asCharacters, asSource};
+ghost use Rattle.packet.specs.Vectors.{asNumbered, asSpare, shortOf, shortMessageOf, asTemporary, asReserved};
+ghost use Rattle.packet.specs.Vectors.{instructionOf, vectorOf, vectorRead};
 use crate::Packet;
 use refusal::Refusal;
 use refusal::kept;

@@ -11,14 +11,17 @@ use Rattle.laws.specs.Choice.{pick}
 use Rattle.laws.specs.Lists.{put}
 use Rattle.laws.proofs.Tests.{not-both}
 use Rattle.refusal.specs.declared.Refusal.{Refusal}
-use Rattle.refusal.specs.declared.Refusal.the-variants.{Room, State, Text, «Type», Range, Offset, Packet, Address, Size, Damaged, Checksum, Full, NoChain, OutOfTurn, TooLong, Signature, NoCall, Character}
+use Rattle.refusal.specs.declared.Refusal.the-variants.{Room, State, Text, «Type», Range, Offset, Packet}
+use Rattle.refusal.specs.declared.Refusal.the-variants.{Address, Size, Damaged, Checksum, Full, NoChain}
+use Rattle.refusal.specs.declared.Refusal.the-variants.{OutOfTurn, TooLong, Signature, NoCall, Character}
 use Rattle.refusal.specs.Told.{numberOf, numberUnless, Told, told, refused, given, ask, numberTold, writtenBy}
 
 -- the refusal of a number
 abbrev ofNumber : ℕ → Refusal
 ofNumber n =
     getD
-    (Room ∷ Room ∷ State ∷ Text ∷ «Type» ∷ Range ∷ Offset ∷ Packet ∷ Address ∷ Size ∷ Damaged ∷ Checksum ∷ Full ∷ NoChain ∷ OutOfTurn ∷ TooLong ∷ Signature ∷ NoCall ∷ Character ∷ [])
+    (Room ∷ Room ∷ State ∷ Text ∷ «Type» ∷ Range ∷ Offset ∷ Packet ∷ Address ∷ Size ∷ Damaged ∷ Checksum ∷ Full
+    ∷ NoChain ∷ OutOfTurn ∷ TooLong ∷ Signature ∷ NoCall ∷ Character ∷ [])
     n
     Room
 

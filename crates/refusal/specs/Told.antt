@@ -7,7 +7,9 @@ use lib.ListN.{getD}
 use Rattle.laws.specs.Choice.{pick}
 use Rattle.laws.specs.Lists.{put}
 use Rattle.refusal.specs.declared.Refusal.{Refusal}
-use Rattle.refusal.specs.declared.Refusal.the-variants.{Room, State, Text, «Type», Range, Offset, Packet, Address, Size, Damaged, Checksum, Full, NoChain, OutOfTurn, TooLong, Signature, NoCall, Character}
+use Rattle.refusal.specs.declared.Refusal.the-variants.{Room, State, Text, «Type», Range, Offset, Packet}
+use Rattle.refusal.specs.declared.Refusal.the-variants.{Address, Size, Damaged, Checksum, Full, NoChain}
+use Rattle.refusal.specs.declared.Refusal.the-variants.{OutOfTurn, TooLong, Signature, NoCall, Character}
 
 -- 01, "The eighteen answers of no": the column No
 abbrev pub numberOf : Refusal → ℕ
@@ -58,7 +60,8 @@ kept good n = pick good n 0
 -- 01, "Order": the order in which the questions are asked. The first Room is the one for the chains' bytes, the last the one for every other buffer
 unfoldable pub order : List Refusal
 order =
-    Room ∷ State ∷ Text ∷ «Type» ∷ Range ∷ Offset ∷ Packet ∷ Address ∷ Size ∷ Damaged ∷ Checksum ∷ NoChain ∷ OutOfTurn ∷ TooLong ∷ Character ∷ Signature ∷ Full ∷ NoCall ∷ Room ∷ []
+    Room ∷ State ∷ Text ∷ «Type» ∷ Range ∷ Offset ∷ Packet ∷ Address ∷ Size ∷ Damaged ∷ Checksum ∷ NoChain ∷ OutOfTurn
+    ∷ TooLong ∷ Character ∷ Signature ∷ Full ∷ NoCall ∷ Room ∷ []
 
 -- the number that is told
 abbrev pub numberTold : Told → ℕ

@@ -31,7 +31,9 @@ pub listed-more : (count : ℕ) (row : List Call) (c : Call) → length row < co
 listed-more count row c free =
     let records = fresh count .calls in
     let size : length row + 1 ≡ length (row ++ c ∷ []) = sym (length-append row (c ∷ [])) in
-    let stored = put-one (listed count row .calls) (length row) c (omega (arith, listed-length count row (omega arith))) ∙ put-on records (listed count row .calls) row (c ∷ []) 0 (length row) (omega arith) refl (sym (zero-add (length row))) in
+    let stored =
+    put-one (listed count row .calls) (length row) c (omega (arith, listed-length count row (omega arith)))
+    ∙ put-on records (listed count row .calls) row (c ∷ []) 0 (length row) (omega arith) refl (sym (zero-add (length row))) in
     λ k. record { size = size k; calls = stored k }
 
 -- before any call has been asked, none is listed
@@ -53,9 +55,12 @@ module _ (row : List Call) (memory : List ℕ) (i : ℕ) where
       let there = getD row i blank in
       let before = incompleteIn (take i row) memory in
       by-test (isComplete there memory) there before (omega (arith, incomplete-few (omega arith)))
-      ∙ ap (listed count) (sym (those-snoc (λ (c : Call). not (isComplete c memory)) (take i row) there) ∙ ap (λ (calls : List Call). incompleteIn calls memory) (rw (add-one i) (sym (take-suc row i blank within))))
+      ∙ ap (listed count)
+      (sym (those-snoc (λ (c : Call). not (isComplete c memory)) (take i row) there)
+      ∙ ap (λ (calls : List Call). incompleteIn calls memory) (rw (add-one i) (sym (take-suc row i blank within))))
     where
-      by-test : (complete : Bool) (there : Call) (before : List Call) → length before < count → pick complete (listed count before) (added (listed count before) there) ≡ listed count (before ++ pick (not complete) (there ∷ []) [])
+      by-test : (complete : Bool) (there : Call) (before : List Call) → length before < count
+          → pick complete (listed count before) (added (listed count before) there) ≡ listed count (before ++ pick (not complete) (there ∷ []) [])
       by-test true there before free = rw (append-nil before)
       by-test false there before free = listed-more count before there free
 

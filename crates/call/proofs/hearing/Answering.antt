@@ -37,7 +37,8 @@ Does hearing memory t s after = (hearing ≡ asHearing t s) × (memory ≡ after
 
 module _ (s : Calls) (t : Turn) (hearing : CallHearing) where
   -- a refusal that closes no call leaves the records, and names no open call
-  pub refusal-turn : (n : ℕ) → t ≡ refusing n 0 → eqb n 9 ≡ false → asHearing (told n []) s ≡ hearing → (hearingOf s t ≡ hearing) × (t .place + bitOf (changes t) ≤ length (opens s))
+  pub refusal-turn : (n : ℕ) → t ≡ refusing n 0 → eqb n 9 ≡ false → asHearing (told n []) s ≡ hearing
+      → (hearingOf s t ≡ hearing) × (t .place + bitOf (changes t) ≤ length (opens s))
   refusal-turn n is other same = (ap (hearingOf s) is ∙ rw other same, rw (is, other) (omega arith))
 
 -- ---- a message word
@@ -52,7 +53,9 @@ module _ (s : Calls) (memory : List ℕ) (m : Message) where
   told-had held had = rw (held, had)
 
   -- what is told of a word that a call lacks, without room and with it
-  told-given : (short : Bool) → isHeld (opens s) m ≡ true → isLacked (opens s) m memory ≡ true → isShort memory ≡ short → wordTold s memory m ≡ ask short refusals.Room (given (0 ∷ 0 ∷ 0 ∷ 0 ∷ finished (opens s) m memory ∷ []))
+  told-given : (short : Bool) → isHeld (opens s) m ≡ true → isLacked (opens s) m memory ≡ true
+      → isShort memory ≡ short
+      → wordTold s memory m ≡ ask short refusals.Room (given (0 ∷ 0 ∷ 0 ∷ 0 ∷ finished (opens s) m memory ∷ []))
   told-given short held lacked room = rw (held, lacked, room)
 
   -- a word of no call: 17
@@ -61,15 +64,19 @@ module _ (s : Calls) (memory : List ℕ) (m : Message) where
 
   module _ (held : isHeld (opens s) m ≡ true) where
     -- a word that every call has that holds its place: 14
-    pub word-again : isLacked (opens s) m memory ≡ false → Does (asHearing (refused refusals.OutOfTurn) s) memory (wordTold s memory m) s (wordMemory s memory m)
+    pub word-again : isLacked (opens s) m memory ≡ false
+        → Does (asHearing (refused refusals.OutOfTurn) s) memory (wordTold s memory m) s (wordMemory s memory m)
     word-again had = (rw (held, had), rw (held, had))
 
     -- a word that a call lacks, without room: 1
-    pub word-no-room : isLacked (opens s) m memory ≡ true → isShort memory ≡ true → Does (asHearing (refused refusals.Room) s) memory (wordTold s memory m) s (wordMemory s memory m)
+    pub word-no-room : isLacked (opens s) m memory ≡ true → isShort memory ≡ true
+        → Does (asHearing (refused refusals.Room) s) memory (wordTold s memory m) s (wordMemory s memory m)
     word-no-room lacked short = (rw (held, lacked, short), rw (held, lacked, short))
 
     -- a word that is taken
-    pub word-taken : isLacked (opens s) m memory ≡ true → isShort memory ≡ false → Does (asHearing (given (0 ∷ 0 ∷ 0 ∷ 0 ∷ finished (opens s) m memory ∷ [])) s) (givenTo (opens s) m memory) (wordTold s memory m) s (wordMemory s memory m)
+    pub word-taken : isLacked (opens s) m memory ≡ true → isShort memory ≡ false
+        → Does (asHearing (given (0 ∷ 0 ∷ 0 ∷ 0 ∷ finished (opens s) m memory ∷ [])) s) (givenTo (opens s) m memory)
+        (wordTold s memory m) s (wordMemory s memory m)
     word-taken lacked room = (rw (held, lacked, room), rw (held, lacked, room))
 
 -- ---- a vector
@@ -80,30 +87,44 @@ module _ (s : Calls) (memory : List ℕ) (place : ℕ) (v : Vector) where
   told-again has = rw has
 
   -- what is told of a vector whose span does not fit
-  told-bad : hasVector (callAt s memory place v) ≡ false → vectorFits (callAt s memory place v) v ≡ false → vectorTold s memory place (callAt s memory place v) v ≡ refused refusals.Size
+  told-bad : hasVector (callAt s memory place v) ≡ false → vectorFits (callAt s memory place v) v ≡ false
+      → vectorTold s memory place (callAt s memory place v) v ≡ refused refusals.Size
   told-bad none bad = rw (none, bad)
 
   -- what is told of a vector whose span fits, without room and with it
   told-fitting : (short : Bool) → hasVector (callAt s memory place v) ≡ false → vectorFits (callAt s memory place v) v ≡ true → isShort memory ≡ short
-      → vectorTold s memory place (callAt s memory place v) v ≡ ask short refusals.Room (given (1 ∷ place ∷ v .kind ∷ v .span .check ∷ pick (bringsWords (v .kind)) 0 (2 ^ place) ∷ []))
+      → vectorTold s memory place (callAt s memory place v) v
+      ≡ ask short refusals.Room (given (1 ∷ place ∷ v .kind ∷ v .span .check ∷ pick (bringsWords (v .kind)) 0 (2 ^ place) ∷ []))
   told-fitting short none good room = rw (none, good, room)
 
   -- a second vector, for a call that has one: 14
-  pub vector-again : hasVector (callAt s memory place v) ≡ true → Does (asHearing (refused refusals.OutOfTurn) s) memory (vectorTold s memory place (callAt s memory place v) v) (vectorCalls s memory place v) (vectorMemory s memory place v)
+  pub vector-again : hasVector (callAt s memory place v) ≡ true
+      → Does (asHearing (refused refusals.OutOfTurn) s) memory (vectorTold s memory place (callAt s memory place v) v)
+      (vectorCalls s memory place v) (vectorMemory s memory place v)
   vector-again has = (rw has, rw has)
 
   module _ (none : hasVector (callAt s memory place v) ≡ false) where
     -- a vector whose span does not fit: 9, and the call is closed
-    pub vector-bad : vectorFits (callAt s memory place v) v ≡ false → Does (asHearing (refused refusals.Size) (removed s place)) memory (vectorTold s memory place (callAt s memory place v) v) (vectorCalls s memory place v) (vectorMemory s memory place v)
+    pub vector-bad : vectorFits (callAt s memory place v) v ≡ false
+        → Does (asHearing (refused refusals.Size) (removed s place)) memory
+        (vectorTold s memory place (callAt s memory place v) v) (vectorCalls s memory place v)
+        (vectorMemory s memory place v)
     vector-bad bad = (rw (none, bad), rw (none, bad))
 
     -- a vector whose span fits, without room: 1
-    pub vector-no-room : vectorFits (callAt s memory place v) v ≡ true → isShort memory ≡ true → Does (asHearing (refused refusals.Room) s) memory (vectorTold s memory place (callAt s memory place v) v) (vectorCalls s memory place v) (vectorMemory s memory place v)
+    pub vector-no-room : vectorFits (callAt s memory place v) v ≡ true → isShort memory ≡ true
+        → Does (asHearing (refused refusals.Room) s) memory (vectorTold s memory place (callAt s memory place v) v)
+        (vectorCalls s memory place v) (vectorMemory s memory place v)
     vector-no-room good short = (rw (none, good, short), rw (none, good, short))
 
     -- a vector that is taken
     pub vector-taken : vectorFits (callAt s memory place v) v ≡ true → isShort memory ≡ false
-        → Does (asHearing (given (1 ∷ place ∷ v .kind ∷ v .span .check ∷ pick (bringsWords (v .kind)) 0 (2 ^ place) ∷ [])) (changed s place (givenAt s memory place v))) (put memory (placeOf (givenAt s memory place v)) (replicate (givenAt s memory place v .words) lacking)) (vectorTold s memory place (callAt s memory place v) v) (vectorCalls s memory place v) (vectorMemory s memory place v)
+        → Does
+        (asHearing (given (1 ∷ place ∷ v .kind ∷ v .span .check ∷ pick (bringsWords (v .kind)) 0 (2 ^ place) ∷ []))
+        (changed s place (givenAt s memory place v)))
+        (put memory (placeOf (givenAt s memory place v)) (replicate (givenAt s memory place v .words) lacking))
+        (vectorTold s memory place (callAt s memory place v) v) (vectorCalls s memory place v)
+        (vectorMemory s memory place v)
     vector-taken good room = (rw (none, good, room), rw (none, good, room))
 
 -- a vector that fits its call has no more words than an area
@@ -126,25 +147,32 @@ open-at s place within = getD-take (s .size) (s .calls) place blank (omega (arit
 
 module _ (s : Calls) (memory : List ℕ) (n : ℕ) where
   -- records that are not sound: 2
-  pub hear-unsound : sound (opens s) ≡ false → Does (asHearing (refused refusals.State) s) memory (hearOf s memory n) (heardIn s memory n) (memoryAfter s memory n)
+  pub hear-unsound : sound (opens s) ≡ false
+      → Does (asHearing (refused refusals.State) s) memory (hearOf s memory n) (heardIn s memory n) (memoryAfter s memory n)
   unfolding hearOf heardIn memoryAfter
   hear-unsound bad = (rw bad, rw bad)
 
   module _ (right : sound (opens s) ≡ true) where
     -- an ID that is not 02H to 57H: 7
-    pub hear-foreign : isVector n ≡ false → Does (asHearing (refused refusals.Packet) s) memory (hearOf s memory n) (heardIn s memory n) (memoryAfter s memory n)
+    pub hear-foreign : isVector n ≡ false
+        → Does (asHearing (refused refusals.Packet) s) memory (hearOf s memory n) (heardIn s memory n) (memoryAfter s memory n)
     unfolding hearOf heardIn memoryAfter
     hear-foreign foreign = (rw (right, foreign), rw (right, foreign))
 
     module _ (kind : isVector n ≡ true) where
       -- a packet that is marked in error: 10
-      pub hear-damaged : eqb (messageIn n .damaged) 0 ≡ false → Does (asHearing (refused refusals.Damaged) s) memory (hearOf s memory n) (heardIn s memory n) (memoryAfter s memory n)
+      pub hear-damaged : eqb (messageIn n .damaged) 0 ≡ false
+          → Does (asHearing (refused refusals.Damaged) s) memory (hearOf s memory n) (heardIn s memory n) (memoryAfter s memory n)
       unfolding hearOf heardIn memoryAfter
       hear-damaged marked = (rw (right, kind, marked), rw (right, kind, marked))
 
       module _ (good : eqb (messageIn n .damaged) 0 ≡ true) where
         -- "Vector places are looked at before spans": the vector of a call
-        pub hear-vector : isForVector s n ≡ true → Does (asHearing (vectorTold s memory (vectorPlace s n) (vectorCall s n) (vectorOf n)) (vectorCalls s memory (vectorPlace s n) (vectorOf n))) (vectorMemory s memory (vectorPlace s n) (vectorOf n)) (hearOf s memory n) (heardIn s memory n) (memoryAfter s memory n)
+        pub hear-vector : isForVector s n ≡ true
+            → Does
+            (asHearing (vectorTold s memory (vectorPlace s n) (vectorCall s n) (vectorOf n)) (vectorCalls s memory (vectorPlace s n) (vectorOf n)))
+            (vectorMemory s memory (vectorPlace s n) (vectorOf n)) (hearOf s memory n) (heardIn s memory n)
+            (memoryAfter s memory n)
         unfolding hearOf heardIn memoryAfter
         hear-vector is =
             ⊎-elim
@@ -169,7 +197,9 @@ module _ (s : Calls) (memory : List ℕ) (n : ℕ) where
             (decided (hasVector (vectorCall s n)))
 
         -- a packet that is no call's vector is taken as a message word
-        pub hear-word : isForVector s n ≡ false → Does (asHearing (wordTold s memory (messageIn n)) s) (wordMemory s memory (messageIn n)) (hearOf s memory n) (heardIn s memory n) (memoryAfter s memory n)
+        pub hear-word : isForVector s n ≡ false
+            → Does (asHearing (wordTold s memory (messageIn n)) s) (wordMemory s memory (messageIn n))
+            (hearOf s memory n) (heardIn s memory n) (memoryAfter s memory n)
         unfolding hearOf heardIn memoryAfter
         hear-word is =
             ⊎-elim

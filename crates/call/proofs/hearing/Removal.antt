@@ -12,7 +12,8 @@ use Rattle.call.specs.Calls.{blank}
 
 module _ (row after : List Call) (i : ℕ) where
   -- a record moved one place down
-  pub moved-turn : i + 1 < length row → i < length after → put (set after i (getD row (i + 1) blank)) (i + 1) (drop (i + 1 + 1) row ++ blank ∷ []) ≡ put after i (drop (i + 1) row ++ blank ∷ [])
+  pub moved-turn : i + 1 < length row → i < length after
+      → put (set after i (getD row (i + 1) blank)) (i + 1) (drop (i + 1 + 1) row ++ blank ∷ []) ≡ put after i (drop (i + 1) row ++ blank ∷ [])
   moved-turn some within =
       let those-after : drop (i + 1) row ≡ getD row (i + 1) blank ∷ drop (i + 1 + 1) row = rw (add-one (i + 1)) (drop-cons row (i + 1) blank some) in
       ap (λ (k : ℕ). put (set after i (getD row (i + 1) blank)) k (drop (i + 1 + 1) row ++ blank ∷ [])) (add-one i)

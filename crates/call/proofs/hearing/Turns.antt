@@ -33,7 +33,8 @@ module _ (row : List Call) (i : ℕ) where
   pub area-turn : 0 < i → i ≤ length row → nextArea (drop i row) + bitOf (hasVector (getD row (i - 1) blank)) ≡ nextArea (drop (i - 1) row)
   area-turn some within =
       let next : i - 1 + 1 ≡ i = omega arith in
-      let here : drop (i - 1) row ≡ getD row (i - 1) blank ∷ drop i row = drop-cons row (i - 1) blank (omega arith) ∙ ap (λ (k : ℕ). getD row (i - 1) blank ∷ drop k row) (sym (add-one (i - 1)) ∙ next) in
+      let here : drop (i - 1) row ≡ getD row (i - 1) blank ∷ drop i row =
+      drop-cons row (i - 1) blank (omega arith) ∙ ap (λ (k : ℕ). getD row (i - 1) blank ∷ drop k row) (sym (add-one (i - 1)) ∙ next) in
       let counted = those-length-cons hasVector (getD row (i - 1) blank) (drop i row) in
       rw here (omega (arith, counted))
 

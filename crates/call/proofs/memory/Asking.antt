@@ -34,7 +34,8 @@ module _ (c : Call) (m : Message) where
       let at = position c (m .word) in
       ⊎-elim
       (λ has. asks-no-more same (hasVector c) (ltb at (c .words)) (ltb at (length (numbersOf c))) has (sym (ap (ltb at) (numbers-length c has))))
-      (λ none. decides same (hasVector c) (ltb at (c .words)) (ltb at (length (numbersOf c))) none (ap (λ (row : List ℕ). ltb at (length row)) (numbers-none c none) ∙ le-ltb at 0 (omega arith)))
+      (λ none. decides same (hasVector c) (ltb at (c .words)) (ltb at (length (numbersOf c))) none
+      (ap (λ (row : List ℕ). ltb at (length row)) (numbers-none c none) ∙ le-ltb at 0 (omega arith)))
       (decided (hasVector c))
 
   module _ (memory : List ℕ) where
@@ -43,7 +44,8 @@ module _ (c : Call) (m : Message) where
     not-taken had = (rw had, rw had)
 
     -- one that is lacked is taken
-    pub taken : lacks c m memory ≡ true → (isComplete c (set memory (wordPlace c m) (m .bits)) ≡ completes c m memory) × (set memory (wordPlace c m) (m .bits) ≡ offered c m memory)
+    pub taken : lacks c m memory ≡ true
+        → (isComplete c (set memory (wordPlace c m) (m .bits)) ≡ completes c m memory) × (set memory (wordPlace c m) (m .bits) ≡ offered c m memory)
     taken lacked = (rw lacked, rw lacked)
 
 module _ (row : List Call) (m : Message) (memory : List ℕ) (i : ℕ) where
@@ -54,7 +56,9 @@ module _ (row : List Call) (m : Message) (memory : List ℕ) (i : ℕ) where
       sym (rw next at (given-from m row (i - 1) memory (omega arith)))
 
   -- a turn: what the word completes is a bit below those of the later calls
-  pub finished-turn : 0 < i → i ≤ length row → finished (drop i row) m memory * 2 + bitOf (completes (getD row (i - 1) blank) m (givenTo (drop i row) m memory)) ≡ finished (drop (i - 1) row) m memory
+  pub finished-turn : 0 < i → i ≤ length row
+      → finished (drop i row) m memory * 2 + bitOf (completes (getD row (i - 1) blank) m (givenTo (drop i row) m memory))
+      ≡ finished (drop (i - 1) row) m memory
   finished-turn some within =
       let next : i - 1 + 1 ≡ i = omega arith in
       let turned = rw next at (finished-from m row (i - 1) memory (omega arith)) in

@@ -31,7 +31,8 @@ lone-bit k j apart =
     (λ below.
     let less : j < k = ltb-true j k below in
     let parts : k ≡ suc (k - suc j) + j = omega arith in
-    ap (λ (n : ℕ). 2 ^ n / 2 ^ j % 2) parts ∙ rw (pow-add 2 (suc (k - suc j)) j, mul-div-cancel (2 ^ suc (k - suc j)) (pow-pos j), pow-succ' 2 (k - suc j), mul-mod-right 2 (2 ^ (k - suc j))))
+    ap (λ (n : ℕ). 2 ^ n / 2 ^ j % 2) parts
+    ∙ rw (pow-add 2 (suc (k - suc j)) j, mul-div-cancel (2 ^ suc (k - suc j)) (pow-pos j), pow-succ' 2 (k - suc j), mul-mod-right 2 (2 ^ (k - suc j))))
     (λ above.
     ⊎-elim
     (λ same. absurd (apart (sym same)))
@@ -78,7 +79,10 @@ module _ (marks : List ℕ) (key : ℕ) (within : key / 64 < length marks) where
       let here : other / 64 ≡ key / 64 = eqb-true (other / 64) (key / 64) same in
       rw (its-bit key, here, getD-set-same marks (key / 64) (bitOr (getD marks (key / 64) 0) (2 ^ (key % 64))) 0 within)
       (other-bit (getD marks (key / 64) 0) (key % 64) (other % 64) (λ bit. apart (omega (arith, here, bit)))))
-      (λ away. rw (its-bit key, getD-set-other marks (key / 64) (other / 64) (bitOr (getD marks (key / 64) 0) (2 ^ (key % 64))) 0 (eqb-false (other / 64) (key / 64) away)))
+      (λ away. rw (
+        its-bit key,
+        getD-set-other marks (key / 64) (other / 64) (bitOr (getD marks (key / 64) 0) (2 ^ (key % 64))) 0 (eqb-false (other / 64) (key / 64) away),
+      ))
       (decided (eqb (other / 64) (key / 64)))
 
 -- ---- the keys of calls
@@ -118,7 +122,8 @@ holds-first phase vector c row = by-test (isOf phase vector c)
         (decided (ltb (find phase vector row) (length row)))
 
 -- one call more, its key marked
-pub one-marked : (marks : List ℕ) (c : Call) (row : List Call) → length marks ≡ 6 → c .phase ≤ 3 → c .vector ≤ 87 → Marks marks row → Marks (withMark marks (keyOf (c .phase) (c .vector))) (c ∷ row)
+pub one-marked : (marks : List ℕ) (c : Call) (row : List Call) → length marks ≡ 6 → c .phase ≤ 3 → c .vector ≤ 87
+    → Marks marks row → Marks (withMark marks (keyOf (c .phase) (c .vector))) (c ∷ row)
 one-marked marks c row six low few so-far phase vector p v =
     let key = keyOf (c .phase) (c .vector) in
     let within : key / 64 < length marks = omega arith in
@@ -127,7 +132,8 @@ one-marked marks c row six low few so-far phase vector p v =
     let same-phase : c .phase ≡ phase = eqb-true (c .phase) phase (first-of (eqb (c .phase) phase) (eqb (c .vector) vector) is) in
     let same-vector : c .vector ≡ vector = eqb-true (c .vector) vector (second-of (eqb (c .phase) phase) (eqb (c .vector) vector) is) in
     let same : keyOf phase vector ≡ key = omega arith in
-    ap (markOf (withMark marks key)) same ∙ marks-key marks key within ∙ sym (ap bitOf (holds-first phase vector c row ∙ ap (λ (this : Bool). this || holds phase vector row) is)))
+    ap (markOf (withMark marks key)) same ∙ marks-key marks key within
+    ∙ sym (ap bitOf (holds-first phase vector c row ∙ ap (λ (this : Bool). this || holds phase vector row) is)))
     (λ none.
     let apart : keyOf phase vector ≢ key =
     λ same.
@@ -135,5 +141,6 @@ one-marked marks c row six low few so-far phase vector p v =
     let same-vector : c .vector ≡ vector = omega arith in
     not-both (isOf phase vector c) (rw (eq-eqb (c .phase) phase same-phase, eq-eqb (c .vector) vector same-vector)) none
     in
-    marks-no-other marks key within (keyOf phase vector) apart ∙ so-far phase vector p v ∙ sym (ap bitOf (holds-first phase vector c row ∙ ap (λ (this : Bool). this || holds phase vector row) none)))
+    marks-no-other marks key within (keyOf phase vector) apart ∙ so-far phase vector p v
+    ∙ sym (ap bitOf (holds-first phase vector c row ∙ ap (λ (this : Bool). this || holds phase vector row) none)))
     (decided (isOf phase vector c))

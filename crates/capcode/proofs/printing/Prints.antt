@@ -24,7 +24,8 @@ refused-keeps r c buffer e =
     sym (refusal-keeps (printOf c (length buffer)) buffer (textOf c) some)
 
 -- what is not refused puts the text at its start
-pub given-writes : (values : List ℕ) (c : Capcode) (buffer : List ℕ) → given values ≡ printOf c (length buffer) → put buffer 0 (textOf c) ≡ bufferAfter c buffer
+pub given-writes : (values : List ℕ) (c : Capcode) (buffer : List ℕ) → given values ≡ printOf c (length buffer)
+    → put buffer 0 (textOf c) ≡ bufferAfter c buffer
 given-writes values c buffer e = rw (← e)
 
 module _ (c : Capcode) (room : ℕ) (fine : Fine c) where

@@ -19,11 +19,13 @@ module _ (out : List ℕ) (place rest : ℕ) where
       let wide : length (digits n (rest / 10)) ≡ n = length-digits n (rest / 10) in
       let fits : place + length (digits n (rest / 10)) + 1 ≤ length out = omega arith in
       let one : place + n < length out = omega arith in
-      ap (λ (b : List ℕ). put b place (digits n (rest / 10))) (put-one out (place + n) (48 + rest % 10) one ∙ ap (λ (k : ℕ). put out (place + k) digit) (sym wide))
+      ap (λ (b : List ℕ). put b place (digits n (rest / 10)))
+      (put-one out (place + n) (48 + rest % 10) one ∙ ap (λ (k : ℕ). put out (place + k) digit) (sym wide))
       ∙ put-before out (digits n (rest / 10)) digit place fits
 
   -- the same by how many are left
-  pub write-turn : (left : ℕ) → 0 < left → place + left ≤ length out → put (set out (place + (left - 1)) (48 + rest % 10)) place (digits (left - 1) (rest / 10)) ≡ put out place (digits left rest)
+  pub write-turn : (left : ℕ) → 0 < left → place + left ≤ length out
+      → put (set out (place + (left - 1)) (48 + rest % 10)) place (digits (left - 1) (rest / 10)) ≡ put out place (digits left rest)
   write-turn zero some room = absurd (omega arith)
   write-turn (suc n) some room =
       let same : suc n - 1 ≡ n = omega arith in
@@ -31,7 +33,9 @@ module _ (out : List ℕ) (place rest : ℕ) where
 
 -- the head, the letter and the address written one after the other are the text
 pub text-written : (c : Capcode) (buffer : List ℕ) → c .collapse ≤ 9 → headWidth c + (1 + widthOf (c .address)) ≤ length buffer
-    → put (set (put buffer 0 (digits (headWidth c) (c .frame * 10 + c .collapse))) (headWidth c) (c .letter)) (headWidth c + 1) (digits (widthOf (c .address)) (c .address)) ≡ put buffer 0 (textOf c)
+    → put (set (put buffer 0 (digits (headWidth c) (c .frame * 10 + c .collapse))) (headWidth c) (c .letter))
+    (headWidth c + 1) (digits (widthOf (c .address)) (c .address))
+    ≡ put buffer 0 (textOf c)
 text-written c buffer small room =
     let xs = digits (headWidth c) (c .frame * 10 + c .collapse) in
     let ys = digits (widthOf (c .address)) (c .address) in

@@ -33,16 +33,21 @@ pair-gives (Worded.Two a b) first second = ap (_&&_ (eqb a first)) (and-true (eq
 pair-gives (Worded.Refused r) first second = refused-gives r (first ∷ second ∷ [])
 
 -- the way back's last question, answered by the words looked up
-confirmed-by : (words : Worded) (address : ℕ) (asked : List ℕ) (t : Bool) → toldWorded words ≡ wordsOf address → gives (toldWorded words) asked ≡ t → pick t (given (address ∷ [])) (refused Range) ≡ confirmed address asked
+confirmed-by : (words : Worded) (address : ℕ) (asked : List ℕ) (t : Bool) → toldWorded words ≡ wordsOf address
+    → gives (toldWorded words) asked ≡ t → pick t (given (address ∷ [])) (refused Range) ≡ confirmed address asked
 unfolding confirmed
 confirmed-by words address asked t e h = rw (← e, h)
 
 -- the way back from one word, by what was looked up on it
-pub word-answered : (words : Worded) (address word : ℕ) (t : Bool) → address ≡ fromWord word → toldWorded words ≡ wordsOf address → t ≡ isOne words word → pick t (given (address ∷ [])) (refused Range) ≡ addressOf (word ∷ [])
+pub word-answered : (words : Worded) (address word : ℕ) (t : Bool) → address ≡ fromWord word
+    → toldWorded words ≡ wordsOf address → t ≡ isOne words word
+    → pick t (given (address ∷ [])) (refused Range) ≡ addressOf (word ∷ [])
 word-answered words address word t a e h =
     confirmed-by words address (word ∷ []) t e (one-gives words word ∙ sym h) ∙ ap (λ (x : ℕ). confirmed x (word ∷ [])) a
 
 -- the way back from two words, by what was looked up on it
-pub pair-answered : (words : Worded) (address first second : ℕ) (t : Bool) → address ≡ fromPair first second → toldWorded words ≡ wordsOf address → t ≡ isPair words first second → pick t (given (address ∷ [])) (refused Range) ≡ addressOf (first ∷ second ∷ [])
+pub pair-answered : (words : Worded) (address first second : ℕ) (t : Bool) → address ≡ fromPair first second
+    → toldWorded words ≡ wordsOf address → t ≡ isPair words first second
+    → pick t (given (address ∷ [])) (refused Range) ≡ addressOf (first ∷ second ∷ [])
 pair-answered words address first second t a e h =
     confirmed-by words address (first ∷ second ∷ []) t e (pair-gives words first second ∙ sym h) ∙ ap (λ (x : ℕ). confirmed x (first ∷ second ∷ [])) a

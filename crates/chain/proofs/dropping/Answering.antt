@@ -28,18 +28,30 @@ within-row false = omega arith
 
 module _ (row : List Chain) (eight : length row ≡ 8) (address n : ℕ) where
   -- with a slot past the last no record is changed, whatever is told
-  unchanged : (number slot : ℕ) → length row ≤ slot → _≡_ {A = ChainDrop} (record { number = number; chains = record { slots = set row slot blank } }) (record { number = number; chains = record { slots = row } })
+  unchanged : (number slot : ℕ) → length row ≤ slot
+      → _≡_ {A = ChainDrop} (record { number = number; chains = record { slots = set row slot blank } })
+      (record { number = number; chains = record { slots = row } })
   unchanged number slot out = ap (λ (slots : List Chain). record { number = number; chains = record { slots = slots } }) (set-out row slot blank out)
 
   -- 13, or the chain is closed
   searched : (held : Bool) (slot : ℕ) → ltb slot (length row) ≡ held
-      → _≡_ {A = ChainDrop} (record { number = numberUnless NoChain held; chains = record { slots = set row slot blank } }) (asDrop (ask (not held) NoChain (given [])) (pick (eqb (numberTold (ask (not held) NoChain (given []))) 0) (set row slot blank) row))
+      → _≡_ {A = ChainDrop} (record {
+        number = numberUnless NoChain held;
+        chains = record { slots = set row slot blank };
+      }) (asDrop (ask (not held) NoChain (given [])) (pick (eqb (numberTold (ask (not held) NoChain (given []))) 0) (set row slot blank) row))
   searched true slot there = refl
   searched false slot none = unchanged 13 slot (ltb-false slot (length row) none)
 
   -- the tests before the search decide whether there is one
-  by-tests : (right message small : Bool) (from slot : ℕ) → let refusal = numberTold (asked right message small (given [])) in let told = asked right message small (ask (not (ltb (find address n row) (length row))) NoChain (given [])) in from ≡ pick (eqb refusal 0) 0 8 → slot ≡ from + find address n (drop from row)
-      → _≡_ {A = ChainDrop} (record { number = pick (eqb refusal 0) (numberUnless NoChain (ltb slot 8)) refusal; chains = record { slots = set row slot blank } }) (asDrop told (pick (eqb (numberTold told) 0) (set row (find address n row) blank) row))
+  by-tests : (right message small : Bool) (from slot : ℕ)
+      → let refusal = numberTold (asked right message small (given [])) in let told = asked right message small
+      (ask (not (ltb (find address n row) (length row))) NoChain (given [])) in from
+      ≡ pick (eqb refusal 0) 0 8
+      → slot ≡ from + find address n (drop from row)
+      → _≡_ {A = ChainDrop} (record {
+        number = pick (eqb refusal 0) (numberUnless NoChain (ltb slot 8)) refusal;
+        chains = record { slots = set row slot blank };
+      }) (asDrop told (pick (eqb (numberTold told) 0) (set row (find address n row) blank) row))
   by-tests false message small from slot begun ends = unchanged 2 slot (omega arith)
   by-tests true false small from slot begun ends = unchanged 7 slot (omega arith)
   by-tests true true false from slot begun ends = unchanged 8 slot (omega arith)

@@ -55,4 +55,7 @@ module _ (row : List Chain) (slot : ℕ) (within : slot < length row) where
       let left : length (drop (slot + 1) row) ≡ length row - (slot + 1) = length-drop (slot + 1) row in
       rw (sound-from row slot within)
       (leaves (isSound here) (isOpen here) met (sound (drop (slot + 1) row)) good
-      (rw (ne-eqb (here .«is_open») 0 opened, le-ltb (find (here .address) (here .«message_number») (drop (slot + 1) row)) (length (drop (slot + 1) row)) (omega arith))))
+      (rw (
+        ne-eqb (here .«is_open») 0 opened,
+        le-ltb (find (here .address) (here .«message_number») (drop (slot + 1) row)) (length (drop (slot + 1) row)) (omega arith),
+      )))

@@ -36,31 +36,41 @@ module _ (row : List Chain) (address : ℕ) (words : List ℕ) where
 
         module _ (small : address ≤ 31) where
           -- 9, 10, 11: the fragment's own refusals
-          pub no-fragment : (numberTold (headingOf words) ≡ 0 → ⊥) → (rest : Told) → whenHeard lent row address words rest ≡ told (numberTold (headingOf words)) []
+          pub no-fragment : (numberTold (headingOf words) ≡ 0 → ⊥) → (rest : Told)
+              → whenHeard lent row address words rest ≡ told (numberTold (headingOf words)) []
           no-fragment some rest = rw (le-ltb lent (length row * 1008) room, right, le-leb address 31 small) (bad-stops words _ some)
 
           -- a good fragment is joined
-          good-one : numberTold (headingOf words) ≡ 0 → (rest : Told) → whenHeard lent row address words rest ≡ ask (orphan row address (headingIn words)) NoChain rest
+          good-one : numberTold (headingOf words) ≡ 0 → (rest : Told)
+              → whenHeard lent row address words rest ≡ ask (orphan row address (headingIn words)) NoChain rest
           good-one none rest = rw (le-ltb lent (length row * 1008) room, right, le-leb address 31 small) (good-passes words _ (accepted words .0 none))
 
           -- a good fragment is answered with the answer and the records of one that is joined
-          late : numberTold (headingOf words) ≡ 0 → asStep (joinOf row address (headingIn words)) (joinedRow row address (headingIn words)) ≡ asStep (stepOf lent row address words) (chainsAfter lent row address words)
+          late : numberTold (headingOf words) ≡ 0
+              → asStep (joinOf row address (headingIn words)) (joinedRow row address (headingIn words))
+              ≡ asStep (stepOf lent row address words) (chainsAfter lent row address words)
           unfolding stepOf chainsAfter
-          late none = rw (good-one none _, good-one none (given [])) (ap (asStep (joinOf row address (headingIn words))) (by-orphan (orphan row address (headingIn words))))
+          late none =
+              rw (good-one none _, good-one none (given []))
+              (ap (asStep (joinOf row address (headingIn words))) (by-orphan (orphan row address (headingIn words))))
             where
-              by-orphan : (is : Bool) → pick is row (rowAfter row address (headingIn words)) ≡ pick (eqb (numberTold (ask is NoChain (given []))) 0) (rowAfter row address (headingIn words)) row
+              by-orphan : (is : Bool)
+                  → pick is row (rowAfter row address (headingIn words))
+                  ≡ pick (eqb (numberTold (ask is NoChain (given []))) 0) (rowAfter row address (headingIn words)) row
               by-orphan true = refl
               by-orphan false = refl
 
     -- a refusal by one of these questions tells its number, and changes no record
-    early : (n : ℕ) → (n ≡ 0 → ⊥) → ((rest : Told) → whenHeard lent row address words rest ≡ told n []) → asStep (told n []) row ≡ asStep (stepOf lent row address words) (chainsAfter lent row address words)
+    early : (n : ℕ) → (n ≡ 0 → ⊥) → ((rest : Told) → whenHeard lent row address words rest ≡ told n [])
+        → asStep (told n []) row ≡ asStep (stepOf lent row address words) (chainsAfter lent row address words)
     unfolding stepOf chainsAfter
     early n some stops = rw (stops _, stops (given []), ne-eqb n 0 some)
 
   module _ (buffer : List ℕ) (r : ChainStep) where
     -- a fragment that is refused before it is joined changes no record, and no byte
     pub stops-early : (n : ℕ) → (n ≡ 0 → ⊥) → ((rest : Told) → whenHeard (length buffer) row address words rest ≡ told n []) → r ≡ asStep (told n []) row
-        → (r ≡ asStep (stepOf (length buffer) row address words) (chainsAfter (length buffer) row address words)) × (buffer ≡ bufferAfter row address words buffer)
+        → (r ≡ asStep (stepOf (length buffer) row address words) (chainsAfter (length buffer) row address words))
+        × (buffer ≡ bufferAfter row address words buffer)
     unfolding stepOf bufferAfter
     stops-early n some stops gives = (gives ∙ early (length buffer) n some stops, rw (stops _, ne-eqb n 0 some))
 
@@ -68,6 +78,8 @@ module _ (row : List Chain) (address : ℕ) (words : List ℕ) where
     pub goes-late : (exit : List ℕ) → length row * 1008 ≤ length buffer → sound row ≡ true → address ≤ 31 → numberTold (headingOf words) ≡ 0
         → r ≡ asStep (joinOf row address (headingIn words)) (joinedRow row address (headingIn words))
         → exit ≡ joinedBytes row address words buffer
-        → (r ≡ asStep (stepOf (length buffer) row address words) (chainsAfter (length buffer) row address words)) × (exit ≡ bufferAfter row address words buffer)
+        → (r ≡ asStep (stepOf (length buffer) row address words) (chainsAfter (length buffer) row address words))
+        × (exit ≡ bufferAfter row address words buffer)
     unfolding stepOf bufferAfter
-    goes-late exit room right small none gives writes = (gives ∙ late (length buffer) room right small none, writes ∙ rw (good-one (length buffer) room right small none _))
+    goes-late exit room right small none gives writes =
+        (gives ∙ late (length buffer) room right small none, writes ∙ rw (good-one (length buffer) room right small none _))

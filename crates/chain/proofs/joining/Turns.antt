@@ -20,7 +20,8 @@ use Rattle.fragment.specs.declared.FragmentRead.{FragmentRead}
 use Rattle.chain.specs.declared.Chain.{Chain}
 use Rattle.chain.specs.declared.ChainStep.{ChainStep}
 use Rattle.chain.specs.Chains.{blank, isOpen, isOf, find, firstFree}
-use Rattle.chain.specs.Steps.{headingIn, Fate, lost, grows, whole, fate, charactersAfter, unbegun, isFirst, olderSlot, cleared, slotFor, chainBefore, fateOf, rowAfter, endPlace}
+use Rattle.chain.specs.Steps.{headingIn, Fate, lost, grows, whole, fate, charactersAfter, unbegun, isFirst}
+use Rattle.chain.specs.Steps.{olderSlot, cleared, slotFor, chainBefore, fateOf, rowAfter, endPlace}
 use Rattle.chain.specs.Answers.{known, full, toldOf, asStep}
 use Rattle.chain.proofs.Fates.{fate-by}
 use Rattle.chain.specs.FateAnswers.{fateNumber}
@@ -40,7 +41,8 @@ free-cleared (c ∷ row) zero within = at-front (firstFree (c ∷ row))
     at-front (suc free) = rw (lt-ltb 0 (suc free) (omega arith))
 free-cleared (c ∷ row) (suc k) within = rw (← free-cleared row k (omega arith)) (by-slot (not (isOpen c)) (firstFree row))
   where
-    by-slot : (free : Bool) (later : ℕ) → pick (ltb (suc k) (pick free 0 (suc later))) (suc k) (pick free 0 (suc later)) ≡ pick free 0 (suc (pick (ltb k later) k later))
+    by-slot : (free : Bool) (later : ℕ)
+        → pick (ltb (suc k) (pick free 0 (suc later))) (suc k) (pick free 0 (suc later)) ≡ pick free 0 (suc (pick (ltb k later) k later))
     by-slot true later = rw (le-ltb (suc k) 0 (omega arith))
     by-slot false later =
         ⊎-elim
@@ -48,7 +50,8 @@ free-cleared (c ∷ row) (suc k) within = rw (← free-cleared row k (omega arit
         (λ more. rw (more, le-ltb (suc k) (suc later) (omega (arith, ltb-false k later more))))
         (decided (ltb k later))
 
-module _ (row : List Chain) (address : ℕ) (h : FragmentRead) (eight : length row ≡ 8) (older : ℕ) (found : older ≡ find address (h .«message_number») row) where
+module _ (row : List Chain) (address : ℕ) (h : FragmentRead) (eight : length row ≡ 8) (older : ℕ)
+    (found : older ≡ find address (h .«message_number») row) where
   -- a key's chain is found in one of the slots, or past them
   older-most : older ≤ length row
   older-most = omega (arith, found, first-most (isOf address (h .«message_number»)) row)
@@ -66,7 +69,8 @@ module _ (row : List Chain) (address : ℕ) (h : FragmentRead) (eight : length r
   turn-later before some later is whether = rw (ne-eqb (h .«fragment_number») 3 later, eight, whether, is, found)
 
 -- the records after a fragment: in a chain's own slot it does not matter that the older record was cleared
-pub settled : (row : List Chain) (address : ℕ) (h : FragmentRead) (x : Chain) → set (set row (olderSlot row address h) blank) (slotFor row address h) x ≡ set (cleared row address h) (slotFor row address h) x
+pub settled : (row : List Chain) (address : ℕ) (h : FragmentRead) (x : Chain)
+    → set (set row (olderSlot row address h) blank) (slotFor row address h) x ≡ set (cleared row address h) (slotFor row address h) x
 settled row address h x = by-kind (isFirst h)
   where
     by-kind : (first : Bool) → let older = olderSlot row address h in
@@ -87,7 +91,8 @@ has-room c h =
 
 module _ (row : List Chain) (address : ℕ) (h : FragmentRead) where
   -- what is told of a chain that is not lost
-  pub told-taken : fateNumber (fateOf row address h) ≡ 0 → toldOf row address h (fateOf row address h) ≡ ask (full row address h) Full (takenOf (turnOf row address h) h)
+  pub told-taken : fateNumber (fateOf row address h) ≡ 0
+      → toldOf row address h (fateOf row address h) ≡ ask (full row address h) Full (takenOf (turnOf row address h) h)
   told-taken =
       fate-by (chainBefore row address h) h (λ f. fateNumber f ≡ 0 → toldOf row address h f ≡ ask (full row address h) Full (takenOf (turnOf row address h) h))
       (λ late none. absurd (omega arith)) (λ turn over none. absurd (omega arith)) (λ turn fits ends wrong none. absurd (omega arith))
@@ -108,28 +113,35 @@ module _ (row : List Chain) (address : ℕ) (h : FragmentRead) where
   module _ (is : orphan row address h ≡ false) where
     -- 14, 15, 16: the chain is lost
     pub joins-lost : (fateNumber (fateOf row address h) ≡ 0 → ⊥)
-        → asStep (joinOf row address h) (joinedRow row address h) ≡ asStep (told (fateNumber (fateOf row address h)) (bitOf (known row address h) ∷ [])) (rowAfter row address h)
+        → asStep (joinOf row address h) (joinedRow row address h)
+        ≡ asStep (told (fateNumber (fateOf row address h)) (bitOf (known row address h) ∷ [])) (rowAfter row address h)
     joins-lost some = rw is (by-fate (fateOf row address h) some)
       where
-        by-fate : (f : Fate) → (fateNumber f ≡ 0 → ⊥) → asStep (toldOf row address h f) (rowAfter row address h) ≡ asStep (told (fateNumber f) (bitOf (known row address h) ∷ [])) (rowAfter row address h)
+        by-fate : (f : Fate) → (fateNumber f ≡ 0 → ⊥)
+            → asStep (toldOf row address h f) (rowAfter row address h)
+            ≡ asStep (told (fateNumber f) (bitOf (known row address h) ∷ [])) (rowAfter row address h)
         by-fate (lost r) some = refl
         by-fate (grows c) some = absurd (some refl)
         by-fate whole some = absurd (some refl)
 
     module _ (none : fateNumber (fateOf row address h) ≡ 0) where
       -- 12: no slot is free
-      pub joins-full : slotFor row address h ≡ length row → asStep (joinOf row address h) (joinedRow row address h) ≡ asStep (told 12 []) (rowAfter row address h)
+      pub joins-full : slotFor row address h ≡ length row
+          → asStep (joinOf row address h) (joinedRow row address h) ≡ asStep (told 12 []) (rowAfter row address h)
       joins-full there = rw (is, told-taken none, eq-eqb (slotFor row address h) (length row) there)
 
       -- where a slot is free, the fragment is taken
-      pub joins-taken : (slotFor row address h ≡ length row → ⊥) → asStep (joinOf row address h) (joinedRow row address h) ≡ asStep (takenOf (turnOf row address h) h) (rowAfter row address h)
+      pub joins-taken : (slotFor row address h ≡ length row → ⊥)
+          → asStep (joinOf row address h) (joinedRow row address h) ≡ asStep (takenOf (turnOf row address h) h) (rowAfter row address h)
       joins-taken there = rw (is, told-taken none, ne-eqb (slotFor row address h) (length row) there)
 
 -- a good fragment joined: what is answered
 abbrev joined : List Chain → ℕ → FragmentRead → ChainStep
 joined row address h = asStep (joinOf row address h) (joinedRow row address h)
 
-module _ (row : List Chain) (address : ℕ) (words buffer : List ℕ) (h : FragmentRead) (is : h ≡ headingIn words) (r : ChainStep) (t : Told) (after : List Chain) (told : joined row address h ≡ asStep t after) (gives : r ≡ asStep t after) where
+module _ (row : List Chain) (address : ℕ) (words buffer : List ℕ) (h : FragmentRead) (is : h ≡ headingIn words)
+    (r : ChainStep) (t : Told) (after : List Chain) (told : joined row address h ≡ asStep t after)
+    (gives : r ≡ asStep t after) where
   -- the number that is told of a good fragment
   number-told : numberTold t ≡ numberTold (joinOf row address (headingIn words))
   number-told = sym (ap (λ (s : ChainStep). s .answer .number) told) ∙ ap (λ (f : FragmentRead). numberTold (joinOf row address f)) is
@@ -143,8 +155,11 @@ module _ (row : List Chain) (address : ℕ) (words buffer : List ℕ) (h : Fragm
   refused-joins some = (answered, rw (ne-eqb (numberTold (joinOf row address (headingIn words))) 0 (λ none. some (number-told ∙ none))))
 
   -- a good fragment that is not refused writes its text
-  pub taken-joins : (exit : List ℕ) → numberTold t ≡ 0 → exit ≡ put buffer (endPlace row address h) (textIn words) → (r ≡ joined row address (headingIn words)) × (exit ≡ joinedBytes row address words buffer)
+  pub taken-joins : (exit : List ℕ) → numberTold t ≡ 0 → exit ≡ put buffer (endPlace row address h) (textIn words)
+      → (r ≡ joined row address (headingIn words)) × (exit ≡ joinedBytes row address words buffer)
   taken-joins exit none written = (
     answered,
-    written ∙ rw (eq-eqb (numberTold (joinOf row address (headingIn words))) 0 (sym number-told ∙ none)) (ap (λ (f : FragmentRead). put buffer (endPlace row address f) (textIn words)) is),
+    written
+        ∙ rw (eq-eqb (numberTold (joinOf row address (headingIn words))) 0 (sym number-told ∙ none))
+        (ap (λ (f : FragmentRead). put buffer (endPlace row address f) (textIn words)) is),
   )

@@ -42,7 +42,8 @@ returns c =
     let asked = c .before .before in
     let start = asked .before .before .before in
     let bad = sym (asked .sound .ensures) ∙ not-true (asked .sound .result) (c .before .if1 .taken) in
-    ap₂ (stopped start) (c .number .ensures) (asked .before .fresh .ensures) ∙ ended-so (start .args .calls) (start .args .memory .now) 8 _ (long start) (end-unsound (start .args .calls) (start .args .memory .now) bad)
+    ap₂ (stopped start) (c .number .ensures) (asked .before .fresh .ensures)
+    ∙ ended-so (start .args .calls) (start .args .memory .now) 8 _ (long start) (end-unsound (start .args .calls) (start .args .memory .now) bad)
 
 number-requires-2 : tie.Need-number-requires-2
 number-requires-2 c κs = search needs
@@ -51,7 +52,9 @@ returns-2 : tie.Need-returns-2
 returns-2 c =
     let asked = c .before .before in
     let start = asked .before .before .before .before in
-    ap₂ (stopped start) (c .number2 .ensures) (asked .before .before .fresh .ensures) ∙ ended-so (start .args .calls) (start .args .memory .now) 8 _ (long start) (end-short (start .args .calls) (start .args .memory .now) (right asked) (c .before .if2 .taken))
+    ap₂ (stopped start) (c .number2 .ensures) (asked .before .before .fresh .ensures)
+    ∙ ended-so (start .args .calls) (start .args .memory .now) 8 _ (long start)
+    (end-short (start .args .calls) (start .args .memory .now) (right asked) (c .before .if2 .taken))
 
 incomplete-requires : tie.Need-incomplete-requires
 incomplete-requires c κs = search needs
@@ -60,7 +63,9 @@ returns-3 : tie.Need-returns-3
 returns-3 c =
     let asked = c .before .before in
     let start = asked .before .before .before .before in
-    ap₂ ended (c .incomplete .ensures) (asked .before .before .fresh .ensures) ∙ ended-so (start .args .calls) (start .args .memory .now) 8 _ (long start) (end-good (start .args .calls) (start .args .memory .now) (right asked) (c .before .if2 .left))
+    ap₂ ended (c .incomplete .ensures) (asked .before .before .fresh .ensures)
+    ∙ ended-so (start .args .calls) (start .args .memory .now) 8 _ (long start)
+    (end-good (start .args .calls) (start .args .memory .now) (right asked) (c .before .if2 .left))
 
 pub end-frame-spec : {M : Type 1} → statement M
 end-frame-spec =

@@ -31,7 +31,9 @@ abbrev μ-loop : tie.MeasureT-loop
 μ-loop memory row count found₀ size₀ i₀ found size i = count - i
 
 -- the open calls, as they were found
-opened : (c : tie.After-count Inv-loop μ-loop) → take (c .count .result) (c .before .before .before .args .calls .calls) ≡ take (c .before .before .before .args .calls .size) (c .before .before .before .args .calls .calls)
+opened : (c : tie.After-count Inv-loop μ-loop)
+    → take (c .count .result) (c .before .before .before .args .calls .calls)
+    ≡ take (c .before .before .before .args .calls .size) (c .before .before .before .args .calls .calls)
 opened c =
     let s = c .before .before .before .args .calls in
     open-again (s .calls) (s .size) (c .count .result) (c .count .ensures .0)
@@ -94,7 +96,8 @@ loop-again c =
     let found = list (turn .before .loop .found) (turn .before .loop .size) in
     let there : getD row i blank ≡ getD all i blank = getD-take (count .count .result) all i blank (turn .loop-test .taken) in
     let turned = incomplete-turn row memory i 8 (omega (arith, long count, so-far .1)) (omega (arith, long count, turn .loop-test .taken)) in
-    let judged : (b : Bool) → c .before .is-complete .result ≡ b → pick b found (added found (getD all i blank)) ≡ listed 8 (incompleteIn (take (i + 1) row) memory) =
+    let judged : (b : Bool) → c .before .is-complete .result ≡ b
+    → pick b found (added found (getD all i blank)) ≡ listed 8 (incompleteIn (take (i + 1) row) memory) =
     λ b is. ap (λ (s : Calls). pick b s (added s (getD all i blank))) (so-far .2) ∙ rw (← is, c .before .is-complete .ensures, ← there) turned
     in
     let now : list (c .if1 .found) (c .if1 .size) ≡ listed 8 (incompleteIn (take (i + 1) row) memory) =
@@ -111,7 +114,10 @@ returns c =
     let start = count .before .before .before in
     let row = take (count .count .result) (start .args .calls .calls) in
     let memory = start .args .memory .now in
-    c .before .loop .inv .2 ∙ ap (listed 8) (incomplete-done row memory (c .before .loop .i) (omega (arith, long count, c .loop-test .left)) ∙ ap (λ (calls : List Call). incompleteIn calls memory) (opened count))
+    c .before .loop .inv .2
+    ∙ ap (listed 8)
+    (incomplete-done row memory (c .before .loop .i) (omega (arith, long count, c .loop-test .left))
+    ∙ ap (λ (calls : List Call). incompleteIn calls memory) (opened count))
 
 pub incomplete-spec : {M : Type 1} → statement M
 incomplete-spec =

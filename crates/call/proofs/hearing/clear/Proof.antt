@@ -44,7 +44,9 @@ loop-again c =
     let start = c .before .before in (
       omega arith,
       length-set (turn .memory) (start .args .place + turn .i) lacking ∙ turn .inv .1,
-      clear-turn (turn .memory) (start .args .place) (start .args .words) (turn .i) lacking (c .loop-test .taken) (omega (arith, start .pre, turn .inv .1, c .loop-test .taken)) ∙ turn .inv .2,
+      clear-turn (turn .memory) (start .args .place) (start .args .words) (turn .i) lacking (c .loop-test .taken)
+          (omega (arith, start .pre, turn .inv .1, c .loop-test .taken))
+          ∙ turn .inv .2,
     )
 
 same-length : tie.Need-same-length Inv-loop μ-loop

@@ -26,7 +26,8 @@ count-requires : tie.Need-count-requires Inv-loop μ-loop
 count-requires c κs = search needs
 
 -- the open calls, as they were found
-opened : (c : tie.After-count Inv-loop μ-loop) → take (c .count .result) (c .before .before .args .calls .calls) ≡ take (c .before .before .args .calls .size) (c .before .before .args .calls .calls)
+opened : (c : tie.After-count Inv-loop μ-loop)
+    → take (c .count .result) (c .before .before .args .calls .calls) ≡ take (c .before .before .args .calls .size) (c .before .before .args .calls .calls)
 opened c =
     let s = c .before .before .args .calls in
     open-again (s .calls) (s .size) (c .count .result) (c .count .ensures .0)
@@ -36,7 +37,8 @@ long : (c : tie.After-count Inv-loop μ-loop) → length (take (c .count .result
 long c = ap length (opened c) ∙ sym (c .count .ensures .0)
 
 loop-holds : tie.Need-loop-holds Inv-loop μ-loop
-loop-holds c = (omega arith, c .count .ensures .1, area-end (take (c .count .result) (c .before .before .args .calls .calls)) (c .count .result) (omega (arith, long c)))
+loop-holds c =
+    (omega arith, c .count .ensures .1, area-end (take (c .count .result) (c .before .before .args .calls .calls)) (c .count .result) (omega (arith, long c)))
 
 sub-i : tie.Need-sub-i Inv-loop μ-loop
 sub-i c = search needs
@@ -69,7 +71,8 @@ loop-again c =
     let all = count .before .before .args .calls .calls in
     let row = take (count .count .result) all in
     let i = turn .before .loop .i in
-    let there : getD row (i - 1) blank ≡ getD all (i - 1) blank = getD-take (count .count .result) all (i - 1) blank (omega (arith, turn .before .loop .inv .0, turn .loop-test .taken)) in (
+    let there : getD row (i - 1) blank
+    ≡ getD all (i - 1) blank = getD-take (count .count .result) all (i - 1) blank (omega (arith, turn .before .loop .inv .0, turn .loop-test .taken)) in (
       omega (arith, turn .before .loop .inv .0),
       turn .before .loop .inv .1,
       ap (λ (n : ℕ). n + boolByte (hasVector (getD all (i - 1) blank))) (turn .before .loop .inv .2)

@@ -61,8 +61,11 @@ returns : tie.Need-returns
 returns c =
     let start = c .before .before .before .before .before .before .before in
     let done = vector-again (start .args .calls) (start .args .memory .now) (start .args .place) (vectorOf (start .args .packet .bits))
-    (ap hasVector (there start) ∙ ap not (ne-eqb (getD (start .args .calls .calls) (start .args .place) blank .«has_vector») 0 (c .before .before .if1 .taken))) in
-    let turn = refusal-turn (start .args .calls) (c .unheard .result) _ 14 (c .unheard .ensures ∙ ap (λ (n : ℕ). refusing n 0) (c .before .number .ensures)) refl (done .0) in
+    (ap hasVector (there start)
+    ∙ ap not (ne-eqb (getD (start .args .calls .calls) (start .args .place) blank .«has_vector») 0 (c .before .before .if1 .taken))) in
+    let turn =
+    refusal-turn (start .args .calls) (c .unheard .result) _ 14
+    (c .unheard .ensures ∙ ap (λ (n : ℕ). refusing n 0) (c .before .number .ensures)) refl (done .0) in
     (turn .0, (turn .1, done .1))
 
 read-vector-requires : tie.Need-read-vector-requires

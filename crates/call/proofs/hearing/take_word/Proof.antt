@@ -23,7 +23,9 @@ giving n =
 -- what was asked
 abbrev Answers : tie.After-ask → Bool → Bool → Type 0
 Answers c held lacked =
-    (isHeld (opens (c .before .before .before .args .calls)) (c .before .before .before .args .message) ≡ held) × (isLacked (opens (c .before .before .before .args .calls)) (c .before .before .before .args .message) (c .before .before .before .args .memory .now) ≡ lacked)
+    (isHeld (opens (c .before .before .before .args .calls)) (c .before .before .before .args .message) ≡ held)
+    × (isLacked (opens (c .before .before .before .args .calls)) (c .before .before .before .args .message) (c .before .before .before .args .memory .now)
+    ≡ lacked)
 
 asked : (c : tie.After-ask) → Answers c (c .ask .result .held) (c .ask .result .lacked)
 asked c =
@@ -59,7 +61,9 @@ returns c =
     let start = found .before .before .before in
     let done = word-of-none (start .args .calls) (start .args .memory .now) (start .args .message)
     (asked found .0 ∙ not-true (found .ask .result .held) (c .before .before .if1 .taken)) in
-    let turn = refusal-turn (start .args .calls) (c .unheard .result) _ 17 (c .unheard .ensures ∙ ap (λ (n : ℕ). refusing n 0) (c .before .number .ensures)) refl (done .0) in
+    let turn =
+    refusal-turn (start .args .calls) (c .unheard .result) _ 17
+    (c .unheard .ensures ∙ ap (λ (n : ℕ). refusing n 0) (c .before .number .ensures)) refl (done .0) in
     (turn .0, (turn .1, done .1))
 
 number-requires-2 : tie.Need-number-requires-2
@@ -78,7 +82,9 @@ returns-2 c =
     let start = found .before .before .before in
     let done = word-again (start .args .calls) (start .args .memory .now) (start .args .message) (held holding)
     (asked found .1 ∙ not-true (found .ask .result .lacked) (c .before .before .if2 .taken)) in
-    let turn = refusal-turn (start .args .calls) (c .unheard2 .result) _ 14 (c .unheard2 .ensures ∙ ap (λ (n : ℕ). refusing n 0) (c .before .number2 .ensures)) refl (done .0) in
+    let turn =
+    refusal-turn (start .args .calls) (c .unheard2 .result) _ 14
+    (c .unheard2 .ensures ∙ ap (λ (n : ℕ). refusing n 0) (c .before .number2 .ensures)) refl (done .0) in
     (turn .0, (turn .1, done .1))
 
 number-requires-3 : tie.Need-number-requires-3
@@ -97,7 +103,9 @@ returns-3 c =
     let start = holding .before .before .before .before .before in
     let done = word-no-room (start .args .calls) (start .args .memory .now) (start .args .message) (held holding) (lacked wanting)
     (lt-ltb (length (start .args .memory .now)) 680 (c .before .before .if3 .taken)) in
-    let turn = refusal-turn (start .args .calls) (c .unheard3 .result) _ 1 (c .unheard3 .ensures ∙ ap (λ (n : ℕ). refusing n 0) (c .before .number3 .ensures)) refl (done .0) in
+    let turn =
+    refusal-turn (start .args .calls) (c .unheard3 .result) _ 1
+    (c .unheard3 .ensures ∙ ap (λ (n : ℕ). refusing n 0) (c .before .number3 .ensures)) refl (done .0) in
     (turn .0, (turn .1, done .1))
 
 give-requires : tie.Need-give-requires
@@ -113,8 +121,11 @@ returns-4 c =
     let holding = wanting .before .before in
     let start = holding .before .before .before .before .before in
     let done = word-taken (start .args .calls) (start .args .memory .now) (start .args .message) (held holding) (lacked wanting)
-    (le-ltb (length (start .args .memory .now)) 680 (room .if3 .left)) in
-    (ap (λ (n : ℕ). hearingOf (start .args .calls) (giving n)) (c .before .before .give .ensures .0) ∙ done .0, (omega arith, c .before .before .give .ensures .1 ∙ done .1))
+    (le-ltb (length (start .args .memory .now)) 680 (room .if3 .left)) in (
+      ap (λ (n : ℕ). hearingOf (start .args .calls) (giving n)) (c .before .before .give .ensures .0)
+          ∙ done .0,
+      (omega arith, c .before .before .give .ensures .1 ∙ done .1),
+    )
 
 pub take-word-spec : {M : Type 1} → statement M
 take-word-spec =

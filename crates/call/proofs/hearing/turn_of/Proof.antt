@@ -57,7 +57,9 @@ returns c =
     let start = asked .before .before in
     let done = hear-unsound (start .args .calls) (start .args .memory .now) (start .args .packet .bits)
     (sym (asked .sound .ensures) ∙ not-true (asked .sound .result) (c .before .before .if1 .taken)) in
-    let turn = refusal-turn (start .args .calls) (c .unheard .result) _ 2 (c .unheard .ensures ∙ ap (λ (n : ℕ). refusing n 0) (c .before .number .ensures)) refl (done .0) in
+    let turn =
+    refusal-turn (start .args .calls) (c .unheard .result) _ 2
+    (c .unheard .ensures ∙ ap (λ (n : ℕ). refusing n 0) (c .before .number .ensures)) refl (done .0) in
     (turn .0, (turn .1, done .1))
 
 number-requires-2 : tie.Need-number-requires-2
@@ -72,7 +74,9 @@ returns-2 c =
     let start = passed .before .before .before in
     let done = hear-foreign (start .args .calls) (start .args .memory .now) (start .args .packet .bits) (right passed)
     (not-true (isVector (start .args .packet .bits)) (c .before .before .if2 .taken)) in
-    let turn = refusal-turn (start .args .calls) (c .unheard2 .result) _ 7 (c .unheard2 .ensures ∙ ap (λ (n : ℕ). refusing n 0) (c .before .number2 .ensures)) refl (done .0) in
+    let turn =
+    refusal-turn (start .args .calls) (c .unheard2 .result) _ 7
+    (c .unheard2 .ensures ∙ ap (λ (n : ℕ). refusing n 0) (c .before .number2 .ensures)) refl (done .0) in
     (turn .0, (turn .1, done .1))
 
 message-of-requires : tie.Need-message-of-requires
@@ -93,7 +97,9 @@ returns-3 c =
     let done = hear-damaged (start .args .calls) (start .args .memory .now) (start .args .packet .bits) (right passed) (kind known)
     (ne-eqb (messageIn (start .args .packet .bits) .damaged) 0
     (λ none. c .before .before .if3 .taken (ap (λ (m : Message). m .damaged) (read .message-of .ensures) ∙ none))) in
-    let turn = refusal-turn (start .args .calls) (c .unheard3 .result) _ 10 (c .unheard3 .ensures ∙ ap (λ (n : ℕ). refusing n 0) (c .before .number3 .ensures)) refl (done .0) in
+    let turn =
+    refusal-turn (start .args .calls) (c .unheard3 .result) _ 10
+    (c .unheard3 .ensures ∙ ap (λ (n : ℕ). refusing n 0) (c .before .number3 .ensures)) refl (done .0) in
     (turn .0, (turn .1, done .1))
 
 vector-place-requires : tie.Need-vector-place-requires

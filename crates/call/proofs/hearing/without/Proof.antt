@@ -60,7 +60,8 @@ loop-again c =
     let start = c .before .before .before .before in (
       omega arith,
       length-set (turn .after) (turn .i) _ ∙ turn .inv .1,
-      moved-turn (start .args .t1) (turn .after) (turn .i) (omega (arith, long start, c .before .loop-test .taken)) (omega (arith, turn .inv .0, turn .inv .1)) ∙ turn .inv .2,
+      moved-turn (start .args .t1) (turn .after) (turn .i) (omega (arith, long start, c .before .loop-test .taken)) (omega (arith, turn .inv .0, turn .inv .1))
+          ∙ turn .inv .2,
     )
 
 sub-after : tie.Need-sub-after Inv-loop μ-loop
@@ -79,7 +80,9 @@ returns-2 c =
     let start = past .before in
     let last : turn .i ≡ 7 = omega (arith, turn .inv .0, c .loop-test .left) in
     rw (lt-ltb (start .args .place) 8 (omega (arith, past .if1 .left)))
-    (ap (λ (k : ℕ). set (turn .after) k blank) (sym last) ∙ moved-done (start .args .t1) (turn .after) (turn .i) (omega (arith, long start, last)) (omega (arith, last, turn .inv .1)) ∙ turn .inv .2)
+    (ap (λ (k : ℕ). set (turn .after) k blank) (sym last)
+    ∙ moved-done (start .args .t1) (turn .after) (turn .i) (omega (arith, long start, last)) (omega (arith, last, turn .inv .1))
+    ∙ turn .inv .2)
 
 pub without-spec : {M : Type 1} → statement M
 without-spec =

@@ -29,7 +29,9 @@ count-requires : tie.Need-count-requires Inv-loop μ-loop
 count-requires c κs = search needs
 
 -- the open calls, as they were found
-opened : (c : tie.After-count Inv-loop μ-loop) → take (c .count .result) (c .before .before .before .args .calls .calls) ≡ take (c .before .before .before .args .calls .size) (c .before .before .before .args .calls .calls)
+opened : (c : tie.After-count Inv-loop μ-loop)
+    → take (c .count .result) (c .before .before .before .args .calls .calls)
+    ≡ take (c .before .before .before .args .calls .size) (c .before .before .before .args .calls .calls)
 opened c =
     let s = c .before .before .before .args .calls in
     open-again (s .calls) (s .size) (c .count .result) (c .count .ensures .0)
@@ -66,7 +68,9 @@ mul-completed c =
     let turn = c .before .before .before .before .before in
     let count = turn .before .before in
     let start = count .before .before .before in
-    let few = finished-few (take (count .count .result) (start .args .calls .calls)) (start .args .message) (start .args .memory .now) (turn .before .loop .i) (omega (arith, long count, turn .before .loop .inv .1)) in
+    let few =
+    finished-few (take (count .count .result) (start .args .calls .calls)) (start .args .message)
+    (start .args .memory .now) (turn .before .loop .i) (omega (arith, long count, turn .before .loop .inv .1)) in
     omega (arith, few, turn .before .loop .inv .3)
 
 cast-completed : tie.Need-cast-completed Inv-loop μ-loop
@@ -77,7 +81,9 @@ add-completed c =
     let turn = c .before .before .before .before .before in
     let count = turn .before .before in
     let start = count .before .before .before in
-    let few = finished-few (take (count .count .result) (start .args .calls .calls)) (start .args .message) (start .args .memory .now) (turn .before .loop .i) (omega (arith, long count, turn .before .loop .inv .1)) in
+    let few =
+    finished-few (take (count .count .result) (start .args .calls .calls)) (start .args .message)
+    (start .args .memory .now) (turn .before .loop .i) (omega (arith, long count, turn .before .loop .inv .1)) in
     let bit = bit-le (c .before .before .offer .result) in
     omega (arith, few, bit, turn .before .loop .inv .3)
 
@@ -94,7 +100,8 @@ loop-again c =
     let message = start .args .message in
     let memory = start .args .memory .now in
     let i = turn .before .loop .i in
-    let there : getD row (i - 1) blank ≡ getD all (i - 1) blank = getD-take (count .count .result) all (i - 1) blank (omega (arith, turn .before .loop .inv .0, turn .loop-test .taken)) in
+    let there : getD row (i - 1) blank ≡ getD all (i - 1) blank =
+    getD-take (count .count .result) all (i - 1) blank (omega (arith, turn .before .loop .inv .0, turn .loop-test .taken)) in
     let within : i ≤ length row = omega (arith, long count, turn .before .loop .inv .0) in
     let offer = c .before .before .offer in
     let so-far = turn .before .loop .inv .2 in (
@@ -105,7 +112,11 @@ loop-again c =
           ∙ ap (λ (call : Call). offered call message (givenTo (drop i row) message memory)) (sym there)
           ∙ given-turn row message memory i (turn .loop-test .taken) within,
       ap (λ (n : ℕ). n * 2 + boolByte (offer .result)) (turn .before .loop .inv .3)
-          ∙ ap (λ (n : ℕ). finished (drop i row) message memory * 2 + n) (as-bit (offer .result) ∙ ap bitOf (offer .ensures .0 ∙ ap (completes (getD all (i - 1) blank) message) so-far ∙ ap (λ (call : Call). completes call message (givenTo (drop i row) message memory)) (sym there)))
+          ∙ ap (λ (n : ℕ). finished (drop i row) message memory * 2 + n)
+          (as-bit (offer .result)
+          ∙ ap bitOf
+          (offer .ensures .0 ∙ ap (completes (getD all (i - 1) blank) message) so-far
+          ∙ ap (λ (call : Call). completes call message (givenTo (drop i row) message memory)) (sym there)))
           ∙ finished-turn row message memory i (turn .loop-test .taken) within,
     )
 
@@ -113,7 +124,8 @@ same-length : tie.Need-same-length Inv-loop μ-loop
 same-length c =
     let count = c .before .before in
     let start = count .before .before .before in
-    ap length (c .before .loop .inv .2) ∙ given-length (start .args .message) (drop (c .before .loop .i) (take (count .count .result) (start .args .calls .calls))) (start .args .memory .now)
+    ap length (c .before .loop .inv .2)
+    ∙ given-length (start .args .message) (drop (c .before .loop .i) (take (count .count .result) (start .args .calls .calls))) (start .args .memory .now)
 
 returns : tie.Need-returns Inv-loop μ-loop
 returns c =

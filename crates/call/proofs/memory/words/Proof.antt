@@ -24,7 +24,8 @@ part-result-end c = search needs
 returns : tie.Need-returns
 returns c =
     let start = c .before .before .before .before .before in
-    part-none (start .args .memory .now) (placeOf (start .args .call)) (start .args .call .words) (omega (arith, c .before .if1 .taken, c .before .before .before .place .ensures))
+    part-none (start .args .memory .now) (placeOf (start .args .call)) (start .args .call .words)
+    (omega (arith, c .before .if1 .taken, c .before .before .before .place .ensures))
 
 sub-if2 : tie.Need-sub-if2
 sub-if2 c = search needs
@@ -46,7 +47,9 @@ returns-2 c =
     let placed = c .before .before .before .before in
     let start = placed .before .before in
     let at = placed .place .ensures in
-    rw at (part-rest (start .args .memory .now) (placeOf (start .args .call)) (start .args .call .words) (omega (arith, at)) (omega (arith, at, c .before .if2 .taken)))
+    rw at
+    (part-rest (start .args .memory .now) (placeOf (start .args .call)) (start .args .call .words) (omega (arith, at))
+    (omega (arith, at, c .before .if2 .taken)))
 
 add-end : tie.Need-add-end
 add-end c = search needs

@@ -49,7 +49,8 @@ returns c =
     let start = asked .before in
     c .not-opened .ensures
     ∙ ap (λ (n : ℕ). asOpening (told n []) (start .args .calls)) (c .before .number .ensures)
-    ∙ told-so (start .args .calls) (start .args .packet .bits) _ (unsound (start .args .calls) (start .args .packet .bits) (sym (asked .sound .ensures) ∙ not-true (asked .sound .result) (c .before .before .if1 .taken)))
+    ∙ told-so (start .args .calls) (start .args .packet .bits) _
+    (unsound (start .args .calls) (start .args .packet .bits) (sym (asked .sound .ensures) ∙ not-true (asked .sound .result) (c .before .before .if1 .taken)))
 
 read-address-requires : tie.Need-read-address-requires
 read-address-requires c κs = search needs
@@ -64,14 +65,16 @@ returns-2 c =
     let number = ap (λ (r : AddressRead). r .number) (read .read-address .ensures) in
     c .not-opened2 .ensures
     ∙ ap (λ (n : ℕ). asOpening (told n []) (start .args .calls)) number
-    ∙ told-so (start .args .calls) (start .args .packet .bits) _ (no-address (start .args .calls) (start .args .packet .bits) (right (read .before)) (λ zero. c .before .if2 .taken (number ∙ zero)))
+    ∙ told-so (start .args .calls) (start .args .packet .bits) _
+    (no-address (start .args .calls) (start .args .packet .bits) (right (read .before)) (λ zero. c .before .if2 .taken (number ∙ zero)))
 
 returns-3 : tie.Need-returns-3
 returns-3 c =
     let good = c .before .before .before in
     let start = good .before .before .before .before .before in
     ap (λ (a : Address). asOpening (given (telling 0 0 a)) (start .args .calls)) (says good)
-    ∙ tone-only (start .args .calls) (start .args .packet .bits) (right (good .before .before .before)) (none good) (sym (ap (λ (a : Address). a .«tone_only») (says good)) ∙ c .if3 .taken)
+    ∙ tone-only (start .args .calls) (start .args .packet .bits) (right (good .before .before .before)) (none good)
+    (sym (ap (λ (a : Address). a .«tone_only») (says good)) ∙ c .if3 .taken)
 
 open-call-requires : tie.Need-open-call-requires
 open-call-requires c κs = search needs
@@ -82,7 +85,8 @@ returns-4 c =
     let start = good .before .before .before .before .before in
     c .open-call .ensures
     ∙ ap (λ (a : Address). asOpening (openingOf (start .args .calls) a) (openingCalls (start .args .calls) a)) (says good)
-    ∙ goes-on (start .args .calls) (start .args .packet .bits) (right (good .before .before .before)) (none good) (λ tone. c .before .if3 .left (ap (λ (a : Address). a .«tone_only») (says good) ∙ tone))
+    ∙ goes-on (start .args .calls) (start .args .packet .bits) (right (good .before .before .before)) (none good)
+    (λ tone. c .before .if3 .left (ap (λ (a : Address). a .«tone_only») (says good) ∙ tone))
 
 pub open-spec : {M : Type 1} → statement M
 open-spec =

@@ -35,7 +35,8 @@ returns c =
     let start = found .before .before in
     c .not-opened .ensures
     ∙ ap (λ (n : ℕ). asOpening (told n []) (start .args .calls)) (c .before .number .ensures)
-    ∙ key-again (start .args .calls) (start .args .address) (omega (arith, found .find .ensures, found .before .count .ensures .0, c .before .before .if1 .taken))
+    ∙ key-again (start .args .calls) (start .args .address)
+    (omega (arith, found .find .ensures, found .before .count .ensures .0, c .before .before .if1 .taken))
 
 number-requires-2 : tie.Need-number-requires-2
 number-requires-2 c κs = search needs
@@ -44,7 +45,9 @@ not-opened-requires-2 : tie.Need-not-opened-requires-2
 not-opened-requires-2 c κs = search needs
 
 -- no open call has the key
-alone : (c : tie.Else1) → let start = c .before .before .before in length (opens (start .args .calls)) ≤ find (start .args .address .phase) (start .args .address .vector) (opens (start .args .calls))
+alone : (c : tie.Else1)
+    → let start = c .before .before .before in length (opens (start .args .calls)) ≤ find
+    (start .args .address .phase) (start .args .address .vector) (opens (start .args .calls))
 alone c = omega (arith, c .before .find .ensures, c .before .before .count .ensures .0, c .if1 .left)
 
 returns-2 : tie.Need-returns-2
@@ -54,7 +57,8 @@ returns-2 c =
     let start = counted .before in
     c .not-opened2 .ensures
     ∙ ap (λ (n : ℕ). asOpening (told n []) (start .args .calls)) (c .before .number2 .ensures)
-    ∙ no-call-free (start .args .calls) (start .args .address) (alone asked) (omega (arith, long start, counted .count .ensures .0, c .before .before .if2 .taken))
+    ∙ no-call-free (start .args .calls) (start .args .address) (alone asked)
+    (omega (arith, long start, counted .count .ensures .0, c .before .before .if2 .taken))
 
 call-of-requires : tie.Need-call-of-requires
 call-of-requires c κs = search needs
@@ -75,7 +79,8 @@ returns-3 c =
     let last = c .before .before in
     let counted = last .before .before .before in
     let start = counted .before in
-    rw (c .added .ensures, c .before .call-of .ensures, counted .count .ensures .0) (opens-one (start .args .calls) (start .args .address) (alone (last .before)) (free last))
+    rw (c .added .ensures, c .before .call-of .ensures, counted .count .ensures .0)
+    (opens-one (start .args .calls) (start .args .address) (alone (last .before)) (free last))
 
 pub open-call-spec : {M : Type 1} → statement M
 open-call-spec =

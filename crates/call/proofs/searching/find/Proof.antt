@@ -25,7 +25,8 @@ count-requires : tie.Need-count-requires Inv-loop μ-loop
 count-requires c κs = search needs
 
 -- the open calls, as they were found
-opened : (c : tie.After-count Inv-loop μ-loop) → take (c .count .result) (c .before .before .args .calls .calls) ≡ take (c .before .before .args .calls .size) (c .before .before .args .calls .calls)
+opened : (c : tie.After-count Inv-loop μ-loop)
+    → take (c .count .result) (c .before .before .args .calls .calls) ≡ take (c .before .before .args .calls .size) (c .before .before .args .calls .calls)
 opened c =
     let s = c .before .before .args .calls in
     open-again (s .calls) (s .size) (c .count .result) (c .count .ensures .0)
@@ -35,7 +36,9 @@ long : (c : tie.After-count Inv-loop μ-loop) → length (take (c .count .result
 long c = ap length (opened c) ∙ sym (c .count .ensures .0)
 
 -- what is found among them
-found : (c : tie.After-count Inv-loop μ-loop) → let a = c .before .before .args in find (a .phase) (a .vector) (take (a .calls .size) (a .calls .calls)) ≡ find (a .phase) (a .vector) (take (c .count .result) (a .calls .calls))
+found : (c : tie.After-count Inv-loop μ-loop)
+    → let a = c .before .before .args in find (a .phase) (a .vector) (take (a .calls .size) (a .calls .calls))
+    ≡ find (a .phase) (a .vector) (take (c .count .result) (a .calls .calls))
 found c =
     let a = c .before .before .args in
     ap (λ (row : List Call). find (a .phase) (a .vector) row) (sym (opened c))
@@ -84,7 +87,9 @@ returns : tie.Need-returns Inv-loop μ-loop
 returns c =
     let start = c .before .before in
     let a = start .before .before .args in
-    sym (found start ∙ c .before .loop .inv .1 ∙ found-none (isOf (a .phase) (a .vector)) (take (start .count .result) (a .calls .calls)) blank (c .before .loop .at) (omega (arith, long start)))
+    sym
+    (found start ∙ c .before .loop .inv .1
+    ∙ found-none (isOf (a .phase) (a .vector)) (take (start .count .result) (a .calls .calls)) blank (c .before .loop .at) (omega (arith, long start)))
 
 returns-2 : tie.Need-returns-2 Inv-loop μ-loop
 returns-2 c =

@@ -31,7 +31,8 @@ count-requires : tie.Need-count-requires Inv-loop μ-loop
 count-requires c κs = search needs
 
 -- the open calls, as they were found
-opened : (c : tie.After-count Inv-loop μ-loop) → take (c .count .result) (c .before .before .args .calls .calls) ≡ take (c .before .before .args .calls .size) (c .before .before .args .calls .calls)
+opened : (c : tie.After-count Inv-loop μ-loop)
+    → take (c .count .result) (c .before .before .args .calls .calls) ≡ take (c .before .before .args .calls .size) (c .before .before .args .calls .calls)
 opened c =
     let s = c .before .before .args .calls in
     open-again (s .calls) (s .size) (c .count .result) (c .count .ensures .0)
@@ -169,7 +170,8 @@ loop-again c =
       so-far .1,
       length-set marks _ _ ∙ so-far .2,
       alone (row count) (i - 1) call (there turn) (within turn) (sane passed) (rw (began turn) none) ∙ rw (began turn) (so-far .3),
-      subst (Marks (withMark marks (keyOf (call .phase) (call .vector)))) (sym first) (one-marked marks call rest (so-far .2) (limits .of-phase) (limits .of-vector) (so-far .4)),
+      subst (Marks (withMark marks (keyOf (call .phase) (call .vector)))) (sym first)
+          (one-marked marks call rest (so-far .2) (limits .of-phase) (limits .of-vector) (so-far .4)),
     )
 
 returns-3 : tie.Need-returns-3 Inv-loop μ-loop

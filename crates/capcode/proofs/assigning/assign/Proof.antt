@@ -17,7 +17,9 @@ enum-known-r : tie.Need-enum-known-r
 enum-known-r c = search needs
 
 returns : tie.Need-returns
-returns c = let fine = judged-tells _ _ Judged.Fine (c .before .before .before .judge .ensures) (c .before .enum-told .given .1) in rw (c .placed .ensures .0, c .placed .ensures .1) (fine _)
+returns c =
+    let fine = judged-tells _ _ Judged.Fine (c .before .before .before .judge .ensures)
+    (c .before .enum-told .given .1) in rw (c .placed .ensures .0, c .placed .ensures .1) (fine _)
 
 returns-2 : tie.Need-returns-2
 returns-2 c = judged-tells _ _ (Judged.Refused (c .before .r .given .0 .0)) (c .before .before .before .judge .ensures) (c .before .r .given .1) _

@@ -11,7 +11,8 @@ use Rattle.capcode.proofs.assigning.judge.Tie as tie
 
 -- the first test is made of two
 lettered : (q : tie.After-is-framed)
-    → not (standard (q .before .before .args .c .letter) || framed (q .before .before .args .c .letter)) ≡ not (q .before .is-standard .result || q .is-framed .result)
+    → not (standard (q .before .before .args .c .letter) || framed (q .before .before .args .c .letter))
+    ≡ not (q .before .is-standard .result || q .is-framed .result)
 lettered q = rw (q .before .is-standard .ensures, q .is-framed .ensures)
 
 -- where the code goes on, a test did not refuse
@@ -65,7 +66,8 @@ returns-4 c rest =
     let range = c .before .before in
     let type = range .before .before in
     let text = type .before .before in
-    asked-by false false false true _ _ rest (past-text text) (past-type type) (past-range range) (sym (c .before .is-below-offset .ensures) ∙ c .if4 .taken) refl
+    asked-by false false false true _ _ rest (past-text text) (past-type type) (past-range range)
+    (sym (c .before .is-below-offset .ensures) ∙ c .if4 .taken) refl
 
 fields-fit-requires : tie.Need-fields-fit-requires
 fields-fit-requires c κs = search needs
@@ -76,7 +78,8 @@ returns-5 c rest =
     let range = offset .before .before in
     let type = range .before .before in
     let text = type .before .before in
-    asked-by false false false false true _ rest (past-text text) (past-type type) (past-range range) (past-offset offset) (ap not (sym (c .before .fields-fit .ensures)) ∙ c .if5 .taken)
+    asked-by false false false false true _ rest (past-text text) (past-type type) (past-range range)
+    (past-offset offset) (ap not (sym (c .before .fields-fit .ensures)) ∙ c .if5 .taken)
 
 returns-6 : tie.Need-returns-6
 returns-6 c rest =
@@ -84,7 +87,8 @@ returns-6 c rest =
     let range = offset .before .before in
     let type = range .before .before in
     let text = type .before .before in
-    asked-by false false false false false _ rest (past-text text) (past-type type) (past-range range) (past-offset offset) (ap not (sym (c .before .fields-fit .ensures)) ∙ c .if5 .left)
+    asked-by false false false false false _ rest (past-text text) (past-type type) (past-range range)
+    (past-offset offset) (ap not (sym (c .before .fields-fit .ensures)) ∙ c .if5 .left)
 
 pub judge-spec : {M : Type 1} → statement M
 judge-spec =

@@ -33,7 +33,13 @@ returns-2 : tie.Need-returns-2
 returns-2 c =
     let test1 = c .before .before .before .before in
     let any-phase-called = test1 .before in
-    rw (c .before .offset-of .ensures, ← any-phase-called .is-any-phase .ensures, test1 .if1 .left, ← c .before .before .before .is-standard .ensures, c .before .before .if2 .taken)
+    rw (
+      c .before .offset-of .ensures,
+      ← any-phase-called .is-any-phase .ensures,
+      test1 .if1 .left,
+      ← c .before .before .before .is-standard .ensures,
+      c .before .before .if2 .taken,
+    )
 
 returns-3 : tie.Need-returns-3
 returns-3 c =

@@ -11,7 +11,8 @@ use Rattle.capcode.proofs.printing.write_digits.Statement.{statement}
 use Rattle.capcode.proofs.printing.write_digits.Tie as tie
 
 abbrev Inv-loop : tie.InvT-loop
-Inv-loop out₀ place count number left₀ rest₀ out left rest = (place + left ≤ length out) × (length out ≡ length out₀) × (put out place (digits left rest) ≡ put out₀ place (digits count number))
+Inv-loop out₀ place count number left₀ rest₀ out left rest =
+    (place + left ≤ length out) × (length out ≡ length out₀) × (put out place (digits left rest) ≡ put out₀ place (digits count number))
 
 abbrev μ-loop : tie.MeasureT-loop
 μ-loop out₀ place count number left₀ rest₀ out left rest = left
@@ -39,8 +40,12 @@ loop-less c = search needs
 
 loop-again : tie.Need-loop-again Inv-loop μ-loop
 loop-again c =
-    let a = c .before in
-    (simp length-set (omega arith), simp length-set (a .loop .inv .1), write-turn (a .loop .out) (a .before .args .place) (a .loop .rest) (a .loop .left) (search needs) (a .loop .inv .0) ∙ a .loop .inv .2)
+    let a = c .before in (
+      simp length-set (omega arith),
+      simp length-set (a .loop .inv .1),
+      write-turn (a .loop .out) (a .before .args .place) (a .loop .rest) (a .loop .left) (search needs) (a .loop .inv .0)
+          ∙ a .loop .inv .2,
+    )
 
 same-length : tie.Need-same-length Inv-loop μ-loop
 same-length c = c .before .loop .inv .1

@@ -48,7 +48,10 @@ returns c =
     let write-digits-called = width-of-called .before .before .before in
     let head-width-called = write-digits-called .before .before .before .before in
     let a = c .before .before .before .before .before .before .before .before .before .before .before .before .before in
-    c .before .before .write-digits2 .ensures ∙ rw (write-digits-called .write-digits .ensures, head-width-called .head-width .ensures .0, width-of-called .width-of .ensures .0) (text-written (a .args .c) (a .args .out .now) (fine-collapse _ (a .pre .0)) (a .pre .1))
+    c .before .before .write-digits2 .ensures
+    ∙ rw
+    (write-digits-called .write-digits .ensures, head-width-called .head-width .ensures .0, width-of-called .width-of .ensures .0)
+    (text-written (a .args .c) (a .args .out .now) (fine-collapse _ (a .pre .0)) (a .pre .1))
 
 pub write-text-spec : {M : Type 1} → statement M
 write-text-spec =

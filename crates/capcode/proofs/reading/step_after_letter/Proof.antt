@@ -14,7 +14,8 @@ address-digit-requires : tie.Need-address-digit-requires
 address-digit-requires c κs = search needs
 
 returns : tie.Need-returns
-returns c = c .address-digit .ensures ∙ step-address _ _ (sym (c .before .before .is-digit .ensures) ∙ c .before .if1 .taken) (c .before .before .before .pre .1)
+returns c =
+    c .address-digit .ensures ∙ step-address _ _ (sym (c .before .before .is-digit .ensures) ∙ c .before .if1 .taken) (c .before .before .before .pre .1)
 
 returns-2 : tie.Need-returns-2
 returns-2 c = step-stop _ _ (sym (c .before .is-digit .ensures) ∙ c .if1 .left) (c .before .before .pre .1)

@@ -17,11 +17,15 @@ is-pair-requires c = search needs
 
 returns : tie.Need-returns
 returns c = let w = c .before .before in
-    pair-answered (w .words-of .result) (w .before .from-pair .result) (w .before .before .args .first) (w .before .before .args .second) true (w .before .from-pair .ensures) (w .words-of .ensures) (sym (c .if1 .taken) ∙ c .before .is-pair .ensures)
+    pair-answered (w .words-of .result) (w .before .from-pair .result) (w .before .before .args .first)
+    (w .before .before .args .second) true (w .before .from-pair .ensures) (w .words-of .ensures)
+    (sym (c .if1 .taken) ∙ c .before .is-pair .ensures)
 
 returns-2 : tie.Need-returns-2
 returns-2 c = let w = c .before .before in
-    pair-answered (w .words-of .result) (w .before .from-pair .result) (w .before .before .args .first) (w .before .before .args .second) false (w .before .from-pair .ensures) (w .words-of .ensures) (sym (c .if1 .left) ∙ c .before .is-pair .ensures)
+    pair-answered (w .words-of .result) (w .before .from-pair .result) (w .before .before .args .first)
+    (w .before .before .args .second) false (w .before .from-pair .ensures) (w .words-of .ensures)
+    (sym (c .if1 .left) ∙ c .before .is-pair .ensures)
 
 pub pair-address-spec : {M : Type 1} → statement M
 pair-address-spec = tie.close (tie.spec from-pair-requires words-of-requires is-pair-requires returns returns-2)

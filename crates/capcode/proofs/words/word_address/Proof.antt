@@ -17,11 +17,13 @@ is-one-requires c = search needs
 
 returns : tie.Need-returns
 returns c = let w = c .before .before in
-    word-answered (w .words-of .result) (w .before .less .result) (w .before .before .args .word) true (w .before .less .ensures) (w .words-of .ensures) (sym (c .if1 .taken) ∙ c .before .is-one .ensures)
+    word-answered (w .words-of .result) (w .before .less .result) (w .before .before .args .word) true
+    (w .before .less .ensures) (w .words-of .ensures) (sym (c .if1 .taken) ∙ c .before .is-one .ensures)
 
 returns-2 : tie.Need-returns-2
 returns-2 c = let w = c .before .before in
-    word-answered (w .words-of .result) (w .before .less .result) (w .before .before .args .word) false (w .before .less .ensures) (w .words-of .ensures) (sym (c .if1 .left) ∙ c .before .is-one .ensures)
+    word-answered (w .words-of .result) (w .before .less .result) (w .before .before .args .word) false
+    (w .before .less .ensures) (w .words-of .ensures) (sym (c .if1 .left) ∙ c .before .is-one .ensures)
 
 pub word-address-spec : {M : Type 1} → statement M
 word-address-spec = tie.close (tie.spec less-requires words-of-requires is-one-requires returns returns-2)

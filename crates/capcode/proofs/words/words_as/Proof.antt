@@ -42,4 +42,18 @@ returns-4 : tie.Need-returns-4
 returns-4 c = c .two-words-23 .ensures ∙ known-words (c .before .before .before .args .address) (c .before .enum-told4 .given .1)
 
 pub words-as-spec : {M : Type 1} → statement M
-words-as-spec = tie.close (tie.spec enum-told one-word-requires enum-told-2 two-words-12-requires enum-told-3 two-words-13-requires enum-told-4 two-words-23-requires returns returns-2 returns-3 returns-4)
+words-as-spec =
+    tie.close
+    (tie.spec
+    enum-told
+    one-word-requires
+    enum-told-2
+    two-words-12-requires
+    enum-told-3
+    two-words-13-requires
+    enum-told-4
+    two-words-23-requires
+    returns
+    returns-2
+    returns-3
+    returns-4)

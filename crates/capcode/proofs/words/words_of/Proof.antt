@@ -25,7 +25,8 @@ enum-known-classed-2 c = search needs
 returns : tie.Need-returns
 returns c = let k = c .before .before .before in
     let address = k .before .before .before .args .address in
-    c .words-as .ensures ∙ known-words address (sym (c .before .layout-of .ensures)) ∙ known-class address (sym (k .before .before .class-of .ensures) ∙ k .classed .given .1)
+    c .words-as .ensures ∙ known-words address (sym (c .before .layout-of .ensures))
+    ∙ known-class address (sym (k .before .before .class-of .ensures) ∙ k .classed .given .1)
 
 returns-2 : tie.Need-returns-2
 returns-2 c = let k = c .before in

@@ -65,11 +65,17 @@ loop-again : tie.Need-loop-again Inv-loop μ-loop
 loop-again c =
     let turn = c .before .before .before .before in
     let judged = turn .before .before .before in
-    let args = judged .before .before .args in
-    (omega arith, turn .loop .inv .1 ∙ found-later (isOf (args .address) (args .message-number)) (judged .judge .result .slots) blank (turn .loop .slot) (omega (arith, long judged)) (sym (c .before .is-of .ensures) ∙ c .if1 .left))
+    let args = judged .before .before .args in (
+      omega arith,
+      turn .loop .inv .1
+          ∙ found-later (isOf (args .address) (args .message-number)) (judged .judge .result .slots) blank
+          (turn .loop .slot) (omega (arith, long judged)) (sym (c .before .is-of .ensures) ∙ c .if1 .left),
+    )
 
 -- the search ended where the key is found, or past the last slot
-found : (c : tie.Left-loop Inv-loop μ-loop) → let turn = c .before in let judged = turn .before .before .before in let args = judged .before .before .args in turn .loop .slot ≡ turn .before .first-slot .result + find (args .address) (args .message-number) (drop (turn .before .first-slot .result) (judged .judge .result .slots))
+found : (c : tie.Left-loop Inv-loop μ-loop)
+    → let turn = c .before in let judged = turn .before .before .before in let args = judged .before .before .args in turn .loop .slot
+    ≡ turn .before .first-slot .result + find (args .address) (args .message-number) (drop (turn .before .first-slot .result) (judged .judge .result .slots))
 found c =
     let turn = c .before in
     let judged = turn .before .before .before in
@@ -78,7 +84,8 @@ found c =
     let test = isOf (args .address) (args .message-number) in
     ⊎-elim
     (λ w. sym (turn .loop .inv .1 ∙ found-none test row blank (turn .loop .slot) (omega (arith, long judged, w .left))))
-    (λ w. sym (turn .loop .inv .1 ∙ found-here test row blank (turn .loop .slot) (omega (arith, long judged, w .0 .taken)) (sym (w .2 .ensures) ∙ w .3 .taken)))
+    (λ w. sym
+    (turn .loop .inv .1 ∙ found-here test row blank (turn .loop .slot) (omega (arith, long judged, w .0 .taken)) (sym (w .2 .ensures) ∙ w .3 .taken)))
     (c .loop-test .came)
 
 mul-t19 : tie.Need-mul-t19 Inv-loop μ-loop
@@ -88,13 +95,15 @@ element-set-from-judged : tie.Need-element-set-from-judged Inv-loop μ-loop
 element-set-from-judged c = search needs
 
 -- the record of the slot found is cleared, where there is one
-cleared : (c : tie.Joined2 Inv-loop μ-loop) → let turn = c .before .before in c .if2 .judged .slots ≡ set (turn .before .before .before .judge .result .slots) (turn .loop .slot) blank
+cleared : (c : tie.Joined2 Inv-loop μ-loop)
+    → let turn = c .before .before in c .if2 .judged .slots ≡ set (turn .before .before .before .judge .result .slots) (turn .loop .slot) blank
 cleared c =
     let turn = c .before .before in
     let judged = turn .before .before .before in
     ⊎-elim
     (λ w. ap (λ (judged : Judged). judged .slots) (w .1))
-    (λ w. ap (λ (judged : Judged). judged .slots) (w .1) ∙ sym (set-out (judged .judge .result .slots) (turn .loop .slot) blank (omega (arith, long judged, w .0 .left))))
+    (λ w. ap (λ (judged : Judged). judged .slots) (w .1)
+    ∙ sym (set-out (judged .judge .result .slots) (turn .loop .slot) blank (omega (arith, long judged, w .0 .left))))
     (c .if2 .came)
 
 number-at-requires : tie.Need-number-at-requires Inv-loop μ-loop
@@ -108,7 +117,9 @@ returns c =
     let judged = asked .before in
     let args = judged .before .before .args in
     let begun = turn .before .first-slot in
-    answered (args .chains .slots) (eight judged) (args .address) (args .message-number) (asked .first-refusal .result) (begun .result) (turn .loop .slot) (c .number-at .result) (joined .if2 .judged .slots)
+    answered (args .chains .slots) (eight judged) (args .address) (args .message-number)
+    (asked .first-refusal .result) (begun .result) (turn .loop .slot) (c .number-at .result)
+    (joined .if2 .judged .slots)
     (rw (← ap (λ (judged : Judged). judged .«is_sound») (judged .judge .ensures)) (asked .first-refusal .ensures))
     (begun .ensures)
     (rw (← same judged) (found (joined .before)))

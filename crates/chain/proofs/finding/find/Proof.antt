@@ -41,19 +41,28 @@ loop-less c = search needs
 loop-again : tie.Need-loop-again Inv-loop μ-loop
 loop-again c =
     let turn = c .before .before .before in
-    let start = turn .before .before in
-    (omega arith, turn .before .loop .inv .1 ∙ found-later (isOf (start .args .address) (start .args .message-number)) (start .args .t1) blank (turn .before .loop .at) (omega (arith, long start)) (sym (c .before .is-of .ensures) ∙ c .if1 .left))
+    let start = turn .before .before in (
+      omega arith,
+      turn .before .loop .inv .1
+          ∙ found-later (isOf (start .args .address) (start .args .message-number)) (start .args .t1) blank
+          (turn .before .loop .at) (omega (arith, long start)) (sym (c .before .is-of .ensures) ∙ c .if1 .left),
+    )
 
 returns : tie.Need-returns Inv-loop μ-loop
 returns c =
     let start = c .before .before in
-    sym (c .before .loop .inv .1 ∙ found-none (isOf (start .args .address) (start .args .message-number)) (start .args .t1) blank (c .before .loop .at) (omega (arith, long start)))
+    sym
+    (c .before .loop .inv .1
+    ∙ found-none (isOf (start .args .address) (start .args .message-number)) (start .args .t1) blank (c .before .loop .at) (omega (arith, long start)))
 
 returns-2 : tie.Need-returns-2 Inv-loop μ-loop
 returns-2 c =
     let turn = c .before .before .before in
     let start = turn .before .before in
-    sym (turn .before .loop .inv .1 ∙ found-here (isOf (start .args .address) (start .args .message-number)) (start .args .t1) blank (turn .before .loop .at) (omega (arith, long start)) (sym (c .before .is-of .ensures) ∙ c .if1 .taken))
+    sym
+    (turn .before .loop .inv .1
+    ∙ found-here (isOf (start .args .address) (start .args .message-number)) (start .args .t1) blank
+    (turn .before .loop .at) (omega (arith, long start)) (sym (c .before .is-of .ensures) ∙ c .if1 .taken))
 
 pub find-spec : {M : Type 1} → statement M
 find-spec =

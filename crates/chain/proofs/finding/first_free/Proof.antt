@@ -44,8 +44,12 @@ loop-less c = search needs
 loop-again : tie.Need-loop-again Inv-loop μ-loop
 loop-again c =
     let turn = c .before .before .before in
-    let start = turn .before .before in
-    (omega arith, turn .before .loop .inv .1 ∙ found-later isFree (start .args .t1) blank (turn .before .loop .slot) (omega (arith, long start)) (rw (ne-eqb (getD (start .args .t1) (turn .before .loop .slot) blank .«is_open») 0 (c .if1 .left))))
+    let start = turn .before .before in (
+      omega arith,
+      turn .before .loop .inv .1
+          ∙ found-later isFree (start .args .t1) blank (turn .before .loop .slot) (omega (arith, long start))
+          (rw (ne-eqb (getD (start .args .t1) (turn .before .loop .slot) blank .«is_open») 0 (c .if1 .left))),
+    )
 
 returns : tie.Need-returns Inv-loop μ-loop
 returns c =
@@ -56,7 +60,10 @@ returns-2 : tie.Need-returns-2 Inv-loop μ-loop
 returns-2 c =
     let turn = c .before .before .before in
     let start = turn .before .before in
-    sym (turn .before .loop .inv .1 ∙ found-here isFree (start .args .t1) blank (turn .before .loop .slot) (omega (arith, long start)) (rw (eq-eqb (getD (start .args .t1) (turn .before .loop .slot) blank .«is_open») 0 (c .if1 .taken))))
+    sym
+    (turn .before .loop .inv .1
+    ∙ found-here isFree (start .args .t1) blank (turn .before .loop .slot) (omega (arith, long start))
+    (rw (eq-eqb (getD (start .args .t1) (turn .before .loop .slot) blank .«is_open») 0 (c .if1 .taken))))
 
 pub first-free-spec : {M : Type 1} → statement M
 first-free-spec =

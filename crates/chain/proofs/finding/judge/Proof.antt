@@ -19,7 +19,8 @@ use Rattle.chain.proofs.finding.judge.Tie as tie
 abbrev Inv-loop2 : tie.InvT-loop2
 Inv-loop2 judged i chain j₀ j =
     (i + 1 ≤ j) × (j ≤ 8)
-    × (i + 1 + find (chain .address) (chain .«message_number») (drop (i + 1) (judged .slots)) ≡ j + find (chain .address) (chain .«message_number») (drop j (judged .slots)))
+    × (i + 1 + find (chain .address) (chain .«message_number») (drop (i + 1) (judged .slots))
+    ≡ j + find (chain .address) (chain .«message_number») (drop j (judged .slots)))
 
 abbrev μ-loop2 : tie.MeasureT-loop2
 μ-loop2 judged i chain j₀ j = 8 - j
@@ -54,7 +55,11 @@ returns : tie.Need-returns Inv-loop2 μ-loop2 Inv-loop μ-loop
 returns c =
     let turn = c .before .before .before in
     let start = turn .before .before in
-    ap (answer start) (sym (turn .before .loop .inv .1 ∙ unsound (start .args .slots) (turn .before .loop .i) (omega (arith, long start)) (sym (c .before .is-sound .ensures) ∙ not-true (c .before .is-sound .result) (c .if1 .taken))))
+    ap (answer start)
+    (sym
+    (turn .before .loop .inv .1
+    ∙ unsound (start .args .slots) (turn .before .loop .i) (omega (arith, long start))
+    (sym (c .before .is-sound .ensures) ∙ not-true (c .before .is-sound .result) (c .if1 .taken))))
 
 add-j : tie.Need-add-j Inv-loop2 μ-loop2 Inv-loop μ-loop
 add-j c = search needs
@@ -79,8 +84,14 @@ returns-2 c =
     let turn = opened .before .before .before .before .before in
     let start = turn .before .before in
     let key = getD (start .args .slots) (turn .before .loop .i) blank in
-    let found = found-here (isOf (key .address) (key .«message_number»)) (start .args .slots) blank (at .loop2 .j) (omega (arith, long start)) (sym (c .before .is-of .ensures) ∙ c .if3 .taken) in
-    ap (answer start) (sym (turn .before .loop .inv .1 ∙ twice (start .args .slots) (turn .before .loop .i) (omega (arith, long start)) (opened .if2 .taken) (omega (arith, long start, at .loop2 .inv .2 ∙ found))))
+    let found =
+    found-here (isOf (key .address) (key .«message_number»)) (start .args .slots) blank (at .loop2 .j)
+    (omega (arith, long start)) (sym (c .before .is-of .ensures) ∙ c .if3 .taken) in
+    ap (answer start)
+    (sym
+    (turn .before .loop .inv .1
+    ∙ twice (start .args .slots) (turn .before .loop .i) (omega (arith, long start)) (opened .if2 .taken)
+    (omega (arith, long start, at .loop2 .inv .2 ∙ found))))
 
 add-j-2 : tie.Need-add-j-2 Inv-loop2 μ-loop2 Inv-loop μ-loop
 add-j-2 c = search needs
@@ -94,8 +105,13 @@ loop2-again c =
     let at = c .before .before .before .before in
     let turn = at .before .before .before .before .before .before in
     let start = turn .before .before in
-    let key = getD (start .args .slots) (turn .before .loop .i) blank in
-    (omega arith, omega arith, at .loop2 .inv .2 ∙ found-later (isOf (key .address) (key .«message_number»)) (start .args .slots) blank (at .loop2 .j) (omega (arith, long start)) (sym (c .before .is-of .ensures) ∙ c .if3 .left))
+    let key = getD (start .args .slots) (turn .before .loop .i) blank in (
+      omega arith,
+      omega arith,
+      at .loop2 .inv .2
+          ∙ found-later (isOf (key .address) (key .«message_number»)) (start .args .slots) blank (at .loop2 .j)
+          (omega (arith, long start)) (sym (c .before .is-of .ensures) ∙ c .if3 .left),
+    )
 
 add-i : tie.Need-add-i Inv-loop2 μ-loop2 Inv-loop μ-loop
 add-i c = search needs
@@ -115,7 +131,10 @@ loop-again c =
     let good = sym (asked .is-sound .ensures) ∙ not-false (asked .is-sound .result) (c .before .before .if1 .left) in
     let rest : sound (drop i row) ≡ sound (drop (i + 1) row) =
     ⊎-elim
-    (λ w. alone row i (omega (arith, long start)) good (w .0 .taken) (w .1 .inv .2 ∙ found-none (isOf (key .address) (key .«message_number»)) row blank (w .1 .j) (omega (arith, long start, w .2 .left)) ∙ omega (arith, long start, w .1 .inv .1, w .2 .left)))
+    (λ w. alone row i (omega (arith, long start)) good (w .0 .taken)
+    (w .1 .inv .2
+    ∙ found-none (isOf (key .address) (key .«message_number»)) row blank (w .1 .j) (omega (arith, long start, w .2 .left))
+    ∙ omega (arith, long start, w .1 .inv .1, w .2 .left)))
     (λ w. closed row i (omega (arith, long start)) good (w .left))
     (c .if2 .came)
     in

@@ -25,7 +25,8 @@ returns : tie.Need-returns
 returns c =
     let found = c .before .before .before .before in
     let start = found .before in
-    turn-first (start .args .t1) (start .args .address) (start .args .heading) (long start) (found .find .result) (found .find .ensures) (c .before .first-free .result) (c .lower .result)
+    turn-first (start .args .t1) (start .args .address) (start .args .heading) (long start) (found .find .result)
+    (found .find .ensures) (c .before .first-free .result) (c .lower .result)
     (c .before .before .if1 .taken)
     (c .before .first-free .ensures)
     (c .lower .ensures)

@@ -37,7 +37,8 @@ returns c =
     let part = midOf place (length buffer - place) buffer in
     let room : length part ≡ length buffer - place = mid-len place (length buffer) buffer (omega arith) in
     let told = text-accepted (start .args .words .now) (length part) .1 (omega (arith, start .pre)) in
-    ap (putMid place (length buffer - place) buffer) (c .before .before .write-text .ensures .1 ∙ given-writes (textOf (length part) (start .args .words .now)) part text told)
+    ap (putMid place (length buffer - place) buffer)
+    (c .before .before .write-text .ensures .1 ∙ given-writes (textOf (length part) (start .args .words .now)) part text told)
     ∙ part-written buffer place (length buffer) (omega (arith, start .pre)) (omega arith) text (omega (arith, start .pre))
 
 pub write-at-spec : {M : Type 1} → statement M

@@ -18,7 +18,18 @@ use Rattle.chain.proofs.one_chain.fate.Tie as tie
 -- a chain that goes on and awaits an F
 abbrev asGrown : Chain → FragmentRead → ℕ → ℕ → ChainFate
 asGrown c h next sum =
-    record { number = 0; chain = record { «is_open» = 1; address = c .address; «message_number» = c .«message_number»; «next_fragment» = next; sum = sum; characters = charactersAfter c h } }
+    record {
+      number = 0;
+      chain =
+          record {
+            «is_open» = 1;
+            address = c .address;
+            «message_number» = c .«message_number»;
+            «next_fragment» = next;
+            sum = sum;
+            characters = charactersAfter c h;
+          };
+    }
 
 -- a sum of what is left of two numbers, as far as it is kept
 sum-of : (c : Chain) (h : FragmentRead) → (c .sum % 128 + h .sum % 128) % 128 ≡ sumAfter c h
@@ -66,7 +77,11 @@ returns-4 c =
     let start = asked .before .before .before in
     let on : goesOn (start .args .heading) ≡ true = ap not (ne-eqb (start .args .heading .continued) 0 (c .before .before .before .if4 .taken)) in
     ap₂ (asGrown (start .args .chain) (start .args .heading)) (c .before .before .next-number .ensures) (sum-of (start .args .chain) (start .args .heading))
-    ∙ ap asFate (sym (goes-on (start .args .chain) (start .args .heading) (record { turn = asked .if1 .left; fits = omega (arith, room .before .before .before .if2 .left, room .if3 .left); total = λ ends. absurd (not-both (goesOn (start .args .heading)) on ends) }) on))
+    ∙ ap asFate (sym (goes-on (start .args .chain) (start .args .heading) (record {
+      turn = asked .if1 .left;
+      fits = omega (arith, room .before .before .before .if2 .left, room .if3 .left);
+      total = λ ends. absurd (not-both (goesOn (start .args .heading)) on ends);
+    }) on))
 
 lost-requires-4 : tie.Need-lost-requires-4
 lost-requires-4 c κs = search needs
@@ -77,14 +92,23 @@ returns-5 c =
     let asked = room .before .before .before .before .before in
     let start = asked .before .before .before in
     c .lost4 .ensures
-    ∙ ap asFate (sym (wrong-total (start .args .chain) (start .args .heading) (asked .if1 .left) (omega (arith, room .before .before .before .if2 .left, room .if3 .left)) (ap not (eq-eqb (start .args .heading .continued) 0 (c .before .before .if4 .left))) (λ same. c .before .if5 .taken (sum-of (start .args .chain) (start .args .heading) ∙ same))))
+    ∙ ap asFate
+    (sym
+    (wrong-total (start .args .chain) (start .args .heading) (asked .if1 .left)
+    (omega (arith, room .before .before .before .if2 .left, room .if3 .left))
+    (ap not (eq-eqb (start .args .heading .continued) 0 (c .before .before .if4 .left)))
+    (λ same. c .before .if5 .taken (sum-of (start .args .chain) (start .args .heading) ∙ same))))
 
 returns-6 : tie.Need-returns-6
 returns-6 c =
     let room = c .before .before .before .before .before in
     let asked = room .before .before .before .before .before in
     let start = asked .before .before .before in
-    ap asFate (sym (is-whole (start .args .chain) (start .args .heading) (record { turn = asked .if1 .left; fits = omega (arith, room .before .before .before .if2 .left, room .if3 .left); total = λ ends. sym (sum-of (start .args .chain) (start .args .heading)) ∙ c .if5 .left }) (ap not (eq-eqb (start .args .heading .continued) 0 (c .before .if4 .left)))))
+    ap asFate (sym (is-whole (start .args .chain) (start .args .heading) (record {
+      turn = asked .if1 .left;
+      fits = omega (arith, room .before .before .before .if2 .left, room .if3 .left);
+      total = λ ends. sym (sum-of (start .args .chain) (start .args .heading)) ∙ c .if5 .left;
+    }) (ap not (eq-eqb (start .args .heading .continued) 0 (c .before .if4 .left)))))
 
 pub fate-spec : {M : Type 1} → statement M
 fate-spec =

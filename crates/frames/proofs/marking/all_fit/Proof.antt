@@ -40,13 +40,18 @@ returns : tie.Need-returns Inv-loop μ-loop
 returns c =
     let turn = c .before .before .before in
     let met = turn .before in
-    sym (met .loop .inv .2 ∙ ask-frame (met .before .before .args .t1) (met .before .looked-at .result) (met .loop .i) (turn .loop-test .taken) (met .loop .inv .1) (omega arith))
+    sym
+    (met .loop .inv .2
+    ∙ ask-frame (met .before .before .args .t1) (met .before .looked-at .result) (met .loop .i) (turn .loop-test .taken) (met .loop .inv .1) (omega arith))
 
 returns-2 : tie.Need-returns-2 Inv-loop μ-loop
 returns-2 c =
     let turn = c .before .before .before .before .before in
     let met = turn .before in
-    sym (met .loop .inv .2 ∙ ask-collapse (met .before .before .args .t1) (met .before .looked-at .result) (met .loop .i) (turn .loop-test .taken) (met .loop .inv .1) (omega arith) (omega arith))
+    sym
+    (met .loop .inv .2
+    ∙ ask-collapse (met .before .before .args .t1) (met .before .looked-at .result) (met .loop .i)
+    (turn .loop-test .taken) (met .loop .inv .1) (omega arith) (omega arith))
 
 add-i : tie.Need-add-i Inv-loop μ-loop
 add-i c = search needs
@@ -60,7 +65,9 @@ loop-again c =
     let met = turn .before in (
       omega arith,
       omega arith,
-      met .loop .inv .2 ∙ ask-others (met .before .before .args .t1) (met .before .looked-at .result) (met .loop .i) (turn .loop-test .taken) (met .loop .inv .1) (omega arith) (omega arith),
+      met .loop .inv .2
+          ∙ ask-others (met .before .before .args .t1) (met .before .looked-at .result) (met .loop .i)
+          (turn .loop-test .taken) (met .loop .inv .1) (omega arith) (omega arith),
     )
 
 returns-3 : tie.Need-returns-3 Inv-loop μ-loop

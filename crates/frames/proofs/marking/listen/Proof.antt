@@ -52,7 +52,8 @@ returns-3 c =
     let all = small .before .before .before .before .args .all in
     let frames = heard (take (all .count) (all .listeners)) in
     let masks : c .before .masks-of .result ≡ masksOf frames =
-    rw (c .before .masks-of .ensures, c .before .before .merged .ensures) (repeated frames (heard-repeats (take (all .count) (all .listeners)) (fit (small .before)))) in
+    rw (c .before .masks-of .ensures, c .before .before .merged .ensures)
+    (repeated frames (heard-repeats (take (all .count) (all .listeners)) (fit (small .before)))) in
     let count : c .marked-bits .result ≡ countOf frames = c .marked-bits .ensures ∙ ap onesOf masks ∙ counted frames in
     rw (count, masks, fit (small .before), le-ltb 16 (all .count) (omega (arith, small .if2 .left)))
 

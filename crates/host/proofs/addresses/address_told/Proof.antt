@@ -22,7 +22,9 @@ returns : tie.Need-returns
 returns c = sym (ap (λ (a : Addressed). addressFrom (toldAddressed a)) (c .before .answer .given .1))
 
 returns-2 : tie.Need-returns-2
-returns-2 c = ap {B = MortisevaneFound} (λ (n : ℕ). record { number = n; address = 0 }) (c .number .ensures) ∙ sym (ap (λ (a : Addressed). addressFrom (toldAddressed a)) (c .before .before .answer2 .given .1))
+returns-2 c =
+    ap {B = MortisevaneFound} (λ (n : ℕ). record { number = n; address = 0 }) (c .number .ensures)
+    ∙ sym (ap (λ (a : Addressed). addressFrom (toldAddressed a)) (c .before .before .answer2 .given .1))
 
 pub address-told-spec : {M : Type 1} → statement M
 address-told-spec = tie.close (tie.spec enum-known-answer enum-known-answer-2 number-requires returns returns-2)

@@ -22,10 +22,14 @@ number-requires-2 : tie.Need-number-requires-2
 number-requires-2 c κs = search needs
 
 returns : tie.Need-returns
-returns c = ap {B = MortisevaneClass} (λ (n : ℕ). record { number = 0; class = n }) (c .number .ensures) ∙ sym (ap (λ (a : Classed). classFrom (toldClassed a)) (c .before .before .answer .given .1))
+returns c =
+    ap {B = MortisevaneClass} (λ (n : ℕ). record { number = 0; class = n }) (c .number .ensures)
+    ∙ sym (ap (λ (a : Classed). classFrom (toldClassed a)) (c .before .before .answer .given .1))
 
 returns-2 : tie.Need-returns-2
-returns-2 c = ap {B = MortisevaneClass} (λ (n : ℕ). record { number = n; class = 0 }) (c .number2 .ensures) ∙ sym (ap (λ (a : Classed). classFrom (toldClassed a)) (c .before .before .answer2 .given .1))
+returns-2 c =
+    ap {B = MortisevaneClass} (λ (n : ℕ). record { number = n; class = 0 }) (c .number2 .ensures)
+    ∙ sym (ap (λ (a : Classed). classFrom (toldClassed a)) (c .before .before .answer2 .given .1))
 
 pub class-told-spec : {M : Type 1} → statement M
 class-told-spec = tie.close (tie.spec enum-known-answer number-requires enum-known-answer-2 number-requires-2 returns returns-2)

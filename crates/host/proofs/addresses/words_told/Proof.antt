@@ -28,7 +28,9 @@ returns-2 : tie.Need-returns-2
 returns-2 c = sym (ap (λ (a : Worded). wordsFrom (toldWorded a)) (c .before .answer2 .given .1))
 
 returns-3 : tie.Need-returns-3
-returns-3 c = ap {B = MortisevaneWords} (λ (n : ℕ). record { number = n; count = 0; first = 0; second = 0 }) (c .number .ensures) ∙ sym (ap (λ (a : Worded). wordsFrom (toldWorded a)) (c .before .before .answer3 .given .1))
+returns-3 c =
+    ap {B = MortisevaneWords} (λ (n : ℕ). record { number = n; count = 0; first = 0; second = 0 }) (c .number .ensures)
+    ∙ sym (ap (λ (a : Worded). wordsFrom (toldWorded a)) (c .before .before .answer3 .given .1))
 
 pub words-told-spec : {M : Type 1} → statement M
 words-told-spec = tie.close (tie.spec enum-known-answer enum-known-answer-2 enum-known-answer-3 number-requires returns returns-2 returns-3)

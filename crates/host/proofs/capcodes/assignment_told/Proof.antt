@@ -22,7 +22,9 @@ returns : tie.Need-returns
 returns c = sym (ap (λ (a : AssignAnswer). assignmentFrom (toldAssign a)) (c .before .answer .given .1))
 
 returns-2 : tie.Need-returns-2
-returns-2 c = ap {B = MortisevaneAssignment} (λ (n : ℕ). record { number = n; phase = 0; base = 0 }) (c .number .ensures) ∙ sym (ap (λ (a : AssignAnswer). assignmentFrom (toldAssign a)) (c .before .before .answer2 .given .1))
+returns-2 c =
+    ap {B = MortisevaneAssignment} (λ (n : ℕ). record { number = n; phase = 0; base = 0 }) (c .number .ensures)
+    ∙ sym (ap (λ (a : AssignAnswer). assignmentFrom (toldAssign a)) (c .before .before .answer2 .given .1))
 
 pub assignment-told-spec : {M : Type 1} → statement M
 assignment-told-spec = tie.close (tie.spec enum-known-answer enum-known-answer-2 number-requires returns returns-2)

@@ -22,7 +22,16 @@ returns : tie.Need-returns
 returns c = sym (ap (λ (a : ReadAnswer). capcodeFrom (toldRead a)) (c .before .answer .given .1))
 
 returns-2 : tie.Need-returns-2
-returns-2 c = ap {B = MortisevaneCapcode} (λ (n : ℕ). record { number = n; letter = 0; frame = 0; collapse = 0; phase = 0; base = 0; address = 0 }) (c .number .ensures) ∙ sym (ap (λ (a : ReadAnswer). capcodeFrom (toldRead a)) (c .before .before .answer2 .given .1))
+returns-2 c =
+    ap {B = MortisevaneCapcode} (λ (n : ℕ). record {
+      number = n;
+      letter = 0;
+      frame = 0;
+      collapse = 0;
+      phase = 0;
+      base = 0;
+      address = 0;
+    }) (c .number .ensures) ∙ sym (ap (λ (a : ReadAnswer). capcodeFrom (toldRead a)) (c .before .before .answer2 .given .1))
 
 pub capcode-told-spec : {M : Type 1} → statement M
 capcode-told-spec = tie.close (tie.spec enum-known-answer enum-known-answer-2 number-requires returns returns-2)

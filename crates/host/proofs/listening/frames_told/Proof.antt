@@ -26,7 +26,8 @@ returns c =
 returns-2 : tie.Need-returns-2
 returns-2 c =
     let start = c .before .before .before .before .before in
-    ap {B = MortisevaneFrames} (λ (n : ℕ). record { number = n; count = 0; masks = start .args .answer .masks }) (c .number .ensures) ∙ sym (ap (λ (a : Listened). framesFrom (tellListened a (start .args .answer .masks))) (c .before .before .listened2 .given .1))
+    ap {B = MortisevaneFrames} (λ (n : ℕ). record { number = n; count = 0; masks = start .args .answer .masks }) (c .number .ensures)
+    ∙ sym (ap (λ (a : Listened). framesFrom (tellListened a (start .args .answer .masks))) (c .before .before .listened2 .given .1))
 
 pub frames-told-spec : {M : Type 1} → statement M
 frames-told-spec = tie.close (tie.spec enum-known-listened enum-known-listened-2 number-requires returns returns-2)

@@ -22,7 +22,9 @@ returns : tie.Need-returns
 returns c = sym (ap (λ (a : Awaited). waitFrom (toldAwaited a)) (c .before .answer .given .1))
 
 returns-2 : tie.Need-returns-2
-returns-2 c = ap {B = MortisevaneWait} (λ (n : ℕ). record { number = n; frames = 0 }) (c .number .ensures) ∙ sym (ap (λ (a : Awaited). waitFrom (toldAwaited a)) (c .before .before .answer2 .given .1))
+returns-2 c =
+    ap {B = MortisevaneWait} (λ (n : ℕ). record { number = n; frames = 0 }) (c .number .ensures)
+    ∙ sym (ap (λ (a : Awaited). waitFrom (toldAwaited a)) (c .before .before .answer2 .given .1))
 
 pub wait-told-spec : {M : Type 1} → statement M
 wait-told-spec = tie.close (tie.spec enum-known-answer enum-known-answer-2 number-requires returns returns-2)

@@ -23,7 +23,8 @@ register-after-requires c κs = search needs
 returns-2 : tie.Need-returns-2
 returns-2 c =
     let m = c .before .before .before .args .mirror in
-    rw (c .register-after .ensures (m .talking), c .before .talking-after .ensures, lt-ltb (m .register) (2 ^ 24) (omega (arith, c .before .before .if1 .left)))
+    rw
+    (c .register-after .ensures (m .talking), c .before .talking-after .ensures, lt-ltb (m .register) (2 ^ 24) (omega (arith, c .before .before .if1 .left)))
 
 pub step-spec : {M : Type 1} → statement M
 step-spec =

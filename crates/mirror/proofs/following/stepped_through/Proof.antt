@@ -43,8 +43,12 @@ loop-again : tie.Need-loop-again Inv-loop μ-loop
 unfolding runOf
 loop-again c =
     let turn = c .before .before .before .before in
-    let packets = turn .before .before .args .packets .now in
-    (omega arith, turn .loop .inv .1 ∙ rw (add-one, drop-cons packets (turn .loop .i) 0 (omega arith), c .register-after .ensures (turn .loop .talking), c .before .talking-after .ensures))
+    let packets = turn .before .before .args .packets .now in (
+      omega arith,
+      turn .loop .inv .1
+          ∙ rw
+          (add-one, drop-cons packets (turn .loop .i) 0 (omega arith), c .register-after .ensures (turn .loop .talking), c .before .talking-after .ensures),
+    )
 
 returns : tie.Need-returns Inv-loop μ-loop
 unfolding runOf

@@ -21,13 +21,17 @@ numbered-of-requires : tie.Need-numbered-of-requires
 numbered-of-requires c κs = search needs
 
 returns-3 : tie.Need-returns-3
-returns-3 c = c .numbered-of .ensures ∙ simp (ne-eqb _ _ (c .before .before .before .if1 .left), ne-eqb _ _ (c .before .before .if2 .left), eq-eqb _ _ (c .before .if3 .taken))
+returns-3 c =
+    c .numbered-of .ensures
+    ∙ simp (ne-eqb _ _ (c .before .before .before .if1 .left), ne-eqb _ _ (c .before .before .if2 .left), eq-eqb _ _ (c .before .if3 .taken))
 
 spare-of-requires : tie.Need-spare-of-requires
 spare-of-requires c κs = search needs
 
 returns-4 : tie.Need-returns-4
-returns-4 c = c .spare-of .ensures ∙ simp (ne-eqb _ _ (c .before .before .before .if1 .left), ne-eqb _ _ (c .before .before .if2 .left), ne-eqb _ _ (c .before .if3 .left))
+returns-4 c =
+    c .spare-of .ensures
+    ∙ simp (ne-eqb _ _ (c .before .before .before .if1 .left), ne-eqb _ _ (c .before .before .if2 .left), ne-eqb _ _ (c .before .if3 .left))
 
 pub short-of-spec : {M : Type 1} → statement M
 short-of-spec =
