@@ -1,20 +1,21 @@
 -- Worked examples: texts cut by hand from Tables 44, 45 and 60, what is refused, and what each premise of the laws is for.
-use Prim.Native.Nat.{ℕ, _%_}
-use mathlib.Core.List.{List, [], _∷_, map, flatten}
+use Prim.Native.Nat.{ℕ, _%_, _<_}
+use mathlib.Core.Bool.{true, false}
+use mathlib.Core.List.{List, [], _∷_, _++_, map, flatten}
 use mathlib.Core.Path.{_≡_, refl}
 use native.Mathlib.Omega.{arith}
-use lib.ListN.{length, replicate}
+use lib.ListN.{length, replicate, take, drop}
 use Rattle.laws.specs.Lists.{all, sumBy}
 use Rattle.laws.specs.Numerals.{number, digits}
 use Rattle.laws.specs.Texts.{bytesOf}
-use Rattle.sums.specs.Sums.{whole}
+use Rattle.sums.specs.Sums.{whole, signatureOf}
 use Rattle.refusal.specs.Told.{Told, given, numberTold}
-use Rattle.fragment.specs.Fragments.{cellsOf, wordsOf, fragmentOf, fragmentNumberIn, continuedIn, withoutFill, textIn, sumIn}
+use Rattle.fragment.specs.Fragments.{etx, headFor, cellsOf, wordsOf, fragmentOf, fragmentNumberIn, continuedIn, withoutFill, textIn, sumIn}
 use Rattle.fragment.specs.Answers.{headingOf}
 use Rattle.fragment.specs.declared.Marks.{Marks}
-use Rattle.fragment.specs.Cutting.{sendable, messageOf, fragmentAt, fragmentsFrom, cut}
+use Rattle.fragment.specs.Cutting.{sendable, messageOf, roomFor, fragmentAt, fragmentsFrom, cut}
 use Rattle.fragment.specs.CutAnswers.{cutOf, wordsAfter}
-use Rattle.fragment.proofs.CutLaws.{accepted-told, texts}
+use Rattle.fragment.proofs.CutLaws.{accepted-told, texts, WellCut, well-cut}
 
 -- N, R and M
 abbrev numbers : ℕ → ℕ → ℕ → Marks
@@ -84,6 +85,42 @@ five-texts = refl
 pub last-short : map length (cut (numbers 0 0 0) 4 (bytesOf "ABCDEFGHIJKLM")) ≡ 4 ∷ 3 ∷ []
 unfolding cut fragmentsFrom fragmentAt fragmentOf messageOf wordsOf
 last-short = refl
+
+-- ---- how full the fragments are
+
+-- "ABCDEFGHIJKLM" in fragments of two words is cut as 01 says: the law's premises hold here
+pub five-well-cut : WellCut 2 (bytesOf "ABCDEFGHIJKLM") five
+unfolding sendable all
+five-well-cut = well-cut {marks = numbers 0 0 0} {largest = 2} (record { numbers = refl; size = refl; short = omega arith; characters = refl })
+
+-- the room of two words, in a first fragment and in another, and that of 85: all but the last of those five have two or three characters
+pub rooms : (roomFor true 2 ≡ 2) × (roomFor false 2 ≡ 3) × (roomFor true 85 ≡ 251) × (roomFor false 85 ≡ 252)
+rooms = (refl, refl, refl, refl)
+
+-- "HELLO!" in fragments of three words, cut by another writer: fill stands in the first one, where its "O" has room
+abbrev loose : List (List ℕ)
+loose =
+    let characters = bytesOf "HELL" ++ etx ∷ bytesOf "O!" ++ etx ∷ [] in
+    fragmentOf true (headFor true 0 0 5 3 1) (signatureOf characters ∷ take 5 characters) ∷ fragmentOf false (headFor false 0 0 5 0 0) (drop 5 characters) ∷ []
+
+-- both are good fragments, the first has the largest size, and their texts joined are the text
+pub loose-read : (map (λ (words : List ℕ). numberTold (headingOf words)) loose ≡ 0 ∷ 0 ∷ []) × (map length loose ≡ 3 ∷ 2 ∷ []) × (flatten (map textIn loose) ≡ bytesOf "HELLO!")
+unfolding fragmentOf headingOf cellsOf wordsOf withoutFill number digits sumBy all flatten
+loose-read = (refl, refl, refl)
+
+-- but the first is not full: it has four characters and room for five
+pub loose-refuted : WellCut 3 (bytesOf "HELLO!") loose → ⊥
+unfolding fragmentOf cellsOf wordsOf withoutFill number digits sumBy
+loose-refuted w =
+    let filling : _≡_ {A = ℕ} 4 5 = w .full 0 (omega arith) .filling in
+    omega arith
+
+-- "HI" in one fragment of three words, the last of which is fill: it is read, but two words hold the text
+pub long-refuted : WellCut 3 (bytesOf "HI") (fragmentOf true (headFor true 0 0 5 3 0) (110 ∷ bytesOf "HI" ++ replicate 3 etx) ∷ []) → ⊥
+unfolding fragmentOf cellsOf wordsOf withoutFill number digits sumBy
+long-refuted w =
+    let needed : 2 < 2 = w .shortest .needed 2 (omega arith) (omega arith) in
+    omega arith
 
 -- the longest text: 1,009 cells and two fills are 337 words, four fragments of 84 and one of one, with a first word each
 pub longest : cutOf 342 (numbers 63 1 1) 85 (replicate 1008 65) ≡ given (5 ∷ 342 ∷ [])
