@@ -42,22 +42,22 @@ pub two-fragments : cut (numbers 5 0 0) 2 (bytesOf "HELLO") ≡ (0x00BEC3 ∷ 0x
 unfolding cut fragmentsFrom fragmentAt fragmentOf messageOf wordsOf number sumBy
 two-fragments = refl
 
--- .. what is told of them: 11, 72 and 69 make 152, of which 24 is left; 76, 76 and 79 make 231, of which 103 is left; both make 127
+-- what is told of the two fragments of "HELLO": 11, 72 and 69 make 152, of which 24 is left; 76, 76 and 79 make 231, of which 103 is left; both make 127
 pub two-told : map headingOf (cut (numbers 5 0 0) 2 (bytesOf "HELLO")) ≡ given (1 ∷ 3 ∷ 5 ∷ 0 ∷ 0 ∷ 11 ∷ 24 ∷ 2 ∷ []) ∷ given (0 ∷ 0 ∷ 5 ∷ 0 ∷ 0 ∷ 0 ∷ 103 ∷ 3 ∷ []) ∷ []
 unfolding cut fragmentsFrom fragmentAt fragmentOf messageOf headingOf cellsOf wordsOf withoutFill number digits sumBy all
 two-told = refl
 
--- .. their texts joined, as the law says, whose premises hold here
+-- the texts of the two fragments joined are "HELLO", as the law says, whose premises hold here
 pub two-joined : flatten (map textIn (cut (numbers 5 0 0) 2 (bytesOf "HELLO"))) ≡ bytesOf "HELLO"
 unfolding sendable all
 two-joined = texts {marks = numbers 5 0 0} {largest = 2} (record { numbers = refl; size = refl; short = omega arith; characters = refl })
 
--- .. and in lent words: those behind stay as they were
-pub words-behind : wordsAfter (numbers 5 0 0) 2 (bytesOf "HELLO") (1 ∷ 2 ∷ 3 ∷ 4 ∷ 5 ∷ 6 ∷ []) ≡ 0x00BEC3 ∷ 0x11640B ∷ 0x00A21A ∷ 0x13E64C ∷ 5 ∷ 6 ∷ []
+-- the two fragments in lent words: those after them stay as they were
+pub words-after : wordsAfter (numbers 5 0 0) 2 (bytesOf "HELLO") (1 ∷ 2 ∷ 3 ∷ 4 ∷ 5 ∷ 6 ∷ []) ≡ 0x00BEC3 ∷ 0x11640B ∷ 0x00A21A ∷ 0x13E64C ∷ 5 ∷ 6 ∷ []
 unfolding cutOf cut fragmentsFrom fragmentAt fragmentOf messageOf wordsOf number sumBy sendable all flatten
-words-behind = refl
+words-after = refl
 
--- .. and a refusal leaves them all
+-- a refusal leaves all lent words as they were
 pub refused-leaves : wordsAfter (numbers 5 0 0) 2 (bytesOf "HELLO") (1 ∷ 2 ∷ 3 ∷ []) ≡ 1 ∷ 2 ∷ 3 ∷ []
 unfolding cutOf cut fragmentsFrom fragmentAt fragmentOf messageOf wordsOf number sumBy sendable all flatten
 refused-leaves = refl
@@ -66,17 +66,17 @@ refused-leaves = refl
 abbrev five : List (List ℕ)
 five = cut (numbers 0 0 0) 2 (bytesOf "ABCDEFGHIJKLM")
 
--- .. F is 3, then 0, 1, 2 and 0 again
+-- F of the five fragments is 3, then 0, 1, 2 and 0 again
 pub five-numbers : map fragmentNumberIn five ≡ 3 ∷ 0 ∷ 1 ∷ 2 ∷ 0 ∷ []
 unfolding cut fragmentsFrom fragmentAt fragmentOf messageOf wordsOf number sumBy
 five-numbers = refl
 
--- .. C is 1 in all but the last
+-- C of the five fragments is 1 in all but the last
 pub five-continued : map continuedIn five ≡ 1 ∷ 1 ∷ 1 ∷ 1 ∷ 0 ∷ []
 unfolding cut fragmentsFrom fragmentAt fragmentOf messageOf wordsOf number sumBy
 five-continued = refl
 
--- .. and each has its part of the text
+-- each of the five fragments has its part of the text
 pub five-texts : map textIn five ≡ bytesOf "AB" ∷ bytesOf "CDE" ∷ bytesOf "FGH" ∷ bytesOf "IJK" ∷ bytesOf "LM" ∷ []
 unfolding cut fragmentsFrom fragmentAt fragmentOf messageOf cellsOf wordsOf withoutFill number digits sumBy
 five-texts = refl
@@ -169,12 +169,12 @@ pub etx-dropped : flatten (map textIn (cut (numbers 5 0 0) 2 (65 ∷ 0x03 ∷ 66
 unfolding cut fragmentsFrom fragmentAt fragmentOf messageOf cellsOf wordsOf withoutFill number digits sumBy flatten
 etx-dropped = refl
 
--- a character of eight bits: its highest is added to the cell behind it, here the fill, which is 4 then and no fill
+-- a character of eight bits: its highest is added to the cell after it, here the fill, which is 4 then and no fill
 pub high-misread : flatten (map textIn (cut (numbers 5 0 0) 2 (0x80 ∷ []))) ≡ 0 ∷ 4 ∷ []
 unfolding cut fragmentsFrom fragmentAt fragmentOf messageOf cellsOf wordsOf withoutFill number digits sumBy flatten
 high-misread = refl
 
--- .. and the sum is not 127: 124, 0 and 4 make 128
+-- with a character of eight bits the sum is not 127: 124, 0 and 4 make 128
 pub high-sum : sumBy whole (map sumIn (cut (numbers 5 0 0) 2 (0x80 ∷ []))) % 128 ≡ 0
 unfolding cut fragmentsFrom fragmentAt fragmentOf messageOf cellsOf wordsOf number digits sumBy
 high-sum = refl
@@ -194,7 +194,7 @@ pub too-large : numberTold (headingOf (fragmentAt (numbers 5 0 0) 86 (replicate 
 unfolding fragmentAt fragmentOf messageOf headingOf wordsOf
 too-large = refl
 
--- behind the last fragment there is a first word alone
-pub none-behind : numberTold (headingOf (fragmentAt (numbers 5 0 0) 2 (bytesOf "HI") 1)) ≡ 9
+-- after the last fragment there is a first word alone
+pub none-after : numberTold (headingOf (fragmentAt (numbers 5 0 0) 2 (bytesOf "HI") 1)) ≡ 9
 unfolding fragmentAt fragmentOf messageOf headingOf wordsOf
-none-behind = refl
+none-after = refl

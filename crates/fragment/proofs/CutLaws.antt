@@ -97,14 +97,14 @@ module _ (marks : Marks) (largest : ℕ) (text : List ℕ) where
       let next : place + suc k ≡ suc place + k = omega arith in
       rw next (from-at (suc place) left k (omega arith))
 
-  -- .. the first of them
+  -- the first k of so many fragments from a place on
   from-take : (place left k : ℕ) → k ≤ left → take k (fragmentsFrom marks largest text place left) ≡ fragmentsFrom marks largest text place k
   unfolding fragmentsFrom
   from-take place left zero within = refl
   from-take place zero (suc k) within = absurd (omega arith)
   from-take place (suc left) (suc k) within = ap (λ (row : List (List ℕ)). fragmentAt marks largest text place ∷ row) (from-take (suc place) left k (omega arith))
 
-  -- .. all of them
+  -- as many fragments as there are, taken from the cut, are all of them
   all-taken : take (fragmentsFor largest (length text)) (cut marks largest text) ≡ cut marks largest text
   all-taken = take-all (fragmentsFor largest (length text)) (cut marks largest text) (omega (arith, count marks largest text))
 
@@ -218,14 +218,14 @@ module _ {marks : Marks} {largest : ℕ} {text : List ℕ} (a : Cuttable marks l
   first-alone =
       ap (λ (t : Told). eqb (valueTold t 1) firstNumber) (sym (heading-told (fragmentAt marks largest text place) fragment-good) ∙ good) ∙ first-number place
 
-  -- .. and its cells are summed
+  -- the sum that is read of it is that of its cells
   pub sum-at : sumIn (fragmentAt marks largest text place) ≡ sumBy whole (cellsAt largest text place) % 128
   unfolding fragmentAt
   sum-at = rw (cells-read (eqb place 0) _ (cellsAt largest text place) cells-held)
 
 -- ---- the text
 
--- characters of a text, and fill behind it: fill is dropped, and no character is
+-- characters of a text, and fill after it: fill is dropped, and no character is
 text-part : (text : List ℕ) (fill n place : ℕ) → sendable text ≡ true → withoutFill (take n (drop place (text ++ replicate fill etx))) ≡ take n (drop place text)
 unfolding sendable withoutFill all
 text-part [] fill n place good =
@@ -242,7 +242,7 @@ text-part (c ∷ text) fill (suc n) zero good =
 abbrev pub partAt : ℕ → List ℕ → ℕ → List ℕ
 partAt largest text place = take (cellsFor largest - bitOf (eqb place 0)) (drop (cellsFor largest * place - 1) text)
 
--- .. are what is read of it
+-- what is read of the fragment at a place is its part of the text
 part-is : (size : ℕ) (text : List ℕ) (place : ℕ) → 1 ≤ size → sendable text ≡ true
     → withoutFill (drop (bitOf (eqb place 0)) (take size (drop (size * place) (messageOf text)))) ≡ take (size - bitOf (eqb place 0)) (drop (size * place - 1) text)
 unfolding messageOf
@@ -259,7 +259,7 @@ part-is (suc size) text (suc place) some good =
 abbrev pub textSoFar : ℕ → List ℕ → ℕ → List ℕ
 textSoFar largest text so = take (cellsFor largest * so - 1) text
 
--- a part and those behind it, where the first of all is shorter by one
+-- a part and those after it, where the first of all is shorter by one
 parts-short : (size place left : ℕ) → 1 ≤ size
     → let short = bitOf (eqb place 0) in (size - short + size * left ≡ size * suc left - short) × (size * place - 1 + (size - short) ≡ size * suc place - 1)
 parts-short size zero left some = omega arith
@@ -291,14 +291,14 @@ module _ {marks : Marks} {largest : ℕ} {text : List ℕ} (a : Cuttable marks l
   text-so-far so within =
       rw (from-take marks largest text 0 (fragmentsFor largest (length text)) so within) (texts-from 0 so (omega arith) ∙ rw (mul-zero (cellsFor largest)))
 
-  -- .. where one more is joined
+  -- the text of the first fragments with that of the next joined to it
   pub text-step : (so : ℕ) → so < fragmentsFor largest (length text) → textSoFar largest text so ++ textIn (fragmentAt marks largest text so) ≡ textSoFar largest text (suc so)
   text-step so within =
       let size = cellsFor largest in
       let parts = parts-short size so 0 (omega (arith, size-limits largest (a .size) .0)) in
       rw (text-at so within, ← parts .1) (sym (take-add (size * so - 1) (size - bitOf (eqb so 0)) text))
 
-  -- .. and at the end all is there
+  -- the text of all fragments is the whole text
   pub text-ends : textSoFar largest text (fragmentsFor largest (length text)) ≡ text
   text-ends = take-all (cellsFor largest * fragmentsFor largest (length text) - 1) text (omega (arith, enough largest (length text) (size-limits largest (a .size) .0)))
 
@@ -342,7 +342,7 @@ begins largest place false two e =
     let later : 1 ≤ place = omega (arith, eqb-false place 0 e) in
     omega (arith, mul-le-mul-left (cellsFor largest) later)
 
--- where the text goes on behind a fragment, it fills the fragment's room
+-- where the text goes on after a fragment, it fills the fragment's room
 room-filled : (largest place characters : ℕ) (first : Bool) → 2 ≤ largest → eqb place 0 ≡ first → cellsFor largest * (place + 1) ≤ characters
     → min (cellsFor largest - bitOf first) (characters - (cellsFor largest * place - 1)) ≡ roomFor first largest
 room-filled largest place characters true two e more = omega (arith, begins largest place true two e)
@@ -438,7 +438,7 @@ module _ {marks : Marks} {largest : ℕ} {text : List ℕ} (a : Cuttable marks l
   sum-so-far so within =
       rw (from-take marks largest text 0 (fragmentsFor largest (length text)) so within) (sums-from 0 so (omega arith) ∙ rw (mul-zero (cellsFor largest)))
 
-  -- .. where one more is added
+  -- the sum of the first fragments with that of the next added to it
   pub sum-step : (so : ℕ) → so < fragmentsFor largest (length text) → (sumSoFar largest text so + sumIn (fragmentAt marks largest text so)) % 128 ≡ sumSoFar largest text (suc so)
   sum-step so within =
       let size = cellsFor largest in
@@ -446,7 +446,7 @@ module _ {marks : Marks} {largest : ℕ} {text : List ℕ} (a : Cuttable marks l
       rw (sum-at a so within, more, take-add (size * so) size (messageOf text), sum-join whole (take (size * so) (messageOf text)) (cellsAt largest text so))
       (sum-reduced (sumBy whole (take (size * so) (messageOf text))) _ _ (mod-mod (sumBy whole (cellsAt largest text so)) 128))
 
-  -- .. and at the end it is 127: signature, text and fill
+  -- the sum of all fragments is 127: signature, text and fill
   pub sum-ends : sumSoFar largest text (fragmentsFor largest (length text)) ≡ 127
   sum-ends =
       let all : length (messageOf text) ≤ cellsFor largest * fragmentsFor largest (length text) =
@@ -458,7 +458,7 @@ module _ {marks : Marks} {largest : ℕ} {text : List ℕ} (a : Cuttable marks l
   running-sum =
       (rw (all-taken marks largest text) at (sum-so-far (fragmentsFor largest (length text)) (omega arith))) ∙ sum-ends
 
--- ---- the fragments one behind the other
+-- ---- the fragments one after the other
 
 module _ (marks : Marks) (largest : ℕ) (text : List ℕ) (two : 2 ≤ largest) where
   -- from a place on, one of them begins at a multiple of the largest size
@@ -472,8 +472,8 @@ module _ (marks : Marks) (largest : ℕ) (text : List ℕ) (two : 2 ≤ largest)
   part-from place (suc left) (suc k) all within =
       let next : place + suc k ≡ suc place + k = omega arith in
       let size : length (fragmentAt marks largest text place) ≡ largest = sizes marks largest text two place (omega arith) in
-      let behind : largest * suc k ≡ length (fragmentAt marks largest text place) + largest * k = omega arith in
-      rw (next, behind, drop-append-add (fragmentAt marks largest text place) (flatten (fragmentsFrom marks largest text (suc place) left)) (largest * k))
+      let later : largest * suc k ≡ length (fragmentAt marks largest text place) + largest * k = omega arith in
+      rw (next, later, drop-append-add (fragmentAt marks largest text place) (flatten (fragmentsFrom marks largest text (suc place) left)) (largest * k))
       (part-from (suc place) left k (omega arith) (omega arith))
 
   -- the fragment at a place begins at so many times the largest size

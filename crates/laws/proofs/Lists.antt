@@ -21,7 +21,7 @@ use Rattle.laws.proofs.Tests.{decided}
 -- ---- what stands at a place
 
 module _ {ℓ} {A : Type ℓ} where
-  -- within a row it is the row's, whatever is said to stand behind it
+  -- within a row it is the row's, whatever is said to stand after it
   pub at-within : (row : List A) (k : ℕ) (d e : A) → k < length row → getD row k d ≡ getD row k e
   at-within [] k d e within = absurd (omega arith)
   at-within (x ∷ row) zero d e within = refl
@@ -61,13 +61,13 @@ up-place a (suc n) w least most =
     (λ later. let not-here = eqb-false w a later in rw (later, up-place (suc a) n w (omega arith) (omega arith)) (omega arith))
     (decided (eqb w a))
 
--- .. and one that is not among them nowhere
+-- a number that is not among them is found nowhere
 pub up-no-place : (a n w : ℕ) → (w < a) ⊎ (a + n ≤ w) → placeIn (upFrom a n) w ≡ n
 unfolding placeIn
 up-no-place a n w outside =
     none-found (eqb w) (upFrom a n) 0 (λ k within.
     let inside : k < n = rw up-length at within in
-    rw (up-at a n k inside) (ne-eqb w (a + k) (λ is. ⊎-elim (λ before. omega arith) (λ behind. omega arith) outside)))
+    rw (up-at a n k inside) (ne-eqb w (a + k) (λ is. ⊎-elim (λ before. omega arith) (λ after. omega arith) outside)))
     ∙ up-length a n
 
 module _ {ℓ} {A : Type ℓ} (test : A → Bool) where
@@ -81,12 +81,12 @@ module _ {ℓ} {A : Type ℓ} (test : A → Bool) where
   any-at (x ∷ row) d (suc k) within good = rw (any-at row d k (omega arith) good) (or-true (test x))
 
   module _ (row : List A) (d : A) (i : ℕ) where
-    -- from a place on: the one there, or one behind it
+    -- from a place on: the one there, or one after it
     pub any-from : i < length row → anyOf test (drop i row) ≡ (test (getD row i d) || anyOf test (drop (i + 1) row))
     unfolding anyOf
     any-from within = rw (add-one, drop-cons row i d within)
 
-    -- asked so far, the one there, and those behind it
+    -- asked so far, the one there, and those after it
     pub any-turn : (so : Bool) → i < length row → ((so || test (getD row i d)) || anyOf test (drop (i + 1) row)) ≡ (so || anyOf test (drop i row))
     any-turn so within = rw (any-from within) (or-assoc so (test (getD row i d)) (anyOf test (drop (i + 1) row)))
 
@@ -94,7 +94,7 @@ module _ {ℓ} {A : Type ℓ} (test : A → Bool) where
     pub any-here : i < length row → test (getD row i d) ≡ true → true ≡ anyOf test (drop i row)
     any-here within good = rw (any-from within, good)
 
-    -- one that does not: those behind it are still to be asked
+    -- one that does not: those after it are still to be asked
     pub any-later : i < length row → test (getD row i d) ≡ false → anyOf test (drop (i + 1) row) ≡ anyOf test (drop i row)
     any-later within bad = rw (any-from within, bad)
 
@@ -120,7 +120,7 @@ module _ {ℓ} {A : Type ℓ} (test : A → Bool) where
       by-test true = refl
       by-test false = refl
 
-  -- .. so that one more behind a row is the last of them, if it passes
+  -- one more after a row is the last of those that pass, if it does
   pub those-snoc : (row : List A) (x : A) → those test (row ++ x ∷ []) ≡ those test row ++ pick (test x) (x ∷ []) []
   unfolding those
   those-snoc row x = those-append row (x ∷ [])
@@ -134,13 +134,13 @@ module _ {ℓ} {A : Type ℓ} (test : A → Bool) where
       by-test true = omega arith
       by-test false = omega arith
 
-  -- .. and at most all
+  -- those that pass are at most all
   pub those-most : (row : List A) → length (those test row) ≤ length row
   unfolding those
   those-most [] = omega arith
   those-most (x ∷ row) = omega (arith, those-length-cons x row, bit-le (test x), those-most row)
 
-  -- .. and fewer where one does not
+  -- those that pass are fewer than all where one does not
   pub those-fewer : (row : List A) (d : A) (k : ℕ) → k < length row → test (getD row k d) ≡ false → length (those test row) < length row
   unfolding those
   those-fewer [] d k within bad = absurd (omega arith)

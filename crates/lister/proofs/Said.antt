@@ -45,7 +45,7 @@ said-length text c e =
 plain-shown : (byte : ℕ) → 32 ≤ byte → byte ≤ 91 → shownByte byte ≡ byte ∷ []
 plain-shown byte low high = rw (ne-eqb byte 92 (λ e. omega arith), le-leb 32 byte low, le-leb byte 126 (omega arith))
 
--- texts are shown one behind the other
+-- texts are shown one after the other
 pub shown-joined : (text more : List ℕ) → shown (text ++ more) ≡ shown text ++ shown more
 unfolding shown
 shown-joined [] more = refl

@@ -32,7 +32,7 @@ module _ (test : ℕ → Bool) (row : List ℕ) (so : Bool) (i : ℕ) where
       by-test true = refl
       by-test false = refl
 
--- of a row that all pass, the number there passes, and all behind it
+-- of a row that all pass, the number there passes, and all after it
 pub next-passes : (test : ℕ → Bool) (row : List ℕ) (i : ℕ) → i < length row → all test (drop i row) ≡ true → (test (getD row i 0) ≡ true) × (all test (drop (i + 1) row) ≡ true)
 unfolding all
 next-passes test row i within pass =
