@@ -1,6 +1,6 @@
 -- Rows: a test of all, also number by number from the front, a search, a sum.
 use Prim.Native.Nat.{ℕ, zero, suc, _+_, _*_, _≤_, _<_}
-use mathlib.Core.Bool.{Bool, true, false, _&&_, and-assoc, and-eq-true-iff}
+use mathlib.Core.Bool.{Bool, true, false, _&&_, and-assoc, and-true, and-eq-true-iff}
 use mathlib.Core.List.{List, [], _∷_, _++_, map}
 use mathlib.Core.Path.{_≡_, refl, sym, ap, _∙_}
 use native.Mathlib.Nat.{add-assoc, zero-add}
@@ -12,12 +12,6 @@ use lib.ListN.{length, getD, take, drop, replicate, drop-of-length-le, take-appe
 use lib.Seq.{take-add, drop-cons, drop-drop}
 use Rattle.laws.specs.Lists.{placeIn, all, sumBy}
 use Rattle.laws.proofs.Searches.{first-passes}
-
--- a place within a row holds the same whatever stands for places after it
-pub same-default : (row : List ℕ) (place a b : ℕ) → place < length row → getD row place a ≡ getD row place b
-same-default [] place a b within = absurd (omega arith)
-same-default (c ∷ row) zero a b within = refl
-same-default (c ∷ row) (suc place) a b within = same-default row place a b (omega arith)
 
 -- all of what is joined pass a test if all of both rows do
 pub all-append : (test : ℕ → Bool) (xs ys : List ℕ) → all test (xs ++ ys) ≡ (all test xs && all test ys)
@@ -67,6 +61,19 @@ module _ (test : ℕ → Bool) (row : List ℕ) (i : ℕ) where
   all-from : i < length row → all test (drop i row) ≡ (test (getD row i 0) && all test (drop (i + 1) row))
   unfolding all
   all-from within = rw (add-one, drop-cons row i 0 within)
+
+  -- one turn of a loop that carries along whether all so far have passed: the number there is asked with those before it
+  pub all-turn : (so : Bool) → i < length row → ((so && test (getD row i 0)) && all test (drop (i + 1) row)) ≡ (so && all test (drop i row))
+  all-turn so within = rw (all-from within) (and-assoc so (test (getD row i 0)) (all test (drop (i + 1) row)))
+
+  -- when all have been asked, what was found so far is found
+  pub all-done : (so : Bool) → length row ≤ i → so ≡ (so && all test (drop i row))
+  unfolding all
+  all-done so done = rw (drop-of-length-le row done) (sym (and-true so))
+
+  -- where all from a place on pass, the number there does, and all after it do
+  pub all-next : i < length row → all test (drop i row) ≡ true → (test (getD row i 0) ≡ true) × (all test (drop (i + 1) row) ≡ true)
+  all-next within pass = and-eq-true-iff (test (getD row i 0)) (all test (drop (i + 1) row)) .0 (sym (all-from within) ∙ pass)
 
   -- a number that passes: all after it are still to be asked
   pub passes : i < length row → test (getD row i 0) ≡ true → all test (drop (i + 1) row) ≡ all test (drop i row)

@@ -9,7 +9,8 @@ use lib.Dec.{ltb, eqb}
 use lib.ListN.{length, getD, take, drop, replicate, List·getD-append}
 use lib.Seq.{drop-cons}
 use Rattle.laws.specs.Lists.{sumBy}
-use Rattle.laws.proofs.Rows.{same-default, all-at, sum-join}
+use Rattle.laws.proofs.Lists.{at-within}
+use Rattle.laws.proofs.Rows.{all-at, sum-join}
 use Rattle.laws.proofs.Tests.{first-of}
 use Rattle.laws.specs.Numerals.{number}
 use Rattle.sums.specs.Sums.{whole, signatureOf}
@@ -50,7 +51,7 @@ text-cell text zero later within = absurd (later refl)
 text-cell text (suc place) later within =
     let less : suc place - 1 ≡ place = omega arith in
     let here : place < length text = omega arith in
-    rw less (same-default text place 0 etx here ∙ sym (List·getD-append text (replicate (2 - length text % 3) etx) etx place here))
+    rw less (at-within text place 0 etx here ∙ sym (List·getD-append text (replicate (2 - length text % 3) etx) etx place here))
 
 -- every character of a text to send has seven bits
 pub cell-small : (text : List ℕ) (place : ℕ) → sendable text ≡ true → (place ≡ 0 → ⊥) → place ≤ length text → getD text (place - 1) 0 < 128
