@@ -43,7 +43,7 @@ abbrev pub wordsAt : ℕ → ℕ → ℕ → ℕ
 wordsAt largest n place = min (largest - 1) (wordsFor n - (largest - 1) * place)
 
 module _ (largest : ℕ) (text : List ℕ) (place : ℕ) where
-  -- its cells are three times as many
+  -- the cells of the fragment at a place are three times as many as those words
   pub cells-at-length : length (cellsAt largest text place) ≡ 3 * wordsAt largest (length text) place
   cells-at-length = simp (length-take, length-drop, message-length) (min-three (largest - 1) (wordsFor (length text)) place)
 

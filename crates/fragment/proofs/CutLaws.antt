@@ -181,7 +181,7 @@ headingWith marks largest text place characters =
     given (continued (fragmentsFor largest (length text) - 1 - place) ∷ fragmentNumber place ∷ marks .«message_number» ∷ pick first (marks .retrieval) 0 ∷ pick first (marks .«mail_drop») 0 ∷ pick first (signatureOf (filled text)) 0 ∷ sumBy whole (cellsAt largest text place) % 128 ∷ characters ∷ [])
 
 module _ {marks : Marks} {largest : ℕ} {text : List ℕ} (a : Cuttable marks largest text) (place : ℕ) (within : place < fragmentsFor largest (length text)) where
-  -- its cells are such as a fragment can hold
+  -- the cells of the fragment at a place are such as a fragment can hold
   pub cells-held : Held (cellsAt largest text place)
   cells-held =
       let limits = size-limits largest (a .size) in
@@ -194,7 +194,7 @@ module _ {marks : Marks} {largest : ℕ} {text : List ℕ} (a : Cuttable marks l
         seven = all-part (λ c. ltb c 128) (messageOf text) (cellsFor largest) (cellsFor largest * place) (message-digits text (a .characters));
       }
 
-  -- what is read of it: its numbers, the signature in the first one, the sum of its cells, and its text
+  -- what is read of the fragment at a place: its numbers, the signature in the first one, the sum of its cells, and its text
   fragment-reads : let words = fragmentAt marks largest text place in
       let part = withoutFill (drop (bitOf (eqb place 0)) (cellsAt largest text place)) in
       (headingOf words ≡ headingWith marks largest text place (length part)) × (textIn words ≡ part)
@@ -208,17 +208,17 @@ module _ {marks : Marks} {largest : ℕ} {text : List ℕ} (a : Cuttable marks l
   pub good : headingOf (fragmentAt marks largest text place) ≡ headingWith marks largest text place (length (textIn (fragmentAt marks largest text place)))
   good = rw (fragment-reads .1) (fragment-reads .0)
 
-  -- it is good, as every fragment that is built
+  -- the fragment at a place is good, as every fragment that is built
   pub fragment-good : Good (fragmentAt marks largest text place)
   unfolding fragmentAt
   fragment-good = built-good (eqb place 0) _ (cellsAt largest text place) (head-fits marks (a .numbers) place (fragmentsFor largest (length text) - 1 - place)) cells-held
 
-  -- the one at the first place alone is read as a first one
+  -- the fragment at the first place alone is read as a first one
   pub first-alone : isFirst (fragmentAt marks largest text place) ≡ eqb place 0
   first-alone =
       ap (λ (t : Told). eqb (valueTold t 1) firstNumber) (sym (heading-told (fragmentAt marks largest text place) fragment-good) ∙ good) ∙ first-number place
 
-  -- the sum that is read of it is that of its cells
+  -- the sum that is read of the fragment at a place is that of its cells
   pub sum-at : sumIn (fragmentAt marks largest text place) ≡ sumBy whole (cellsAt largest text place) % 128
   unfolding fragmentAt
   sum-at = rw (cells-read (eqb place 0) _ (cellsAt largest text place) cells-held)

@@ -89,7 +89,7 @@ module _ (words : List ℕ) where
       by-tests false false false some = absurd (some refl)
 
   module _ (lent : ℕ) where
-    -- the same of a fragment read with its text, for which there must be room
+    -- a good fragment is read with its text where there is room for it
     pub read-told : Good words → length (textIn words) ≤ lent → readOf lent words ≡ headingTold words
     unfolding readOf
     read-told g room = good-passes _ g ∙ rw (le-ltb lent (length (textIn words)) room)
@@ -135,7 +135,7 @@ pub record Held (cells : List ℕ) : Type 0 where
   pub seven : areDigits 128 cells ≡ true
 
 module _ (first : Bool) (head cells : List ℕ) where
-  -- it has a word for each three cells, and one before them
+  -- a fragment that is built has a word for each three cells, and one before them
   pub fragment-size : length cells % 3 ≡ 0 → length (fragmentOf first head cells) ≡ 1 + length cells / 3
   unfolding fragmentOf
   fragment-size threes = omega (arith, words-length cells threes)
@@ -146,7 +146,7 @@ module _ (first : Bool) (head cells : List ℕ) where
   cells-read h = there cells (h .threes) (h .seven)
 
   module _ (fits : fit (headOf first) (head ++ 0 ∷ []) ≡ true) where
-    -- its K is that of its words
+    -- the K of a fragment that is built is that of its words
     pub k-right : checked (fragmentOf first head cells) ≡ true
     unfolding fragmentOf
     k-right =
@@ -171,7 +171,7 @@ module _ (first : Bool) (head cells : List ℕ) where
           sum = k-right;
         }
 
-    -- its numbers are read back
+    -- the numbers of a fragment that is built are read back
     pub numbers-read : fieldsOf (headOf first) (headIn (fragmentOf first head cells)) ≡ head ++ tenBits (fragmentWith first head 0 cells) ∷ []
     unfolding fragmentOf
     numbers-read = packed-reads first head fits (tenBits (fragmentWith first head 0 cells)) (k-small (fragmentWith first head 0 cells))
@@ -230,11 +230,11 @@ unread first other rest same later =
 
 -- ---- a fragment that is read
 
--- the numbers of its head, as they are read
+-- the numbers of a fragment's head, as they are read
 abbrev headRead : List ℕ → List ℕ
 headRead words = headFor (isFirst words) (mailDropIn words) (retrievalIn words) (messageNumberIn words) (fragmentNumberIn words) (continuedIn words)
 
--- those numbers and K after them are all that is read of the first word
+-- the numbers of a head and K after them are all that is read of the first word
 all-read : (words : List ℕ) (first : Bool) → isFirst words ≡ first → fieldsOf (headOf first) (headIn words) ≡ headRead words ++ checkIn words ∷ []
 all-read words true is = rw is
 all-read words false is = rw is

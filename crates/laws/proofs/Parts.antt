@@ -10,7 +10,7 @@ use lib.Seq.{drop-append-le, drop-drop, take-nil, take-all}
 use Rattle.laws.specs.Lists.{put}
 
 module _ {A : Type 0} (buffer : List A) (place count : ℕ) where
-  -- after the end there is nothing
+  -- a part that begins after the buffer's end is empty
   pub part-none : length buffer ≤ place → [] ≡ take count (drop place buffer)
   part-none out = sym (ap (take count) (drop-of-length-le buffer out) ∙ take-nil count)
 
@@ -21,7 +21,7 @@ module _ {A : Type 0} (buffer : List A) (place count : ℕ) where
       let room : length rest ≡ length buffer - place = length-drop place buffer in
       take-all (length buffer - place) rest (omega arith) ∙ sym (take-all count rest (omega arith))
 
-  -- and else what lies from the place to the end of so many
+  -- else the part is what lies from the place to the end of so many
   pub part-whole : take (place + count - place) (drop place buffer) ≡ take count (drop place buffer)
   part-whole =
       let size : place + count - place ≡ count = omega arith in

@@ -37,7 +37,7 @@ module _ {ℓ} {A : Type ℓ} (test : A → Bool) where
       by-test true e rest l = e
       by-test false e rest l = rest (omega arith)
 
-  -- none before it does
+  -- none before the one that is found passes
   pub none-before : (row : List A) (d : A) (k : ℕ) → k < firstThat test row → test (getD row k d) ≡ false
   unfolding firstThat
   none-before [] d k before = absurd (omega arith)
@@ -49,7 +49,7 @@ module _ {ℓ} {A : Type ℓ} (test : A → Bool) where
       by-test false e zero rest l = e
       by-test false e (suc k) rest l = rest k (omega arith)
 
-  -- so that it is found no later than one that passes
+  -- the first is found no later than any one that passes
   pub found-by : (row : List A) (d : A) (k : ℕ) → k < length row → test (getD row k d) ≡ true → firstThat test row ≤ k
   unfolding firstThat
   found-by [] d k within good = absurd (omega arith)

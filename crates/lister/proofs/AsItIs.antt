@@ -40,11 +40,11 @@ module _ (byte : ℕ) (e : asItIs byte ≡ true) where
   no-return : byte ≡ 13 → ⊥
   no-return return = omega (arith, from-32)
 
-  -- it writes itself
+  -- a byte that is shown as it is writes itself
   pub writes-itself : (text : List ℕ) → byte ∷ [] ≡ writes (stand text false) byte
   writes-itself text = shown-plain byte no-slash printable ∙ writes-byte text false byte no-feed no-return
 
-  -- and is kept
+  -- the line keeps a byte that is shown as it is
   pub stands-after : (text after : List ℕ) → text ≡ kept (text ++ []) → after ≡ kept (text ++ byte ∷ []) → stand after false ≡ next (stand text false) byte
   stands-after text after same more = rw (ne-eqb byte 13 no-return) at (next-kept text false byte text after no-feed no-return same more)
 

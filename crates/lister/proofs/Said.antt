@@ -87,7 +87,7 @@ said-shown text c e =
     let said = printed-of-read text c e in
     rw (said .0) at (text-shown c (said .1))
 
--- so is one that is read
+-- a text that is read is shown as it is
 pub read-shown : (text : List ℕ) → numberTold (readOf text) ≡ 0 → shown text ≡ text
 read-shown text e = by-form (formOf text) refl e
   where

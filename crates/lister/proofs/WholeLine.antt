@@ -106,7 +106,7 @@ line-bytes before input room n ahead =
     let last : getD (drop (before .taken) input) n 0 ≡ lineFeed = getD-drop (before .taken) input n 0 ∙ ahead .ends in
     rw (add-one n) (take-suc (drop (before .taken) input) n 0 within ∙ rw last)
 
--- its text is so long
+-- the text of a line that is ahead is so long
 pub line-length : (before : Course) (input : List ℕ) (room n : ℕ) → Ahead before input room n → length (take (before .taken + n - before .taken) (drop (before .taken) input)) ≡ n
 line-length before input room n ahead =
     let count : before .taken + n - before .taken ≡ n = omega arith in

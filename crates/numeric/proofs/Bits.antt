@@ -28,7 +28,7 @@ pub some-word : (numbered : Bool) (n : ℕ) → 1 ≤ wordsFor numbered n
 some-word true n = omega arith
 some-word false n = omega arith
 
--- its words have room for the text
+-- the words of a page have room for the text
 pub room-enough : (numbered : Bool) (n : ℕ) → n ≤ roomOf numbered (wordsFor numbered n)
 room-enough true n = omega arith
 room-enough false n = omega arith

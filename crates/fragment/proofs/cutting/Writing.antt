@@ -108,21 +108,21 @@ module _ (largest : ℕ) (text : List ℕ) (place : ℕ) (two : 2 ≤ largest) (
   pub starts : largest * place ≡ (largest - 1) * place + place
   starts = let more : largest ≡ largest - 1 + 1 = omega arith in ap (λ (n : ℕ). n * place) more ∙ one-more (largest - 1) place
 
-  -- so it begins within the row
+  -- a fragment begins within the row
   pub starts-within : largest * place ≤ fragmentsFor largest (length text) + wordsFor (length text)
   starts-within = omega (arith, starts, words-before)
 
-  -- its part of the row is as long as the fragment
+  -- the part of the row from a fragment's place on is as long as the fragment
   pub part-size : min largest (fragmentsFor largest (length text) + wordsFor (length text) - largest * place) ≡ 1 + wordsAt largest (length text) place
   part-size =
       let more : largest ≡ largest - 1 + 1 = omega arith in
       rw starts (ap (λ (n : ℕ). min n (fragmentsFor largest (length text) + wordsFor (length text) - ((largest - 1) * place + place))) more ∙ sized (largest - 1) place (fragmentsFor largest (length text)) (wordsFor (length text)) inside (not-too-many largest (length text) two))
 
-  -- its cells are within the message
+  -- the cells of a fragment are within the message
   pub cells-within : 3 * (largest - 1) * place + 3 * wordsAt largest (length text) place ≤ length (messageOf text)
   cells-within = omega (arith, message-length text, three-within (largest - 1) (wordsFor (length text)) place words-before)
 
-  -- the cells from its place of the message on are those of the fragment
+  -- so many cells from a fragment's place in the message on are those of the fragment
   pub cells-taken : take (3 * wordsAt largest (length text) place) (drop (3 * (largest - 1) * place) (messageOf text)) ≡ cellsAt largest text place
   cells-taken =
       let row = drop (cellsFor largest * place) (messageOf text) in

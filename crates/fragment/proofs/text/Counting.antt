@@ -14,7 +14,7 @@ pub record Counted (second : ℕ) (words : List ℕ) (count at : ℕ) : Type 0 w
   pub all : count + length (withoutFill (cellsOf (drop at words))) ≡ length (textFrom second words)
 
 module _ (second : ℕ) (words : List ℕ) where
-  -- those of the second word
+  -- the characters counted with those of the second word
   pub counted-second : (count : ℕ) → count ≡ length (withoutFill (cellsIn second)) → Counted second words count 2
   counted-second count is = record { most = omega (arith, few second); all = omega (arith, length-from second words) }
 

@@ -21,7 +21,7 @@ module _ (words lent : List ℕ) (from : ℕ) where
     pub place : at + length (textAt words i) ≡ from + length (textAt words 2)
     pub holds : put text at (textAt words i) ≡ put lent from (textAt words 2)
 
-  -- none is written
+  -- no word is written yet
   pub begun-none : from + length (textAt words 2) ≤ length lent → Begun lent from 2
   begun-none room = record { kept = refl; room = room; place = refl; holds = refl }
 

@@ -52,7 +52,7 @@ later-is codes start =
 
 -- the digits of a number written into words one by one, the lowest first
 module _ (b row count : ℕ) (words : List ℕ) where
-  -- one is written: those after it are still to come
+  -- one word is written: those after it are still to come
   pub word-turn : (i a : ℕ) → i < count → i < length words → a ≡ row / b ^ i % b → put (set words i a) (i + 1) (digits b (count - (i + 1)) (row / b ^ (i + 1))) ≡ put words i (digits b (count - i) (row / b ^ i))
   word-turn i a more within is =
       rw (digits-next b count row i more, ← is, add-one i) (put-next words _ i a within)

@@ -25,7 +25,7 @@ same c =
     ap (λ (n : ℕ). textFrom n words) (c .unsigned .ensures ∙ ap (λ (first : Bool). unsigned first (getD words 1 0)) (c .before .before .is-first .ensures))
     ∙ text-after-signature (isFirst words) words (omega (arith, past .if1 .left))
 
--- it has room
+-- the text has room
 room : (c : tie.Else2) → let start = c .before .before .before .before .before .before .before .before .before in
     length (textFrom (c .before .before .unsigned .result) (start .args .words .now)) ≤ length (start .args .text .now)
 room c = leb-true _ _ (sym (c .before .has-room .ensures) ∙ not-false _ (c .if2 .left))

@@ -20,7 +20,7 @@ use Rattle.lister.proofs.closing.write_last.Tie as tie
 long : (e : tie.After-verdict-on) → e .verdict-on .result .size ≡ length (verdictOf (keptOf (e .before .before .args .ended)))
 long e = size-of (keptOf (e .before .before .args .ended)) (e .verdict-on .result) (e .verdict-on .ensures)
 
--- those bytes are no more than there are places for them
+-- the bytes after the text are no more than there are places for them
 within : (e : tie.After-verdict-on) → e .verdict-on .result .size ≤ length (e .verdict-on .result .end)
 within e =
     let text = keptOf (e .before .before .args .ended) in
