@@ -101,10 +101,13 @@ rooms = (refl, refl, refl, refl)
 abbrev loose : List (List ℕ)
 loose =
     let characters = bytesOf "HELL" ++ etx ∷ bytesOf "O!" ++ etx ∷ [] in
-    fragmentOf true (headFor true 0 0 5 3 1) (signatureOf characters ∷ take 5 characters) ∷ fragmentOf false (headFor false 0 0 5 0 0) (drop 5 characters) ∷ []
+    fragmentOf true (headFor true 0 0 5 3 1) (signatureOf characters ∷ take 5 characters)
+    ∷ fragmentOf false (headFor false 0 0 5 0 0) (drop 5 characters) ∷ []
 
 -- both fragments of that writer are good, the first has the largest size, and their texts joined are the text
-pub loose-read : (map (λ (words : List ℕ). numberTold (headingOf words)) loose ≡ 0 ∷ 0 ∷ []) × (map length loose ≡ 3 ∷ 2 ∷ []) × (flatten (map textIn loose) ≡ bytesOf "HELLO!")
+pub loose-read :
+    (map (λ (words : List ℕ). numberTold (headingOf words)) loose ≡ 0 ∷ 0 ∷ []) × (map length loose ≡ 3 ∷ 2 ∷ [])
+    × (flatten (map textIn loose) ≡ bytesOf "HELLO!")
 unfolding fragmentOf headingOf cellsOf wordsOf withoutFill number digits sumBy all flatten
 loose-read = (refl, refl, refl)
 

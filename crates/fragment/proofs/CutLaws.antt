@@ -211,12 +211,15 @@ module _ {marks : Marks} {largest : ℕ} {text : List ℕ} (a : Cuttable marks l
   -- the fragment at a place is good, as every fragment that is built
   pub fragment-good : Good (fragmentAt marks largest text place)
   unfolding fragmentAt
-  fragment-good = built-good (eqb place 0) _ (cellsAt largest text place) (head-fits marks (a .numbers) place (fragmentsFor largest (length text) - 1 - place)) cells-held
+  fragment-good =
+      let left = fragmentsFor largest (length text) - 1 - place in
+      built-good (eqb place 0) _ (cellsAt largest text place) (head-fits marks (a .numbers) place left) cells-held
 
   -- the fragment at the first place alone is read as a first one
   pub first-alone : isFirst (fragmentAt marks largest text place) ≡ eqb place 0
   first-alone =
-      ap (λ (t : Told). eqb (valueTold t 1) firstNumber) (sym (heading-told (fragmentAt marks largest text place) fragment-good) ∙ good) ∙ first-number place
+      let told = sym (heading-told (fragmentAt marks largest text place) fragment-good) ∙ good in
+      ap (λ (t : Told). eqb (valueTold t 1) firstNumber) told ∙ first-number place
 
   -- the sum that is read of the fragment at a place is that of its cells
   pub sum-at : sumIn (fragmentAt marks largest text place) ≡ sumBy whole (cellsAt largest text place) % 128
@@ -321,14 +324,16 @@ pub record Full (largest : ℕ) (words : List ℕ) : Type 0 where
   pub large : length words ≡ largest
   pub filling : length (textIn words) ≡ roomFor (isFirst words) largest
 
--- 01, "the shortest that holds the rest, never under two words, and has a character of the text unless the text is empty": a fragment of two words, or of so many that one fewer has no room for its text
+-- 01, "the shortest that holds the rest, never under two words, and has a character of the text unless the text is empty":
+-- a fragment of two words, or of so many that fewer have no room for its text
 pub record Shortest (largest : ℕ) (text words : List ℕ) : Type 0 where
   pub least : 2 ≤ length words
   pub most : length words ≤ largest
   pub needed : (fewer : ℕ) → 2 ≤ fewer → fewer < length words → roomFor (isFirst words) fewer < length (textIn words)
   pub speaks : 1 ≤ length text → 1 ≤ length (textIn words)
 
--- what 01 says of the fragments of a text, whoever cut it: "Every fragment but the last is that large and full; the last is the shortest that holds the rest", and all of them together hold the text
+-- what 01 says of the fragments of a text, whoever cut it: "Every fragment but the last is that large and full;
+-- the last is the shortest that holds the rest", and all of them together hold the text
 pub record WellCut (largest : ℕ) (text : List ℕ) (fragments : List (List ℕ)) : Type 0 where
   pub some : 1 ≤ length fragments
   pub full : (place : ℕ) → place + 1 < length fragments → Full largest (getD fragments place [])
@@ -336,14 +341,16 @@ pub record WellCut (largest : ℕ) (text : List ℕ) (fragments : List (List ℕ
   pub whole-text : flatten (map textIn fragments) ≡ text
 
 -- the first of all fragments has nothing before it; each other begins with a character
-begins : (largest place : ℕ) (first : Bool) → 2 ≤ largest → eqb place 0 ≡ first → pick first (cellsFor largest * place ≡ 0) (1 ≤ cellsFor largest * place)
+begins : (largest place : ℕ) (first : Bool) → 2 ≤ largest → eqb place 0 ≡ first
+    → pick first (cellsFor largest * place ≡ 0) (1 ≤ cellsFor largest * place)
 begins largest place true two e = rw (eqb-true place 0 e) (mul-zero (cellsFor largest))
 begins largest place false two e =
     let later : 1 ≤ place = omega (arith, eqb-false place 0 e) in
     omega (arith, mul-le-mul-left (cellsFor largest) later)
 
 -- where the text goes on after a fragment, it fills the fragment's room
-room-filled : (largest place characters : ℕ) (first : Bool) → 2 ≤ largest → eqb place 0 ≡ first → cellsFor largest * (place + 1) ≤ characters
+room-filled : (largest place characters : ℕ) (first : Bool) → 2 ≤ largest → eqb place 0 ≡ first
+    → cellsFor largest * (place + 1) ≤ characters
     → min (cellsFor largest - bitOf first) (characters - (cellsFor largest * place - 1)) ≡ roomFor first largest
 room-filled largest place characters true two e more = omega (arith, begins largest place true two e)
 room-filled largest place characters false two e more = omega (arith, begins largest place false two e)
@@ -353,7 +360,8 @@ less-than-both : (a b c : ℕ) → a < b → a < c → a < min b c
 less-than-both a b c one other = omega arith
 
 -- where signature and text do not fit one word fewer, the text has no room in fewer
-room-needed : (largest place characters last fewer : ℕ) (first : Bool) → eqb place 0 ≡ first → last ≤ largest → cellsFor largest * place + 3 * (last - 2) < 1 + characters → 2 ≤ fewer → fewer < last
+room-needed : (largest place characters last fewer : ℕ) (first : Bool) → eqb place 0 ≡ first → last ≤ largest
+    → cellsFor largest * place + 3 * (last - 2) < 1 + characters → 2 ≤ fewer → fewer < last
     → roomFor first fewer < min (cellsFor largest - bitOf first) (characters - (cellsFor largest * place - 1))
 room-needed largest place characters last fewer first e most more least less =
     less-than-both _ _ _ (within first) (left first e)
@@ -372,17 +380,19 @@ module _ {marks : Marks} {largest : ℕ} {text : List ℕ} (a : Cuttable marks l
       → length (textIn (fragmentAt marks largest text place)) ≡ min (cellsFor largest - bitOf (eqb place 0)) (length text - (cellsFor largest * place - 1))
   characters-at place within = rw (text-at a place within, length-take, length-drop)
 
-  -- each but the last is full
+  -- each fragment but the last is full
   full-at : (place : ℕ) → place + 1 < fragmentsFor largest (length text) → Full largest (fragmentAt marks largest text place)
   full-at place more =
       let two = size-limits largest (a .size) .0 in
       let on : cellsFor largest * (place + 1) ≤ length text = omega (arith, words-before largest text (place + 1) two more) in
       record {
         large = sizes marks largest text two place more;
-        filling = rw (characters-at place (omega arith), first-alone a place (omega arith)) (room-filled largest place (length text) (eqb place 0) two refl on);
+        filling =
+            rw (characters-at place (omega arith), first-alone a place (omega arith))
+            (room-filled largest place (length text) (eqb place 0) two refl on);
       }
 
-  -- the last is the shortest that holds the rest
+  -- the last fragment is the shortest that holds the rest
   shortest-last : Shortest largest text (fragmentAt marks largest text (fragmentsFor largest (length text) - 1))
   shortest-last =
       let two = size-limits largest (a .size) .0 in
@@ -392,7 +402,9 @@ module _ {marks : Marks} {largest : ℕ} {text : List ℕ} (a : Cuttable marks l
       record {
         least = size .0;
         most = size .1;
-        needed = λ fewer least less. rw (characters-at place within, first-alone a place within) (room-needed largest place (length text) _ fewer (eqb place 0) refl (size .1) (size .2) least less);
+        needed = λ fewer least less.
+            rw (characters-at place within, first-alone a place within)
+            (room-needed largest place (length text) _ fewer (eqb place 0) refl (size .1) (size .2) least less);
         speaks = last-speaks a;
       }
 
@@ -402,8 +414,12 @@ module _ {marks : Marks} {largest : ℕ} {text : List ℕ} (a : Cuttable marks l
       let some = some-fragment largest (length text) (size-limits largest (a .size) .0) in
       record {
         some = rw (count marks largest text) some;
-        full = λ place more. let inside : place + 1 < fragmentsFor largest (length text) = rw (count marks largest text) at more in rw (at-place marks largest text place (omega arith)) (full-at place inside);
-        shortest = rw (count marks largest text, at-place marks largest text (fragmentsFor largest (length text) - 1) (omega arith)) shortest-last;
+        full = λ place more.
+            let inside : place + 1 < fragmentsFor largest (length text) = rw (count marks largest text) at more in
+            rw (at-place marks largest text place (omega arith)) (full-at place inside);
+        shortest =
+            rw (count marks largest text, at-place marks largest text (fragmentsFor largest (length text) - 1) (omega arith))
+            shortest-last;
         whole-text = texts a;
       }
 

@@ -56,7 +56,8 @@ marked marks = fit (headOf true) (headAt marks 0 0 ++ 0 ∷ [])
 abbrev pub cellsFor : ℕ → ℕ
 cellsFor words = 3 * (words - 1)
 
--- "The first fragment's second word starts with signature S, then two characters; every other word holds three": how many characters a fragment of so many words has room for, a first one or another
+-- how many characters a fragment of so many words has room for, a first one or another:
+-- "The first fragment's second word starts with signature S, then two characters; every other word holds three"
 abbrev pub roomFor : Bool → ℕ → ℕ
 roomFor first words = pick first 2 3 + 3 * (words - 2)
 

@@ -31,8 +31,8 @@ module _ {A : Type 0} (buffer : List A) (start end : ℕ) (before : start ≤ en
   -- a part whose elements are given back is what was put at its place
   pub part-put : (part : List A) → length part ≡ end - start → putMid start (end - start) buffer part ≡ put buffer start part
   part-put part same =
-      let later : start + length part ≡ end = omega arith in
-      rw later (ap (λ (rest : List A). take start buffer ++ (part ++ rest)) (post-is start end buffer before) ∙ sym (append-assoc (take start buffer) part (drop end buffer)))
+      let ends : start + length part ≡ end = omega arith in
+      rw ends (ap (λ (rest : List A). take start buffer ++ (part ++ rest)) (post-is start end buffer before) ∙ sym (append-assoc (take start buffer) part (drop end buffer)))
 
   -- a text that is put at the start of a part is put at the part's place
   pub part-written : (text : List A) → length text ≤ end - start → putMid start (end - start) buffer (put (midOf start (end - start) buffer) 0 text) ≡ put buffer start text

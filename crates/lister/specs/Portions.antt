@@ -39,14 +39,14 @@ writes (stand text held) byte =
     pick (eqb byte lineFeed) (verdictOf text)
     (heldShown held ++ pick (eqb byte carriageReturn) [] (shownByte byte))
 
--- where the listing stands after it
+-- where the listing stands after a byte
 unfoldable pub next : Stand → ℕ → Stand
 next (stand text held) byte =
     pick (eqb byte lineFeed) fresh
     (pick (eqb byte carriageReturn) (stand (kept (text ++ heldBytes held)) true)
     (stand (kept (text ++ heldBytes held ++ byte ∷ [])) false))
 
--- what a portion writes, and where the listing stands after it
+-- what a portion writes
 unfoldable pub writesAll : Stand → List ℕ → List ℕ
 writesAll s [] = []
 writesAll s (byte ∷ input) = writes s byte ++ writesAll (next s byte) input
