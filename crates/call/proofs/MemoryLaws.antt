@@ -16,7 +16,7 @@ use Rattle.laws.specs.Lists.{put, anyOf}
 use Rattle.laws.proofs.Bits.{bit-le, lowest, higher}
 use Rattle.laws.proofs.Lists.{at-within, part-alike, those-most}
 use Rattle.laws.proofs.Tests.{decided, first-of, second-of, neither}
-use Rattle.laws.proofs.Writing.{put-there, put-keeps-before, put-keeps-behind}
+use Rattle.laws.proofs.Writing.{put-there, put-keeps-before, put-keeps-after}
 use Rattle.sums.specs.Words.{undamaged}
 use Rattle.packet.specs.declared.heard.Message.{Message}
 use Rattle.call.specs.declared.Call.{Call}
@@ -327,5 +327,5 @@ module _ (memory : List ℕ) (c : Call) (few : c .words ≤ 85) (enough : memory
       put-keeps-before memory (replicate (c .words) lacking) (placeOf c) (d .words) (placeOf d) (omega arith) (omega arith))
       (λ higher.
       let past = ltb-false (placeOf d) (placeOf c) higher in
-      ap (take (d .words)) (put-keeps-behind memory (replicate (c .words) lacking) (placeOf c) (placeOf d) (omega arith) (omega arith)))
+      ap (take (d .words)) (put-keeps-after memory (replicate (c .words) lacking) (placeOf c) (placeOf d) (omega arith) (omega arith)))
       (decided (ltb (placeOf d) (placeOf c)))

@@ -11,7 +11,7 @@ use lib.Dec.{ltb, eqb}
 use lib.ListN.{length, getD, take, drop}
 use Rattle.laws.specs.Lists.{put}
 use Rattle.laws.proofs.Tests.{decided}
-use Rattle.laws.proofs.Writing.{length-put, put-grows, put-keeps-before, put-keeps-behind}
+use Rattle.laws.proofs.Writing.{length-put, put-grows, put-keeps-before, put-keeps-after}
 use Rattle.refusal.specs.declared.Refusal.the-variants as refusals
 use Rattle.refusal.specs.Told.{Told, given, ask, numberTold, valueTold}
 use Rattle.fragment.specs.Fragments.{textIn}
@@ -99,7 +99,7 @@ module _ (row : List Chain) (address : ℕ) (words buffer : List ℕ) where
           (λ higher.
           let above = ltb-false i (slotFor row address (headingIn words)) higher in
           ap (take (getD row i blank .characters))
-          (put-keeps-behind buffer (textIn words) (endPlace row address (headingIn words)) (i * 1008) (omega arith) (omega arith)))
+          (put-keeps-after buffer (textIn words) (endPlace row address (headingIn words)) (i * 1008) (omega arith) (omega arith)))
           (decided (ltb i (slotFor row address (headingIn words))))
 
   -- ---- a text handed out

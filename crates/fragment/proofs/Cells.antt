@@ -25,7 +25,7 @@ cells-length (word ∷ words) =
     let here : length (cellsIn word) ≡ 3 = length-digits 128 3 word in
     simp length-append (omega (arith, cells-length words))
 
--- .. and three cells make a word
+-- three cells make a word
 pub words-length : (cells : List ℕ) → length cells % 3 ≡ 0 → 3 * length (wordsOf cells) ≡ length cells
 unfolding wordsOf
 words-length [] threes = refl

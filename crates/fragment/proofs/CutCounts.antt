@@ -16,7 +16,7 @@ unfolding messageOf
 message-length text = simp (length-append, length-replicate) (omega arith)
 
 module _ (largest n : ℕ) (two : 2 ≤ largest) where
-  -- the words behind the first of each fragment, and the fragments that they need
+  -- the words after the first of each fragment, and the fragments that they need
   counted : (wordsFor n ≤ (largest - 1) * fragmentsFor largest n) × ((largest - 1) * (fragmentsFor largest n - 1) < wordsFor n) × (1 ≤ fragmentsFor largest n)
   counted =
       let less : largest - 2 ≡ largest - 1 - 1 = omega arith in
@@ -26,7 +26,7 @@ module _ (largest n : ℕ) (two : 2 ≤ largest) where
   pub enough : wordsFor n ≤ (largest - 1) * fragmentsFor largest n
   enough = counted .0
 
-  -- .. which one fragment fewer would not
+  -- one fragment fewer would not hold all words of the message
   pub not-too-many : (largest - 1) * (fragmentsFor largest n - 1) < wordsFor n
   not-too-many = counted .1
 
@@ -38,16 +38,16 @@ module _ (largest n : ℕ) (two : 2 ≤ largest) where
 min-three : (d w p : ℕ) → min (3 * d) (3 * w - 3 * d * p) ≡ 3 * min d (w - d * p)
 min-three d w p = omega arith
 
--- the words behind the first of the fragment at a place: as many as fit, or what is left of the message
+-- the words after the first of the fragment at a place: as many as fit, or what is left of the message
 abbrev pub wordsAt : ℕ → ℕ → ℕ → ℕ
 wordsAt largest n place = min (largest - 1) (wordsFor n - (largest - 1) * place)
 
 module _ (largest : ℕ) (text : List ℕ) (place : ℕ) where
-  -- its cells are three times as many
+  -- the cells of the fragment at a place are three times as many as those words
   pub cells-at-length : length (cellsAt largest text place) ≡ 3 * wordsAt largest (length text) place
   cells-at-length = simp (length-take, length-drop, message-length) (min-three (largest - 1) (wordsFor (length text)) place)
 
-  -- .. and one word stands before them
+  -- a fragment has one word before those that hold its cells
   pub fragment-length : (marks : Marks) → length (fragmentAt marks largest text place) ≡ 1 + wordsAt largest (length text) place
   unfolding fragmentAt fragmentOf
   fragment-length marks = omega (arith, cells-at-length, words-length (cellsAt largest text place) (omega (arith, cells-at-length)))

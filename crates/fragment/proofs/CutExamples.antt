@@ -1,20 +1,21 @@
 -- Worked examples: texts cut by hand from Tables 44, 45 and 60, what is refused, and what each premise of the laws is for.
-use Prim.Native.Nat.{ℕ, _%_}
-use mathlib.Core.List.{List, [], _∷_, map, flatten}
+use Prim.Native.Nat.{ℕ, _%_, _<_}
+use mathlib.Core.Bool.{true, false}
+use mathlib.Core.List.{List, [], _∷_, _++_, map, flatten}
 use mathlib.Core.Path.{_≡_, refl}
 use native.Mathlib.Omega.{arith}
-use lib.ListN.{length, replicate}
+use lib.ListN.{length, replicate, take, drop}
 use Rattle.laws.specs.Lists.{all, sumBy}
 use Rattle.laws.specs.Numerals.{number, digits}
 use Rattle.laws.specs.Texts.{bytesOf}
-use Rattle.sums.specs.Sums.{whole}
+use Rattle.sums.specs.Sums.{whole, signatureOf}
 use Rattle.refusal.specs.Told.{Told, given, numberTold}
-use Rattle.fragment.specs.Fragments.{cellsOf, wordsOf, fragmentOf, fragmentNumberIn, continuedIn, withoutFill, textIn, sumIn}
+use Rattle.fragment.specs.Fragments.{etx, headFor, cellsOf, wordsOf, fragmentOf, fragmentNumberIn, continuedIn, withoutFill, textIn, sumIn}
 use Rattle.fragment.specs.Answers.{headingOf}
 use Rattle.fragment.specs.declared.Marks.{Marks}
-use Rattle.fragment.specs.Cutting.{sendable, messageOf, fragmentAt, fragmentsFrom, cut}
+use Rattle.fragment.specs.Cutting.{sendable, messageOf, roomFor, fragmentAt, fragmentsFrom, cut}
 use Rattle.fragment.specs.CutAnswers.{cutOf, wordsAfter}
-use Rattle.fragment.proofs.CutLaws.{accepted-told, texts}
+use Rattle.fragment.proofs.CutLaws.{accepted-told, texts, WellCut, well-cut}
 
 -- N, R and M
 abbrev numbers : ℕ → ℕ → ℕ → Marks
@@ -41,22 +42,22 @@ pub two-fragments : cut (numbers 5 0 0) 2 (bytesOf "HELLO") ≡ (0x00BEC3 ∷ 0x
 unfolding cut fragmentsFrom fragmentAt fragmentOf messageOf wordsOf number sumBy
 two-fragments = refl
 
--- .. what is told of them: 11, 72 and 69 make 152, of which 24 is left; 76, 76 and 79 make 231, of which 103 is left; both make 127
+-- what is told of the two fragments of "HELLO": 11, 72 and 69 make 152, of which 24 is left; 76, 76 and 79 make 231, of which 103 is left; both make 127
 pub two-told : map headingOf (cut (numbers 5 0 0) 2 (bytesOf "HELLO")) ≡ given (1 ∷ 3 ∷ 5 ∷ 0 ∷ 0 ∷ 11 ∷ 24 ∷ 2 ∷ []) ∷ given (0 ∷ 0 ∷ 5 ∷ 0 ∷ 0 ∷ 0 ∷ 103 ∷ 3 ∷ []) ∷ []
 unfolding cut fragmentsFrom fragmentAt fragmentOf messageOf headingOf cellsOf wordsOf withoutFill number digits sumBy all
 two-told = refl
 
--- .. their texts joined, as the law says, whose premises hold here
+-- the texts of the two fragments joined are "HELLO", as the law says, whose premises hold here
 pub two-joined : flatten (map textIn (cut (numbers 5 0 0) 2 (bytesOf "HELLO"))) ≡ bytesOf "HELLO"
 unfolding sendable all
 two-joined = texts {marks = numbers 5 0 0} {largest = 2} (record { numbers = refl; size = refl; short = omega arith; characters = refl })
 
--- .. and in lent words: those behind stay as they were
-pub words-behind : wordsAfter (numbers 5 0 0) 2 (bytesOf "HELLO") (1 ∷ 2 ∷ 3 ∷ 4 ∷ 5 ∷ 6 ∷ []) ≡ 0x00BEC3 ∷ 0x11640B ∷ 0x00A21A ∷ 0x13E64C ∷ 5 ∷ 6 ∷ []
+-- the two fragments in lent words: those after them stay as they were
+pub words-after : wordsAfter (numbers 5 0 0) 2 (bytesOf "HELLO") (1 ∷ 2 ∷ 3 ∷ 4 ∷ 5 ∷ 6 ∷ []) ≡ 0x00BEC3 ∷ 0x11640B ∷ 0x00A21A ∷ 0x13E64C ∷ 5 ∷ 6 ∷ []
 unfolding cutOf cut fragmentsFrom fragmentAt fragmentOf messageOf wordsOf number sumBy sendable all flatten
-words-behind = refl
+words-after = refl
 
--- .. and a refusal leaves them all
+-- a refusal leaves all lent words as they were
 pub refused-leaves : wordsAfter (numbers 5 0 0) 2 (bytesOf "HELLO") (1 ∷ 2 ∷ 3 ∷ []) ≡ 1 ∷ 2 ∷ 3 ∷ []
 unfolding cutOf cut fragmentsFrom fragmentAt fragmentOf messageOf wordsOf number sumBy sendable all flatten
 refused-leaves = refl
@@ -65,17 +66,17 @@ refused-leaves = refl
 abbrev five : List (List ℕ)
 five = cut (numbers 0 0 0) 2 (bytesOf "ABCDEFGHIJKLM")
 
--- .. F is 3, then 0, 1, 2 and 0 again
+-- F of the five fragments is 3, then 0, 1, 2 and 0 again
 pub five-numbers : map fragmentNumberIn five ≡ 3 ∷ 0 ∷ 1 ∷ 2 ∷ 0 ∷ []
 unfolding cut fragmentsFrom fragmentAt fragmentOf messageOf wordsOf number sumBy
 five-numbers = refl
 
--- .. C is 1 in all but the last
+-- C of the five fragments is 1 in all but the last
 pub five-continued : map continuedIn five ≡ 1 ∷ 1 ∷ 1 ∷ 1 ∷ 0 ∷ []
 unfolding cut fragmentsFrom fragmentAt fragmentOf messageOf wordsOf number sumBy
 five-continued = refl
 
--- .. and each has its part of the text
+-- each of the five fragments has its part of the text
 pub five-texts : map textIn five ≡ bytesOf "AB" ∷ bytesOf "CDE" ∷ bytesOf "FGH" ∷ bytesOf "IJK" ∷ bytesOf "LM" ∷ []
 unfolding cut fragmentsFrom fragmentAt fragmentOf messageOf cellsOf wordsOf withoutFill number digits sumBy
 five-texts = refl
@@ -84,6 +85,45 @@ five-texts = refl
 pub last-short : map length (cut (numbers 0 0 0) 4 (bytesOf "ABCDEFGHIJKLM")) ≡ 4 ∷ 3 ∷ []
 unfolding cut fragmentsFrom fragmentAt fragmentOf messageOf wordsOf
 last-short = refl
+
+-- ---- how full the fragments are
+
+-- "ABCDEFGHIJKLM" in fragments of two words is cut as 01 says: the law's premises hold here
+pub five-well-cut : WellCut 2 (bytesOf "ABCDEFGHIJKLM") five
+unfolding sendable all
+five-well-cut = well-cut {marks = numbers 0 0 0} {largest = 2} (record { numbers = refl; size = refl; short = omega arith; characters = refl })
+
+-- the room of two words, in a first fragment and in another, and that of 85: all but the last of those five have two or three characters
+pub rooms : (roomFor true 2 ≡ 2) × (roomFor false 2 ≡ 3) × (roomFor true 85 ≡ 251) × (roomFor false 85 ≡ 252)
+rooms = (refl, refl, refl, refl)
+
+-- "HELLO!" in fragments of three words, cut by another writer: fill stands in the first one, where its "O" has room
+abbrev loose : List (List ℕ)
+loose =
+    let characters = bytesOf "HELL" ++ etx ∷ bytesOf "O!" ++ etx ∷ [] in
+    fragmentOf true (headFor true 0 0 5 3 1) (signatureOf characters ∷ take 5 characters)
+    ∷ fragmentOf false (headFor false 0 0 5 0 0) (drop 5 characters) ∷ []
+
+-- both fragments of that writer are good, the first has the largest size, and their texts joined are the text
+pub loose-read :
+    (map (λ (words : List ℕ). numberTold (headingOf words)) loose ≡ 0 ∷ 0 ∷ []) × (map length loose ≡ 3 ∷ 2 ∷ [])
+    × (flatten (map textIn loose) ≡ bytesOf "HELLO!")
+unfolding fragmentOf headingOf cellsOf wordsOf withoutFill number digits sumBy all flatten
+loose-read = (refl, refl, refl)
+
+-- the first of those two fragments is not full: it has four characters and room for five
+pub loose-refuted : WellCut 3 (bytesOf "HELLO!") loose → ⊥
+unfolding fragmentOf cellsOf wordsOf withoutFill number digits sumBy
+loose-refuted w =
+    let filling : _≡_ {A = ℕ} 4 5 = w .full 0 (omega arith) .filling in
+    omega arith
+
+-- "HI" in one fragment of three words, the last of which is fill: it is read, but two words hold the text
+pub long-refuted : WellCut 3 (bytesOf "HI") (fragmentOf true (headFor true 0 0 5 3 0) (110 ∷ bytesOf "HI" ++ replicate 3 etx) ∷ []) → ⊥
+unfolding fragmentOf cellsOf wordsOf withoutFill number digits sumBy
+long-refuted w =
+    let needed : 2 < 2 = w .shortest .needed 2 (omega arith) (omega arith) in
+    omega arith
 
 -- the longest text: 1,009 cells and two fills are 337 words, four fragments of 84 and one of one, with a first word each
 pub longest : cutOf 342 (numbers 63 1 1) 85 (replicate 1008 65) ≡ given (5 ∷ 342 ∷ [])
@@ -132,12 +172,12 @@ pub etx-dropped : flatten (map textIn (cut (numbers 5 0 0) 2 (65 ∷ 0x03 ∷ 66
 unfolding cut fragmentsFrom fragmentAt fragmentOf messageOf cellsOf wordsOf withoutFill number digits sumBy flatten
 etx-dropped = refl
 
--- a character of eight bits: its highest is added to the cell behind it, here the fill, which is 4 then and no fill
+-- a character of eight bits: its highest is added to the cell after it, here the fill, which is 4 then and no fill
 pub high-misread : flatten (map textIn (cut (numbers 5 0 0) 2 (0x80 ∷ []))) ≡ 0 ∷ 4 ∷ []
 unfolding cut fragmentsFrom fragmentAt fragmentOf messageOf cellsOf wordsOf withoutFill number digits sumBy flatten
 high-misread = refl
 
--- .. and the sum is not 127: 124, 0 and 4 make 128
+-- with a character of eight bits the sum is not 127: 124, 0 and 4 make 128
 pub high-sum : sumBy whole (map sumIn (cut (numbers 5 0 0) 2 (0x80 ∷ []))) % 128 ≡ 0
 unfolding cut fragmentsFrom fragmentAt fragmentOf messageOf cellsOf wordsOf number digits sumBy
 high-sum = refl
@@ -157,7 +197,7 @@ pub too-large : numberTold (headingOf (fragmentAt (numbers 5 0 0) 86 (replicate 
 unfolding fragmentAt fragmentOf messageOf headingOf wordsOf
 too-large = refl
 
--- behind the last fragment there is a first word alone
-pub none-behind : numberTold (headingOf (fragmentAt (numbers 5 0 0) 2 (bytesOf "HI") 1)) ≡ 9
+-- after the last fragment there is a first word alone
+pub none-after : numberTold (headingOf (fragmentAt (numbers 5 0 0) 2 (bytesOf "HI") 1)) ≡ 9
 unfolding fragmentAt fragmentOf messageOf headingOf wordsOf
-none-behind = refl
+none-after = refl

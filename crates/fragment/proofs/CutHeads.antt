@@ -15,7 +15,7 @@ use Rattle.fragment.specs.Fragments.{headOf}
 use Rattle.fragment.specs.declared.Marks.{Marks}
 use Rattle.fragment.specs.Cutting.{fragmentNumber, continued, headAt, marked}
 
--- a place behind the first
+-- a place after the first
 no-first : (n : ℕ) → eqb (suc n) 0 ≡ false
 no-first n = ne-eqb (suc n) 0 (λ same. omega (arith, same))
 
@@ -52,10 +52,10 @@ module _ (marks : Marks) (good : marked marks ≡ true) where
   head-is zero left = packed-is (headOf true) (headAt marks zero left ++ 0 ∷ []) tt (head-fits zero left) ∙ omega arith
   head-is (suc place) left = rw (no-first place) (packed-is (headOf false) (marks .«message_number» ∷ (suc place - 1) % 3 ∷ continued left ∷ 0 ∷ []) tt (rw (no-first place) at (head-fits (suc place) left)) ∙ omega arith)
 
-  -- .. so with M and R in the first fragment
+  -- the first word of the first fragment has M and R among its numbers
   pub head-first : (place left : ℕ) → place ≡ 0 → packed (headOf (eqb place 0)) (headAt marks place left ++ 0 ∷ []) ≡ marks .«mail_drop» * 0x100000 + marks .retrieval * 0x80000 + (marks .«message_number» * 0x2000 + fragmentNumber place * 0x800 + continued left * 0x400)
   head-first place left first = head-is place left ∙ rw (eq-eqb place 0 first)
 
-  -- .. and without them in the others
+  -- the first word of every other fragment has neither M nor R
   pub head-later : (place left : ℕ) → (place ≡ 0 → ⊥) → packed (headOf (eqb place 0)) (headAt marks place left ++ 0 ∷ []) ≡ marks .«message_number» * 0x2000 + fragmentNumber place * 0x800 + continued left * 0x400
   head-later place left later = head-is place left ∙ rw (ne-eqb place 0 later) (zero-add _)

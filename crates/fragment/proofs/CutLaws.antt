@@ -4,9 +4,9 @@ use mathlib.Core.Bool.{Bool, true, false, not, and-eq-true-iff}
 use mathlib.Core.List.{List, [], _∷_, _++_, map, flatten}
 use mathlib.Core.Logic.{_↔_, ⊎-elim, inl}
 use mathlib.Core.Path.{_≡_, refl, sym, ap, _∙_}
-use native.Mathlib.Nat.{mod-mod, mul-zero, sub-zero, zero-sub, div-self}
+use native.Mathlib.Nat.{mod-mod, mul-zero, mul-le-mul-left, sub-zero, zero-sub, div-self}
 use native.Mathlib.Omega.{arith}
-use borrow.Author.Tests.{eqb-true, le-ltb, lt-ltb, ltb-false, not-true, not-false, ne-eqb}
+use borrow.Author.Tests.{eqb-true, eqb-false, le-ltb, lt-ltb, ltb-false, not-true, not-false, ne-eqb}
 use lib.Dec.{ltb, eqb}
 use lib.ListN.{length, getD, take, drop, replicate, length-take, length-drop}
 use lib.Seq.{take-nil, drop-nil, getD-take, take-all, take-add, take-append-seam, drop-append-add, drop-drop}
@@ -19,14 +19,14 @@ use Rattle.laws.proofs.Writing.{part-joined}
 use Rattle.laws.proofs.Tests.{first-of, second-of}
 use Rattle.sums.specs.Sums.{whole, signatureOf}
 use Rattle.refusal.specs.declared.Refusal.the-variants as refusals
-use Rattle.refusal.specs.Told.{Told, told, given, numberTold}
+use Rattle.refusal.specs.Told.{Told, told, given, numberTold, valueTold}
 use Rattle.refusal.proofs.Laws.{passed, plain-ask}
-use Rattle.fragment.specs.Fragments.{mostCharacters, isSize, etx, firstNumber, withoutFill, textIn, sumIn}
+use Rattle.fragment.specs.Fragments.{mostCharacters, isSize, etx, firstNumber, isFirst, withoutFill, textIn, sumIn}
 use Rattle.fragment.specs.Answers.{headingOf}
 use Rattle.fragment.proofs.Cells.{all-fill}
-use Rattle.fragment.proofs.Laws.{size-limits, Held, cells-read, reads}
+use Rattle.fragment.proofs.Laws.{size-limits, Good, Held, heading-told, built-good, cells-read, reads}
 use Rattle.fragment.specs.declared.Marks.{Marks}
-use Rattle.fragment.specs.Cutting.{isText, sendable, filled, messageOf, wordsFor, fragmentNumber, continued, marked, cellsFor, fragmentsFor, cellsAt, fragmentAt, fragmentsFrom, cut}
+use Rattle.fragment.specs.Cutting.{isText, sendable, filled, messageOf, wordsFor, fragmentNumber, continued, marked, cellsFor, roomFor, fragmentsFor, cellsAt, fragmentAt, fragmentsFrom, cut}
 use Rattle.fragment.specs.CutAnswers.{cutOf, wordsAfter, asCut}
 use Rattle.fragment.proofs.CutCounts.{enough, not-too-many, some-fragment, cells-at-length, fragment-length, message-length, count, total}
 use Rattle.fragment.proofs.CutHeads.{head-fits}
@@ -97,14 +97,14 @@ module _ (marks : Marks) (largest : ℕ) (text : List ℕ) where
       let next : place + suc k ≡ suc place + k = omega arith in
       rw next (from-at (suc place) left k (omega arith))
 
-  -- .. the first of them
+  -- the first k of so many fragments from a place on
   from-take : (place left k : ℕ) → k ≤ left → take k (fragmentsFrom marks largest text place left) ≡ fragmentsFrom marks largest text place k
   unfolding fragmentsFrom
   from-take place left zero within = refl
   from-take place zero (suc k) within = absurd (omega arith)
   from-take place (suc left) (suc k) within = ap (λ (row : List (List ℕ)). fragmentAt marks largest text place ∷ row) (from-take (suc place) left k (omega arith))
 
-  -- .. all of them
+  -- as many fragments as there are, taken from the cut, are all of them
   all-taken : take (fragmentsFor largest (length text)) (cut marks largest text) ≡ cut marks largest text
   all-taken = take-all (fragmentsFor largest (length text)) (cut marks largest text) (omega (arith, count marks largest text))
 
@@ -181,7 +181,7 @@ headingWith marks largest text place characters =
     given (continued (fragmentsFor largest (length text) - 1 - place) ∷ fragmentNumber place ∷ marks .«message_number» ∷ pick first (marks .retrieval) 0 ∷ pick first (marks .«mail_drop») 0 ∷ pick first (signatureOf (filled text)) 0 ∷ sumBy whole (cellsAt largest text place) % 128 ∷ characters ∷ [])
 
 module _ {marks : Marks} {largest : ℕ} {text : List ℕ} (a : Cuttable marks largest text) (place : ℕ) (within : place < fragmentsFor largest (length text)) where
-  -- its cells are such as a fragment can hold
+  -- the cells of the fragment at a place are such as a fragment can hold
   pub cells-held : Held (cellsAt largest text place)
   cells-held =
       let limits = size-limits largest (a .size) in
@@ -194,7 +194,7 @@ module _ {marks : Marks} {largest : ℕ} {text : List ℕ} (a : Cuttable marks l
         seven = all-part (λ c. ltb c 128) (messageOf text) (cellsFor largest) (cellsFor largest * place) (message-digits text (a .characters));
       }
 
-  -- what is read of it: its numbers, the signature in the first one, the sum of its cells, and its text
+  -- what is read of the fragment at a place: its numbers, the signature in the first one, the sum of its cells, and its text
   fragment-reads : let words = fragmentAt marks largest text place in
       let part = withoutFill (drop (bitOf (eqb place 0)) (cellsAt largest text place)) in
       (headingOf words ≡ headingWith marks largest text place (length part)) × (textIn words ≡ part)
@@ -208,14 +208,27 @@ module _ {marks : Marks} {largest : ℕ} {text : List ℕ} (a : Cuttable marks l
   pub good : headingOf (fragmentAt marks largest text place) ≡ headingWith marks largest text place (length (textIn (fragmentAt marks largest text place)))
   good = rw (fragment-reads .1) (fragment-reads .0)
 
-  -- .. and its cells are summed
+  -- the fragment at a place is good, as every fragment that is built
+  pub fragment-good : Good (fragmentAt marks largest text place)
+  unfolding fragmentAt
+  fragment-good =
+      let left = fragmentsFor largest (length text) - 1 - place in
+      built-good (eqb place 0) _ (cellsAt largest text place) (head-fits marks (a .numbers) place left) cells-held
+
+  -- the fragment at the first place alone is read as a first one
+  pub first-alone : isFirst (fragmentAt marks largest text place) ≡ eqb place 0
+  first-alone =
+      let told = sym (heading-told (fragmentAt marks largest text place) fragment-good) ∙ good in
+      ap (λ (t : Told). eqb (valueTold t 1) firstNumber) told ∙ first-number place
+
+  -- the sum that is read of the fragment at a place is that of its cells
   pub sum-at : sumIn (fragmentAt marks largest text place) ≡ sumBy whole (cellsAt largest text place) % 128
   unfolding fragmentAt
   sum-at = rw (cells-read (eqb place 0) _ (cellsAt largest text place) cells-held)
 
 -- ---- the text
 
--- characters of a text, and fill behind it: fill is dropped, and no character is
+-- characters of a text, and fill after it: fill is dropped, and no character is
 text-part : (text : List ℕ) (fill n place : ℕ) → sendable text ≡ true → withoutFill (take n (drop place (text ++ replicate fill etx))) ≡ take n (drop place text)
 unfolding sendable withoutFill all
 text-part [] fill n place good =
@@ -232,7 +245,7 @@ text-part (c ∷ text) fill (suc n) zero good =
 abbrev pub partAt : ℕ → List ℕ → ℕ → List ℕ
 partAt largest text place = take (cellsFor largest - bitOf (eqb place 0)) (drop (cellsFor largest * place - 1) text)
 
--- .. are what is read of it
+-- what is read of the fragment at a place is its part of the text
 part-is : (size : ℕ) (text : List ℕ) (place : ℕ) → 1 ≤ size → sendable text ≡ true
     → withoutFill (drop (bitOf (eqb place 0)) (take size (drop (size * place) (messageOf text)))) ≡ take (size - bitOf (eqb place 0)) (drop (size * place - 1) text)
 unfolding messageOf
@@ -249,7 +262,7 @@ part-is (suc size) text (suc place) some good =
 abbrev pub textSoFar : ℕ → List ℕ → ℕ → List ℕ
 textSoFar largest text so = take (cellsFor largest * so - 1) text
 
--- a part and those behind it, where the first of all is shorter by one
+-- a part and those after it, where the first of all is shorter by one
 parts-short : (size place left : ℕ) → 1 ≤ size
     → let short = bitOf (eqb place 0) in (size - short + size * left ≡ size * suc left - short) × (size * place - 1 + (size - short) ≡ size * suc place - 1)
 parts-short size zero left some = omega arith
@@ -281,14 +294,14 @@ module _ {marks : Marks} {largest : ℕ} {text : List ℕ} (a : Cuttable marks l
   text-so-far so within =
       rw (from-take marks largest text 0 (fragmentsFor largest (length text)) so within) (texts-from 0 so (omega arith) ∙ rw (mul-zero (cellsFor largest)))
 
-  -- .. where one more is joined
+  -- the text of the first fragments with that of the next joined to it
   pub text-step : (so : ℕ) → so < fragmentsFor largest (length text) → textSoFar largest text so ++ textIn (fragmentAt marks largest text so) ≡ textSoFar largest text (suc so)
   text-step so within =
       let size = cellsFor largest in
       let parts = parts-short size so 0 (omega (arith, size-limits largest (a .size) .0)) in
       rw (text-at so within, ← parts .1) (sym (take-add (size * so - 1) (size - bitOf (eqb so 0)) text))
 
-  -- .. and at the end all is there
+  -- the text of all fragments is the whole text
   pub text-ends : textSoFar largest text (fragmentsFor largest (length text)) ≡ text
   text-ends = take-all (cellsFor largest * fragmentsFor largest (length text) - 1) text (omega (arith, enough largest (length text) (size-limits largest (a .size) .0)))
 
@@ -303,6 +316,112 @@ module _ {marks : Marks} {largest : ℕ} {text : List ℕ} (a : Cuttable marks l
       let two = size-limits largest (a .size) .0 in
       rw (text-at (fragmentsFor largest (length text) - 1) (omega (arith, some-fragment largest (length text) two)), length-take, length-drop)
       (omega (arith, not-too-many largest (length text) two, bit-le (eqb (fragmentsFor largest (length text) - 1) 0)))
+
+-- ---- how full they are
+
+-- 01, "that large and full": a fragment of so many words whose text fills its room
+pub record Full (largest : ℕ) (words : List ℕ) : Type 0 where
+  pub large : length words ≡ largest
+  pub filling : length (textIn words) ≡ roomFor (isFirst words) largest
+
+-- 01, "the shortest that holds the rest, never under two words, and has a character of the text unless the text is empty":
+-- a fragment of two words, or of so many that fewer have no room for its text
+pub record Shortest (largest : ℕ) (text words : List ℕ) : Type 0 where
+  pub least : 2 ≤ length words
+  pub most : length words ≤ largest
+  pub needed : (fewer : ℕ) → 2 ≤ fewer → fewer < length words → roomFor (isFirst words) fewer < length (textIn words)
+  pub speaks : 1 ≤ length text → 1 ≤ length (textIn words)
+
+-- what 01 says of the fragments of a text, whoever cut it: "Every fragment but the last is that large and full;
+-- the last is the shortest that holds the rest", and all of them together hold the text
+pub record WellCut (largest : ℕ) (text : List ℕ) (fragments : List (List ℕ)) : Type 0 where
+  pub some : 1 ≤ length fragments
+  pub full : (place : ℕ) → place + 1 < length fragments → Full largest (getD fragments place [])
+  pub shortest : Shortest largest text (getD fragments (length fragments - 1) [])
+  pub whole-text : flatten (map textIn fragments) ≡ text
+
+-- the first of all fragments has nothing before it; each other begins with a character
+begins : (largest place : ℕ) (first : Bool) → 2 ≤ largest → eqb place 0 ≡ first
+    → pick first (cellsFor largest * place ≡ 0) (1 ≤ cellsFor largest * place)
+begins largest place true two e = rw (eqb-true place 0 e) (mul-zero (cellsFor largest))
+begins largest place false two e =
+    let later : 1 ≤ place = omega (arith, eqb-false place 0 e) in
+    omega (arith, mul-le-mul-left (cellsFor largest) later)
+
+-- where the text goes on after a fragment, it fills the fragment's room
+room-filled : (largest place characters : ℕ) (first : Bool) → 2 ≤ largest → eqb place 0 ≡ first
+    → cellsFor largest * (place + 1) ≤ characters
+    → min (cellsFor largest - bitOf first) (characters - (cellsFor largest * place - 1)) ≡ roomFor first largest
+room-filled largest place characters true two e more = omega (arith, begins largest place true two e)
+room-filled largest place characters false two e more = omega (arith, begins largest place false two e)
+
+-- what is less than each of two numbers is less than the smaller
+less-than-both : (a b c : ℕ) → a < b → a < c → a < min b c
+less-than-both a b c one other = omega arith
+
+-- where signature and text do not fit one word fewer, the text has no room in fewer
+room-needed : (largest place characters last fewer : ℕ) (first : Bool) → eqb place 0 ≡ first → last ≤ largest
+    → cellsFor largest * place + 3 * (last - 2) < 1 + characters → 2 ≤ fewer → fewer < last
+    → roomFor first fewer < min (cellsFor largest - bitOf first) (characters - (cellsFor largest * place - 1))
+room-needed largest place characters last fewer first e most more least less =
+    less-than-both _ _ _ (within first) (left first e)
+  where
+    within : (first : Bool) → roomFor first fewer < cellsFor largest - bitOf first
+    within true = omega arith
+    within false = omega arith
+
+    left : (first : Bool) → eqb place 0 ≡ first → roomFor first fewer < characters - (cellsFor largest * place - 1)
+    left true e = omega (arith, begins largest place true (omega arith) e)
+    left false e = omega (arith, begins largest place false (omega arith) e)
+
+module _ {marks : Marks} {largest : ℕ} {text : List ℕ} (a : Cuttable marks largest text) where
+  -- how many characters the fragment at a place has: as many as there is room for, or what is left
+  characters-at : (place : ℕ) → place < fragmentsFor largest (length text)
+      → length (textIn (fragmentAt marks largest text place)) ≡ min (cellsFor largest - bitOf (eqb place 0)) (length text - (cellsFor largest * place - 1))
+  characters-at place within = rw (text-at a place within, length-take, length-drop)
+
+  -- each fragment but the last is full
+  full-at : (place : ℕ) → place + 1 < fragmentsFor largest (length text) → Full largest (fragmentAt marks largest text place)
+  full-at place more =
+      let two = size-limits largest (a .size) .0 in
+      let on : cellsFor largest * (place + 1) ≤ length text = omega (arith, words-before largest text (place + 1) two more) in
+      record {
+        large = sizes marks largest text two place more;
+        filling =
+            rw (characters-at place (omega arith), first-alone a place (omega arith))
+            (room-filled largest place (length text) (eqb place 0) two refl on);
+      }
+
+  -- the last fragment is the shortest that holds the rest
+  shortest-last : Shortest largest text (fragmentAt marks largest text (fragmentsFor largest (length text) - 1))
+  shortest-last =
+      let two = size-limits largest (a .size) .0 in
+      let place = fragmentsFor largest (length text) - 1 in
+      let within : place < fragmentsFor largest (length text) = omega (arith, some-fragment largest (length text) two) in
+      let size = last-size marks largest text two in
+      record {
+        least = size .0;
+        most = size .1;
+        needed = λ fewer least less.
+            rw (characters-at place within, first-alone a place within)
+            (room-needed largest place (length text) _ fewer (eqb place 0) refl (size .1) (size .2) least less);
+        speaks = last-speaks a;
+      }
+
+  -- a text that is cut is cut as 01 says
+  pub well-cut : WellCut largest text (cut marks largest text)
+  well-cut =
+      let some = some-fragment largest (length text) (size-limits largest (a .size) .0) in
+      record {
+        some = rw (count marks largest text) some;
+        full = λ place more.
+            let inside : place + 1 < fragmentsFor largest (length text) = rw (count marks largest text) at more in
+            rw (at-place marks largest text place (omega arith)) (full-at place inside);
+        shortest =
+            rw (count marks largest text, at-place marks largest text (fragmentsFor largest (length text) - 1) (omega arith))
+            shortest-last;
+        whole-text = texts a;
+      }
 
 -- ---- the sum
 
@@ -335,7 +454,7 @@ module _ {marks : Marks} {largest : ℕ} {text : List ℕ} (a : Cuttable marks l
   sum-so-far so within =
       rw (from-take marks largest text 0 (fragmentsFor largest (length text)) so within) (sums-from 0 so (omega arith) ∙ rw (mul-zero (cellsFor largest)))
 
-  -- .. where one more is added
+  -- the sum of the first fragments with that of the next added to it
   pub sum-step : (so : ℕ) → so < fragmentsFor largest (length text) → (sumSoFar largest text so + sumIn (fragmentAt marks largest text so)) % 128 ≡ sumSoFar largest text (suc so)
   sum-step so within =
       let size = cellsFor largest in
@@ -343,7 +462,7 @@ module _ {marks : Marks} {largest : ℕ} {text : List ℕ} (a : Cuttable marks l
       rw (sum-at a so within, more, take-add (size * so) size (messageOf text), sum-join whole (take (size * so) (messageOf text)) (cellsAt largest text so))
       (sum-reduced (sumBy whole (take (size * so) (messageOf text))) _ _ (mod-mod (sumBy whole (cellsAt largest text so)) 128))
 
-  -- .. and at the end it is 127: signature, text and fill
+  -- the sum of all fragments is 127: signature, text and fill
   pub sum-ends : sumSoFar largest text (fragmentsFor largest (length text)) ≡ 127
   sum-ends =
       let all : length (messageOf text) ≤ cellsFor largest * fragmentsFor largest (length text) =
@@ -355,7 +474,7 @@ module _ {marks : Marks} {largest : ℕ} {text : List ℕ} (a : Cuttable marks l
   running-sum =
       (rw (all-taken marks largest text) at (sum-so-far (fragmentsFor largest (length text)) (omega arith))) ∙ sum-ends
 
--- ---- the fragments one behind the other
+-- ---- the fragments one after the other
 
 module _ (marks : Marks) (largest : ℕ) (text : List ℕ) (two : 2 ≤ largest) where
   -- from a place on, one of them begins at a multiple of the largest size
@@ -369,8 +488,8 @@ module _ (marks : Marks) (largest : ℕ) (text : List ℕ) (two : 2 ≤ largest)
   part-from place (suc left) (suc k) all within =
       let next : place + suc k ≡ suc place + k = omega arith in
       let size : length (fragmentAt marks largest text place) ≡ largest = sizes marks largest text two place (omega arith) in
-      let behind : largest * suc k ≡ length (fragmentAt marks largest text place) + largest * k = omega arith in
-      rw (next, behind, drop-append-add (fragmentAt marks largest text place) (flatten (fragmentsFrom marks largest text (suc place) left)) (largest * k))
+      let later : largest * suc k ≡ length (fragmentAt marks largest text place) + largest * k = omega arith in
+      rw (next, later, drop-append-add (fragmentAt marks largest text place) (flatten (fragmentsFrom marks largest text (suc place) left)) (largest * k))
       (part-from (suc place) left k (omega arith) (omega arith))
 
   -- the fragment at a place begins at so many times the largest size

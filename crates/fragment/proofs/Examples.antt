@@ -9,7 +9,7 @@ use Rattle.laws.specs.Lists.{all, sumBy}
 use Rattle.laws.specs.Numerals.{number, digits}
 use Rattle.laws.specs.Texts.{bytesOf}
 use Rattle.refusal.specs.Told.{Told, given, numberTold}
-use Rattle.fragment.specs.Fragments.{cellsOf, wordsOf, fragmentOf, cellsBehind, withoutFill, textIn, checked}
+use Rattle.fragment.specs.Fragments.{cellsOf, wordsOf, fragmentOf, cellsAfterHead, withoutFill, textIn, checked}
 use Rattle.fragment.specs.Answers.{headingOf, readOf, readAfter, textOf, textAfter}
 use Rattle.fragment.proofs.Laws.{fragmentTold, first-reads, built-again}
 
@@ -24,12 +24,12 @@ pub hi-built : fragmentOf true (0 ∷ 0 ∷ 5 ∷ 3 ∷ 0 ∷ []) (110 ∷ 72 �
 unfolding fragmentOf wordsOf number sumBy
 hi-built = refl
 
--- .. what is told: 110, 72 and 73 make 255, whose low seven bits are 127
+-- what is told of "HI": 110, 72 and 73 make 255, whose low seven bits are 127
 pub hi-told : headingOf hi ≡ given (0 ∷ 3 ∷ 5 ∷ 0 ∷ 0 ∷ 110 ∷ 127 ∷ 2 ∷ [])
 unfolding headingOf cellsOf withoutFill digits sumBy all
 hi-told = refl
 
--- .. and the text
+-- the text of that fragment
 pub hi-text : textIn hi ≡ bytesOf "HI"
 unfolding cellsOf withoutFill digits
 hi-text = refl
@@ -53,24 +53,24 @@ unfolding cellsOf withoutFill digits
 inside-text = refl
 
 -- the same with fill at the end, 65, 66 and 3: 41H, 66 at i7 and 3 at i14 make 00E141. The groups 41H and E1H make 290; 1023 - 335 is 688, 2B0H
-abbrev behind : List ℕ
-behind = 0x012EB0 ∷ 0x00E141 ∷ []
+abbrev atEnd : List ℕ
+atEnd = 0x012EB0 ∷ 0x00E141 ∷ []
 
--- .. tells the same, so that the place of fill is not told
-pub behind-told : headingOf behind ≡ given (1 ∷ 1 ∷ 9 ∷ 0 ∷ 0 ∷ 0 ∷ 6 ∷ 2 ∷ [])
+-- with fill at the end the same is told, so that the place of fill is not told
+pub at-end-told : headingOf atEnd ≡ given (1 ∷ 1 ∷ 9 ∷ 0 ∷ 0 ∷ 0 ∷ 6 ∷ 2 ∷ [])
 unfolding headingOf cellsOf withoutFill digits sumBy all
-behind-told = refl
+at-end-told = refl
 
--- .. and has the same text
-pub behind-text : textIn behind ≡ bytesOf "AB"
+-- with fill at the end the text is the same
+pub at-end-text : textIn atEnd ≡ bytesOf "AB"
 unfolding cellsOf withoutFill digits
-behind-text = refl
+at-end-text = refl
 
 -- U and V set, bits i19 and i20: 192C00, whose groups 2CH and 19H make 69; 1023 - 407 is 616, 268H
 abbrev symbolic : List ℕ
 symbolic = 0x192E68 ∷ 0x1081C1 ∷ []
 
--- .. are not told
+-- U and V are not told
 pub symbolic-told : headingOf symbolic ≡ given (1 ∷ 1 ∷ 9 ∷ 0 ∷ 0 ∷ 0 ∷ 6 ∷ 2 ∷ [])
 unfolding headingOf cellsOf withoutFill digits sumBy all
 symbolic-told = refl
@@ -96,12 +96,12 @@ pub signed-text : textIn signed ≡ bytesOf ">>"
 unfolding cellsOf withoutFill digits
 signed-text = refl
 
--- lent bytes behind the text stay as they were
-pub bytes-behind : readAfter hi (bytesOf "abc") ≡ bytesOf "HIc"
+-- lent bytes after the text stay as they were
+pub bytes-after : readAfter hi (bytesOf "abc") ≡ bytesOf "HIc"
 unfolding readOf cellsOf withoutFill digits sumBy all
-bytes-behind = refl
+bytes-after = refl
 
--- .. and a refusal leaves them all
+-- a refusal leaves all lent bytes as they were
 pub refused-leaves : readAfter hi (bytesOf "a") ≡ bytesOf "a"
 unfolding readOf cellsOf withoutFill digits sumBy all
 refused-leaves = refl
@@ -189,16 +189,16 @@ unfolding headingOf fragmentOf cellsOf wordsOf withoutFill number digits sumBy a
 later-needed = refl
 
 -- U and V set: the fragment made of what is told has them 0
-pub without-needed : fragmentTold (headingOf symbolic) (cellsBehind symbolic) ≡ inside
+pub without-needed : fragmentTold (headingOf symbolic) (cellsAfterHead symbolic) ≡ inside
 unfolding headingOf fragmentOf cellsOf wordsOf withoutFill number digits sumBy all
 without-needed = refl
 
--- .. as the law says of the one that has, whose premises hold here
-pub inside-again : fragmentTold (headingOf inside) (cellsBehind inside) ≡ inside
+-- a fragment with U and V 0 is made again, as the law says, whose premises hold here
+pub inside-again : fragmentTold (headingOf inside) (cellsAfterHead inside) ≡ inside
 unfolding all sumBy
 inside-again = built-again inside (record { size = refl; intact = refl; sum = refl }) (λ later. refl)
 
--- .. and of one that is built
+-- a fragment that is built is read, as the law says, whose premises hold here
 pub hi-again : headingOf (fragmentOf true (0 ∷ 0 ∷ 5 ∷ 3 ∷ 0 ∷ []) (110 ∷ 72 ∷ 73 ∷ [])) ≡ given (0 ∷ 3 ∷ 5 ∷ 0 ∷ 0 ∷ 110 ∷ 127 ∷ 2 ∷ [])
 unfolding all sumBy withoutFill
 hi-again = first-reads 0 0 5 0 (110 ∷ 72 ∷ 73 ∷ []) refl (record { threes = refl; least = omega arith; most = omega arith; seven = refl }) .0

@@ -16,7 +16,7 @@ abbrev pub aboveK : Bool → Layout
 aboveK true = field 1 ∷ field 1 ∷ field 6 ∷ field 2 ∷ field 1 ∷ []
 aboveK false = unused 2 ∷ field 6 ∷ field 2 ∷ field 1 ∷ []
 
--- .. and K behind it
+-- a head is what stands above K, and K after it
 head-parts : (first : Bool) → headOf first ≡ aboveK first ++ field 10 ∷ []
 head-parts true = refl
 head-parts false = refl
@@ -30,7 +30,7 @@ head-size : (first : Bool) → size (headOf first) ≡ 21
 head-size true = refl
 head-size false = refl
 
--- .. of which K takes ten
+-- what stands above K fits a word, and so it does with K after it
 laid-above : (first : Bool) → T (laid (aboveK first))
 laid-above true = tt
 laid-above false = tt
@@ -43,7 +43,7 @@ laid-parts false = tt
 above-fits : (first : Bool) (head : List ℕ) (k : ℕ) → fit (headOf first) (head ++ k ∷ []) ≡ true → fit (aboveK first) head ≡ true
 above-fits first head k fits = fit-before (aboveK first) head 10 k (rw (head-parts first) at fits)
 
--- .. and fit with any other K
+-- numbers that fit a head with one K fit it with any other
 pub fit-with : (first : Bool) (head : List ℕ) (k other : ℕ) → fit (headOf first) (head ++ k ∷ []) ≡ true → other < 1024 → fit (headOf first) (head ++ other ∷ []) ≡ true
 fit-with first head k other fits small = rw (head-parts first) (fit-other (aboveK first) head 10 k other (rw (head-parts first) at fits) small)
 
@@ -53,7 +53,7 @@ module _ (first : Bool) (head : List ℕ) (fits : fit (headOf first) (head ++ 0 
     pub packed-with : packed (headOf first) (head ++ k ∷ []) ≡ packed (aboveK first) head * 1024 + k
     packed-with = rw (head-parts first) (packed-last (aboveK first) head 10 k (laid-above first) (laid-parts first) (above-fits first head 0 fits) small)
 
-    -- .. which has 21 in all
+    -- the first word has 21 bits in all
     pub packed-small : packed (headOf first) (head ++ k ∷ []) < 0x200000
     packed-small = rw (head-size first) at (packed-lt (headOf first) (head ++ k ∷ []) (laid-head first) (fit-with first head 0 k fits small))
 
@@ -61,7 +61,7 @@ module _ (first : Bool) (head : List ℕ) (fits : fit (headOf first) (head ++ 0 
     pub packed-reads : fieldsOf (headOf first) (packed (headOf first) (head ++ k ∷ [])) ≡ head ++ k ∷ []
     packed-reads = read-packed (headOf first) (head ++ k ∷ []) (laid-head first) (fit-with first head 0 k fits small)
 
-    -- .. and K, whichever fragment it is
+    -- K is read back, whichever fragment it is
     pub k-read : (cells : List ℕ) → checkIn (fragmentWith first head k cells) ≡ k
     k-read cells = rw packed-with (omega arith)
 

@@ -21,7 +21,7 @@ use Rattle.sums.specs.Words.{wordBits, undamaged}
 use Rattle.refusal.specs.declared.Refusal.the-variants as refusals
 use Rattle.refusal.specs.Told.{Told, told, given, ask, numberTold, valueTold}
 use Rattle.refusal.proofs.Laws.{passed, plain-ask, Plain}
-use Rattle.fragment.specs.Fragments.{isSize, firstNumber, headOf, headFor, fragmentWith, fragmentOf, headIn, numbersIn, messageNumberIn, fragmentNumberIn, continuedIn, checkIn, isFirst, mailDropIn, retrievalIn, cellsBehind, withoutFill, textIn, checked}
+use Rattle.fragment.specs.Fragments.{isSize, firstNumber, headOf, headFor, fragmentWith, fragmentOf, headIn, numbersIn, messageNumberIn, fragmentNumberIn, continuedIn, checkIn, isFirst, mailDropIn, retrievalIn, cellsAfterHead, withoutFill, textIn, checked}
 use Rattle.fragment.specs.Answers.{headingTold, whenGood, headingOf, readOf, textOf}
 use Rattle.fragment.proofs.Cells.{there, back, words-length, words-small}
 use Rattle.fragment.proofs.Heads.{packed-small, packed-reads, fit-with, k-read, k-unsummed, k-small}
@@ -46,7 +46,7 @@ module _ (words : List ℕ) where
   pub good-passes : (rest : Told) → Good words → whenGood words rest ≡ rest
   good-passes rest g = rw (g .size, g .intact, g .sum)
 
-  -- .. and one that passes them is good, and so is what follows
+  -- a fragment that passes them is good, and what follows is not refused either
   passed-good : (rest : Told) → numberTold (whenGood words rest) ≡ 0 → Good words × (numberTold rest ≡ 0)
   passed-good rest e =
       let size = passed (not (isSize (length words))) refusals.Size _ e in
@@ -75,7 +75,7 @@ module _ (words : List ℕ) where
   unfolding headingOf
   heading-plain some = ⊎-elim (λ none. absurd (some none)) (λ e. e) (when-plain (headingTold words) (inl refl))
 
-  -- .. whatever follows these questions
+  -- a fragment that is not good is refused in the same way whatever follows these questions
   pub bad-stops : (rest : Told) → (numberTold (headingOf words) ≡ 0 → ⊥) → whenGood words rest ≡ told (numberTold (headingOf words)) []
   unfolding headingOf
   bad-stops rest some = by-tests (not (isSize (length words))) (not (undamaged words)) (not (checked words)) some
@@ -89,7 +89,7 @@ module _ (words : List ℕ) where
       by-tests false false false some = absurd (some refl)
 
   module _ (lent : ℕ) where
-    -- the same of a fragment read with its text, for which there must be room
+    -- a good fragment is read with its text where there is room for it
     pub read-told : Good words → length (textIn words) ≤ lent → readOf lent words ≡ headingTold words
     unfolding readOf
     read-told g room = good-passes _ g ∙ rw (le-ltb lent (length (textIn words)) room)
@@ -135,18 +135,18 @@ pub record Held (cells : List ℕ) : Type 0 where
   pub seven : areDigits 128 cells ≡ true
 
 module _ (first : Bool) (head cells : List ℕ) where
-  -- it has a word for each three cells, and one before them
+  -- a fragment that is built has a word for each three cells, and one before them
   pub fragment-size : length cells % 3 ≡ 0 → length (fragmentOf first head cells) ≡ 1 + length cells / 3
   unfolding fragmentOf
   fragment-size threes = omega (arith, words-length cells threes)
 
   -- the cells are read back
-  pub cells-read : Held cells → cellsBehind (fragmentOf first head cells) ≡ cells
+  pub cells-read : Held cells → cellsAfterHead (fragmentOf first head cells) ≡ cells
   unfolding fragmentOf
   cells-read h = there cells (h .threes) (h .seven)
 
   module _ (fits : fit (headOf first) (head ++ 0 ∷ []) ≡ true) where
-    -- its K is that of its words
+    -- the K of a fragment that is built is that of its words
     pub k-right : checked (fragmentOf first head cells) ≡ true
     unfolding fragmentOf
     k-right =
@@ -161,7 +161,7 @@ module _ (first : Bool) (head cells : List ℕ) where
         rw (lt-ltb _ (2 ^ wordBits) (packed-small first head fits (tenBits (fragmentWith first head 0 cells)) (k-small (fragmentWith first head 0 cells))))
         (words-small cells seven)
 
-    -- .. so that it is good
+    -- a fragment that is built is good
     pub built-good : Held cells → Good (fragmentOf first head cells)
     built-good h =
         let words = fragment-size (h .threes) in
@@ -171,7 +171,7 @@ module _ (first : Bool) (head cells : List ℕ) where
           sum = k-right;
         }
 
-    -- its numbers are read back
+    -- the numbers of a fragment that is built are read back
     pub numbers-read : fieldsOf (headOf first) (headIn (fragmentOf first head cells)) ≡ head ++ tenBits (fragmentWith first head 0 cells) ∷ []
     unfolding fragmentOf
     numbers-read = packed-reads first head fits (tenBits (fragmentWith first head 0 cells)) (k-small (fragmentWith first head 0 cells))
@@ -181,7 +181,7 @@ same-places : (first : Bool) (m r n f c k word : ℕ) → fieldsOf (headOf first
 same-places true m r n f c k word e = ap (drop 2) e
 same-places false m r n f c k word e = e
 
--- .. M and R in a first one's alone
+-- M and R stand in the head of a first fragment alone
 first-alone : (first : Bool) (m r n f c k word : ℕ) → fieldsOf (headOf first) word ≡ headFor first m r n f c ++ k ∷ []
     → (pick first (getD (fieldsOf (headOf true) word) 0 0) 0 ≡ pick first m 0) × (pick first (getD (fieldsOf (headOf true) word) 1 0) 0 ≡ pick first r 0)
 first-alone true m r n f c k word e = (ap (λ (row : List ℕ). getD row 0 0) e, ap (λ (row : List ℕ). getD row 1 0) e)
@@ -202,14 +202,14 @@ reads first m r n f c cells is fits held =
     let kind : isFirst (fragmentOf first head cells) ≡ first = ap (λ (number : ℕ). eqb number firstNumber) (number 1) ∙ is in
     rw (heading-told _ (built-good first head cells fits held), kind, alone .0, alone .1, number 0, number 1, number 2, cells-read first head cells held) (refl, refl)
 
--- .. of a first fragment
+-- what is read of a first fragment that is built
 pub first-reads : (m r n c : ℕ) (cells : List ℕ) → fit (headOf true) (m ∷ r ∷ n ∷ 3 ∷ c ∷ 0 ∷ []) ≡ true → Held cells
     → let words = fragmentOf true (m ∷ r ∷ n ∷ 3 ∷ c ∷ []) cells in
     let text = withoutFill (drop 1 cells) in
     (headingOf words ≡ given (c ∷ 3 ∷ n ∷ r ∷ m ∷ getD cells 0 0 ∷ sumBy whole cells % 128 ∷ length text ∷ [])) × (textIn words ≡ text)
 first-reads m r n c cells fits held = reads true m r n 3 c cells refl fits held
 
--- .. and of a later one
+-- what is read of a later fragment that is built
 pub later-reads : (n f c : ℕ) (cells : List ℕ) → f < 3 → fit (headOf false) (n ∷ f ∷ c ∷ 0 ∷ []) ≡ true → Held cells
     → let words = fragmentOf false (n ∷ f ∷ c ∷ []) cells in
     let text = withoutFill cells in
@@ -230,11 +230,11 @@ unread first other rest same later =
 
 -- ---- a fragment that is read
 
--- the numbers of its head, as they are read
+-- the numbers of a fragment's head, as they are read
 abbrev headRead : List ℕ → List ℕ
 headRead words = headFor (isFirst words) (mailDropIn words) (retrievalIn words) (messageNumberIn words) (fragmentNumberIn words) (continuedIn words)
 
--- .. and K behind them are all that is read of the first word
+-- the numbers of a head and K after them are all that is read of the first word
 all-read : (words : List ℕ) (first : Bool) → isFirst words ≡ first → fieldsOf (headOf first) (headIn words) ≡ headRead words ++ checkIn words ∷ []
 all-read words true is = rw is
 all-read words false is = rw is
@@ -243,28 +243,28 @@ all-read words false is = rw is
 abbrev pub WithoutUV : List ℕ → Type 0
 WithoutUV words = isFirst words ≡ false → bitsAt 19 2 (headIn words) ≡ 0
 
--- .. so that the word is made again of the numbers that are read from it
+-- a first word with U and V 0 is made again of the numbers that are read from it
 word-again : (word : ℕ) (first : Bool) → word < 2 ^ 21 → (first ≡ false → bitsAt 19 2 word ≡ 0) → packed (headOf first) (fieldsOf (headOf first) word) ≡ word
 word-again word true small without = packed-read-whole (headOf true) word tt small (shows-each (headOf true) word tt) refl
 word-again word false small without =
     let low : word < 2 ^ 19 = omega (arith, without refl) in
     packed-read (headOf false) word tt (shows-each (headOf false) word tt) ∙ and-mask word 19 ∙ mod-eq-of-lt low
 
--- .. and so is a good fragment, of the numbers and cells that are read from it
-read-again : (words : List ℕ) → Good words → WithoutUV words → fragmentOf (isFirst words) (headRead words) (cellsBehind words) ≡ words
+-- a good fragment with U and V 0 is made again of the numbers and cells that are read from it
+read-again : (words : List ℕ) → Good words → WithoutUV words → fragmentOf (isFirst words) (headRead words) (cellsAfterHead words) ≡ words
 unfolding fragmentOf all
 read-again [] g without = absurd (omega (arith, size-limits 0 (g .size)))
 read-again (word ∷ rest) g without =
     let words = word ∷ rest in
     let each = and-eq-true-iff (ltb word (2 ^ wordBits)) (undamaged rest) .0 (g .intact) in
     let read = all-read words (isFirst words) refl in
-    let own : fragmentWith (isFirst words) (headRead words) (checkIn words) (cellsBehind words) ≡ words =
+    let own : fragmentWith (isFirst words) (headRead words) (checkIn words) (cellsAfterHead words) ≡ words =
     ap₂ _∷_ (ap (packed (headOf (isFirst words))) (sym read) ∙ word-again word (isFirst words) (ltb-true word (2 ^ wordBits) (each .0)) without) (back rest (each .1)) in
     let fits : fit (headOf (isFirst words)) (headRead words ++ checkIn words ∷ []) ≡ true = ap (fit (headOf (isFirst words))) (sym read) ∙ fit-read (headOf (isFirst words)) word in
-    let k : tenBits (fragmentWith (isFirst words) (headRead words) 0 (cellsBehind words)) ≡ checkIn words =
-    sym (k-unsummed (isFirst words) (headRead words) (fit-with (isFirst words) (headRead words) (checkIn words) 0 fits (omega arith)) (checkIn words) (cellsBehind words) (omega arith))
+    let k : tenBits (fragmentWith (isFirst words) (headRead words) 0 (cellsAfterHead words)) ≡ checkIn words =
+    sym (k-unsummed (isFirst words) (headRead words) (fit-with (isFirst words) (headRead words) (checkIn words) 0 fits (omega arith)) (checkIn words) (cellsAfterHead words) (omega arith))
     ∙ ap tenBits own ∙ eqb-true (tenBits words) (checkIn words) (g .sum) in
-    ap (λ (k : ℕ). fragmentWith (isFirst words) (headRead words) k (cellsBehind words)) k ∙ own
+    ap (λ (k : ℕ). fragmentWith (isFirst words) (headRead words) k (cellsAfterHead words)) k ∙ own
 
 -- the fragment with the numbers that are told of one, and with these cells
 abbrev pub fragmentTold : Told → List ℕ → List ℕ
@@ -273,9 +273,9 @@ fragmentTold t cells =
     fragmentOf first (headFor first (valueTold t 4) (valueTold t 3) (valueTold t 2) (valueTold t 1) (valueTold t 0)) cells
 
 -- what is told of a good fragment and its cells make it again, where U and V are 0
-pub built-again : (words : List ℕ) → Good words → WithoutUV words → fragmentTold (headingOf words) (cellsBehind words) ≡ words
-built-again words g without = ap (λ (t : Told). fragmentTold t (cellsBehind words)) (heading-told words g) ∙ read-again words g without
+pub built-again : (words : List ℕ) → Good words → WithoutUV words → fragmentTold (headingOf words) (cellsAfterHead words) ≡ words
+built-again words g without = ap (λ (t : Told). fragmentTold t (cellsAfterHead words)) (heading-told words g) ∙ read-again words g without
 
--- .. so that no two of them tell the same and have the same cells
-pub told-apart : (words other : List ℕ) → Good words → Good other → WithoutUV words → WithoutUV other → headingOf words ≡ headingOf other → cellsBehind words ≡ cellsBehind other → words ≡ other
+-- no two good fragments with U and V 0 tell the same and have the same cells
+pub told-apart : (words other : List ℕ) → Good words → Good other → WithoutUV words → WithoutUV other → headingOf words ≡ headingOf other → cellsAfterHead words ≡ cellsAfterHead other → words ≡ other
 told-apart words other g h without too same cells = sym (built-again words g without) ∙ ap₂ fragmentTold same cells ∙ built-again other h too

@@ -10,6 +10,6 @@ use Rattle.fragment.specs.Fragments.{cellBits, cellsOf, etx, withoutFill
 abbrev pub unsigned : Bool → ℕ → ℕ
 unsigned first word = pick first (word / 2 ^ cellBits * 2 ^ cellBits + etx) word
 
--- the text of a second word and of all words behind it
+-- the text of a second word and of all words after it
 abbrev pub textFrom : ℕ → List ℕ → List ℕ
 textFrom second words = withoutFill (cellsOf (second ∷ drop 2 words))

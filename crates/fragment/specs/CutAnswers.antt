@@ -21,7 +21,7 @@ cutOf lent marks largest text =
     (ask (ltb lent (length (flatten (cut marks largest text)))) Room
     (given (length (cut marks largest text) ∷ length (flatten (cut marks largest text)) ∷ []))))))
 
--- what the lent words are then: the fragments, one behind the other
+-- what the lent words are then: the fragments, one after the other
 abbrev pub wordsAfter : Marks → ℕ → List ℕ → List ℕ → List ℕ
 wordsAfter marks largest text lent = writtenBy (cutOf (length lent) marks largest text) lent (flatten (cut marks largest text))
 

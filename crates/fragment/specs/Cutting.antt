@@ -15,7 +15,7 @@ use Rattle.fragment.specs.declared.Marks.{Marks}
 abbrev pub isText : ℕ → Bool
 isText c = ltb c (2 ^ cellBits) && not (eqb c etx)
 
--- .. every one of a text
+-- whether every character of a text can stand in it
 unfoldable pub sendable : List ℕ → Bool
 sendable text = all isText text
 
@@ -29,7 +29,7 @@ filled text = text ++ replicate (2 - length text % 3) etx
 unfoldable pub messageOf : List ℕ → List ℕ
 messageOf text = signatureOf (filled text) ∷ filled text
 
--- .. and how many words they are
+-- how many words the message of so many characters is
 abbrev pub wordsFor : ℕ → ℕ
 wordsFor characters = (characters + 3) / 3
 
@@ -52,9 +52,14 @@ headAt marks place left =
 abbrev pub marked : Marks → Bool
 marked marks = fit (headOf true) (headAt marks 0 0 ++ 0 ∷ [])
 
--- how many cells a fragment of so many words holds: three in each word behind the first
+-- how many cells a fragment of so many words holds: three in each word after the first
 abbrev pub cellsFor : ℕ → ℕ
 cellsFor words = 3 * (words - 1)
+
+-- how many characters a fragment of so many words has room for, a first one or another:
+-- "The first fragment's second word starts with signature S, then two characters; every other word holds three"
+abbrev pub roomFor : Bool → ℕ → ℕ
+roomFor first words = pick first 2 3 + 3 * (words - 2)
 
 -- how many fragments of at most so many words a text has: as many as its words fill, the last perhaps in part
 abbrev pub fragmentsFor : ℕ → ℕ → ℕ
@@ -64,7 +69,7 @@ fragmentsFor largest characters = (wordsFor characters + (largest - 2)) / (large
 abbrev pub cellsAt : ℕ → List ℕ → ℕ → List ℕ
 cellsAt largest text place = take (cellsFor largest) (drop (cellsFor largest * place) (messageOf text))
 
--- .. and that fragment
+-- the fragment at a place
 unfoldable pub fragmentAt : Marks → ℕ → List ℕ → ℕ → List ℕ
 fragmentAt marks largest text place =
     fragmentOf (eqb place 0) (headAt marks place (fragmentsFor largest (length text) - 1 - place)) (cellsAt largest text place)

@@ -35,7 +35,7 @@ abbrev pub headOf : Bool → Layout
 headOf true = field 1 ∷ field 1 ∷ field 6 ∷ field 2 ∷ field 1 ∷ field 10 ∷ []
 headOf false = unused 2 ∷ field 6 ∷ field 2 ∷ field 1 ∷ field 10 ∷ []
 
--- .. its numbers but K: M and R, where it is a first fragment's, N, F and C
+-- the numbers of a first word but K: M and R, where it is a first fragment's, N, F and C
 abbrev pub headFor : Bool → ℕ → ℕ → ℕ → ℕ → ℕ → List ℕ
 headFor first m r n f c = pick first (m ∷ r ∷ []) [] ++ n ∷ f ∷ c ∷ []
 
@@ -55,7 +55,7 @@ wordsOf (a ∷ []) = number (2 ^ cellBits) (a ∷ []) ∷ []
 wordsOf (a ∷ b ∷ []) = number (2 ^ cellBits) (a ∷ b ∷ []) ∷ []
 wordsOf (a ∷ b ∷ c ∷ cells) = number (2 ^ cellBits) (a ∷ b ∷ c ∷ []) ∷ wordsOf cells
 
--- a fragment with K in its first word, behind the other numbers of its head
+-- a fragment with K in its first word, after the other numbers of its head
 abbrev pub fragmentWith : Bool → List ℕ → ℕ → List ℕ → List ℕ
 fragmentWith first head k cells = packed (headOf first) (head ++ k ∷ []) ∷ wordsOf cells
 
@@ -97,21 +97,21 @@ isFirst words = eqb (fragmentNumberIn words) firstNumber
 abbrev pub mailDropIn : List ℕ → ℕ
 mailDropIn words = pick (isFirst words) (getD (fieldsOf (headOf true) (headIn words)) 0 0) 0
 
--- .. R
+-- R of a first fragment
 abbrev pub retrievalIn : List ℕ → ℕ
 retrievalIn words = pick (isFirst words) (getD (fieldsOf (headOf true) (headIn words)) 1 0) 0
 
--- the cells behind the first word
-abbrev pub cellsBehind : List ℕ → List ℕ
-cellsBehind words = cellsOf (drop 1 words)
+-- the cells after the first word
+abbrev pub cellsAfterHead : List ℕ → List ℕ
+cellsAfterHead words = cellsOf (drop 1 words)
 
 -- 01: "The first fragment's second word starts with signature S"
 abbrev pub signatureIn : List ℕ → ℕ
-signatureIn words = pick (isFirst words) (getD (cellsBehind words) 0 0) 0
+signatureIn words = pick (isFirst words) (getD (cellsAfterHead words) 0 0) 0
 
--- the characters, fill among them: all cells, of a first fragment all behind the signature
+-- the characters, fill among them: all cells, of a first fragment all after the signature
 abbrev pub charactersIn : List ℕ → List ℕ
-charactersIn words = drop (bitOf (isFirst words)) (cellsBehind words)
+charactersIn words = drop (bitOf (isFirst words)) (cellsAfterHead words)
 
 -- 01: "the reader drops it wherever it stands"
 unfoldable pub withoutFill : List ℕ → List ℕ
@@ -124,7 +124,7 @@ textIn words = withoutFill (charactersIn words)
 
 -- all that is summed for the signature, S itself with it, modulo 128
 abbrev pub sumIn : List ℕ → ℕ
-sumIn words = sumBy whole (cellsBehind words) % 2 ^ cellBits
+sumIn words = sumBy whole (cellsAfterHead words) % 2 ^ cellBits
 
 -- 01's table, 11: whether K as it came is that of the words
 abbrev pub checked : List ℕ → Bool

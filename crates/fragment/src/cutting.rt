@@ -163,7 +163,7 @@ fn head_of(marks: Marks, place: usize, left: usize) -> u32
     numbers
 }
 
-// The words behind the first of a fragment, whose cells begin at a place of the message.
+// The words after the first of a fragment, whose cells begin at a place of the message.
 fn write_cells(text: &[u8], signature: u32, place: usize, words: &mut [u32])
     requires { ⌜ sendable (now text) ≡ true ⌝ }
     requires { ⌜ signature ≡ signatureOf (filled (now text)) ⌝ }
@@ -243,7 +243,7 @@ fn write_at(
     );
 }
 
-// The fragments of a text that is not refused, one behind the other.
+// The fragments of a text that is not refused, one after the other.
 fn write_fragments(text: &[u8], marks: Marks, largest: usize, count: usize, words: &mut [u32])
     requires { ⌜ numberTold (cutOf (length (now words)) marks largest (now text)) ≡ 0 ⌝ }
     requires { ⌜ count ≡ fragmentsFor largest (length (now text)) ⌝ }
@@ -257,7 +257,7 @@ fn write_fragments(text: &[u8], marks: Marks, largest: usize, count: usize, word
     }
 }
 
-// A text as fragments of at most so many words, one behind the other: how many fragments and words, or the first refusal.
+// A text as fragments of at most so many words, one after the other: how many fragments and words, or the first refusal.
 // What is refused leaves the words as they were.
 pub fn cut(text: &[u8], marks: Marks, largest: usize, words: &mut [u32]) -> TextCut
     ensures told { λ r. ⌜ r ≡ asCut (cutOf (length (now (words .entry))) marks largest (now (text .entry))) ⌝ }

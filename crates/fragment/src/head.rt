@@ -42,7 +42,7 @@ fn sum_in(word: u32) -> u32
     word % CELL_LIMIT + (word >> 7) % CELL_LIMIT + (word >> 14) % CELL_LIMIT
 }
 
-// The sum modulo 128 of all cells behind the first word. It is reduced behind the loop, since one that reduces at each
+// The sum modulo 128 of all cells after the first word. It is reduced after the loop, since one that reduces at each
 // turn is not compiled to several words at a time; the loop's own sum wraps at a multiple of 128.
 fn sum(words: &[u32]) -> u32
     ensures { λ r. ⌜ r ≡ sumIn (now (words .entry)) ⌝ }

@@ -84,7 +84,7 @@ pub(crate) fn count(second: u32, words: &[u32]) -> usize
     count_many(second, words)
 }
 
-// A cell written behind what was written before, unless it is fill; the place behind it.
+// A cell written after what was written before, unless it is fill; the place after it.
 fn write_cell(cell: u32, text: &mut [u8], at: usize) -> usize
     requires { ⌜ cell < 128 ⌝ }
     requires { ⌜ at + length (withoutFill (cell ∷ [])) ≤ length (now text) ⌝ }
@@ -98,7 +98,7 @@ fn write_cell(cell: u32, text: &mut [u8], at: usize) -> usize
     at + 1
 }
 
-// The text of a word written behind what was written before; the place behind it.
+// The text of a word written after what was written before; the place after it.
 fn write_word(word: u32, text: &mut [u8], at: usize) -> usize
     requires { ⌜ at + length (withoutFill (cellsIn word)) ≤ length (now text) ⌝ }
     ensures next { λ r. ⌜ r ≡ at + length (withoutFill (cellsIn word)) ⌝ }
@@ -118,7 +118,7 @@ fn is_full(word: u32) -> bool
         & ((word >> 14) % CELL_LIMIT != ETX)
 }
 
-// Whether no word behind the second has fill, which a text needs only at its end. Asked of all words at once, and not of
+// Whether no word after the second has fill, which a text needs only at its end. Asked of all words at once, and not of
 // each before it is written, since this loop is compiled to several words at a time and the one that writes is not.
 fn are_full(words: &[u32]) -> bool
     ensures { λ r. ⌜ r ≡ all isFull (drop 2 (now (words .entry))) ⌝ }
@@ -132,7 +132,7 @@ fn are_full(words: &[u32]) -> bool
     full
 }
 
-// The text of a word without fill written behind what was written before; the place behind it.
+// The text of a word without fill written after what was written before; the place after it.
 fn write_three(word: u32, text: &mut [u8], at: usize) -> usize
     requires { ⌜ isFull word ≡ true ⌝ }
     requires { ⌜ at + length (withoutFill (cellsIn word)) ≤ length (now text) ⌝ }
@@ -145,7 +145,7 @@ fn write_three(word: u32, text: &mut [u8], at: usize) -> usize
     at + 3
 }
 
-// The text behind the second word written behind what was written before, where no word has fill; the place behind it.
+// The text after the second word written after what was written before, where no word has fill; the place after it.
 fn write_full(words: &[u32], text: &mut [u8], from: usize) -> usize
     requires { ⌜ all isFull (drop 2 (now words)) ≡ true ⌝ }
     requires { ⌜ from + length (withoutFill (cellsOf (drop 2 (now words)))) ≤ length (now text) ⌝ }
@@ -189,7 +189,7 @@ fn write_words(second: u32, words: &[u32], text: &mut [u8]) -> usize
     write_rest(words, text, begun)
 }
 
-// Whether the text that a second word begins has room. Three characters a word behind the first, which holds none, are
+// Whether the text that a second word begins has room. Three characters a word after the first, which holds none, are
 // never too few, so that it is counted only where the room is less than that.
 fn has_room(second: u32, words: &[u32], room: usize) -> bool
     requires { ⌜ 2 ≤ length (now words) ⌝ }

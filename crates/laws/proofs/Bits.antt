@@ -18,7 +18,7 @@ pub without-lowest : (bit : Bool) (rest : ℕ) → (bitOf bit + 2 * rest) / 2 �
 without-lowest true rest = omega arith
 without-lowest false rest = omega arith
 
--- .. and the bit above is the rest's
+-- of a bit and the rest, the bit above the lowest is the rest's
 pub higher : (bit : Bool) (rest j : ℕ) → (bitOf bit + 2 * rest) / 2 ^ suc j ≡ rest / 2 ^ j
 higher bit rest j = rw (pow-succ', ← div-div-eq-div-mul, without-lowest)
 
@@ -32,7 +32,7 @@ pub bit-le : (bit : Bool) → bitOf bit ≤ 1
 bit-le true = omega arith
 bit-le false = omega arith
 
--- .. and 1 where the test holds
+-- a test holds where its bit is 1
 pub set-bit : (bit : Bool) → bitOf bit ≡ 1 → bit ≡ true
 set-bit true h = refl
 set-bit false h = absurd (omega arith)

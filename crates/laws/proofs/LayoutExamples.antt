@@ -11,7 +11,7 @@ use Rattle.laws.proofs.Layouts.{laid}
 abbrev sample : Layout
 sample = printed 2 1 ∷ zeros 1 ∷ field 3 ∷ unused 2 ∷ []
 
--- .. and one in which every bit is looked at
+-- a row of 8 bits in which every bit is looked at
 abbrev whole : Layout
 whole = printed 2 1 ∷ zeros 1 ∷ field 3 ∷ field 2 ∷ []
 

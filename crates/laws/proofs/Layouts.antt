@@ -42,23 +42,23 @@ numberIn (field w) [] = 2 ^ w
 numberIn (field w) (v ∷ values) = v
 numberIn (unused w) values = 0
 
--- the values that are still to be placed behind it
-abbrev pub behind : Part → List ℕ → List ℕ
-behind (printed w p) values = values
-behind (zeros w) values = values
-behind (field w) [] = []
-behind (field w) (v ∷ values) = values
-behind (unused w) values = values
+-- the values that are still to be placed after it
+abbrev pub valuesAfter : Part → List ℕ → List ℕ
+valuesAfter (printed w p) values = values
+valuesAfter (zeros w) values = values
+valuesAfter (field w) [] = []
+valuesAfter (field w) (v ∷ values) = values
+valuesAfter (unused w) values = values
 
 -- the numbers of all parts, each times the weight of its place
 abbrev pub sumOf : Layout → List ℕ → ℕ
 sumOf [] values = 0
-sumOf (part ∷ row) values = numberIn part values * 2 ^ size row + sumOf row (behind part values)
+sumOf (part ∷ row) values = numberIn part values * 2 ^ size row + sumOf row (valuesAfter part values)
 
 -- each number is below the power of its part's width, and no value is left over
 abbrev Fits : Layout → List ℕ → Type 0
 Fits [] values = values ≡ []
-Fits (part ∷ row) values = (numberIn part values < 2 ^ width part) × Fits row (behind part values)
+Fits (part ∷ row) values = (numberIn part values < 2 ^ width part) × Fits row (valuesAfter part values)
 
 -- what the tests of the row and of the values say
 fits : (so : Bool) (row : Layout) (values : List ℕ) → T (printedFit row) → fitAfter so row values ≡ true → (so ≡ true) × Fits row values
@@ -80,7 +80,7 @@ fits so (unused w ∷ row) values t e =
     let rest = fits so row values t e in
     (rest .0, (pow-pos w, rest .1))
 
--- a number and the bits behind it stay below the power of both widths
+-- a number and the bits after it stay below the power of both widths
 number-lt : (w s v rest : ℕ) → v < 2 ^ w → rest < 2 ^ s → v * 2 ^ s + rest < 2 ^ (w + s)
 number-lt w s v rest h k = rw (pow-add 2 w s) (digits-lt h k)
 
@@ -92,7 +92,7 @@ nothing-added s rest = rw (zero-mul, zero-add)
 sum-lt : (row : Layout) (values : List ℕ) → Fits row values → sumOf row values < 2 ^ size row
 sum-lt [] values f = omega arith
 sum-lt (part ∷ row) values f =
-    number-lt (width part) (size row) (numberIn part values) (sumOf row (behind part values)) (f .0) (sum-lt row (behind part values) (f .1))
+    number-lt (width part) (size row) (numberIn part values) (sumOf row (valuesAfter part values)) (f .0) (sum-lt row (valuesAfter part values) (f .1))
 
 -- a number is moved to its place whole
 moved-whole : (w place v : ℕ) → v < 2 ^ w → w + place ≤ 32 → moved place v ≡ v * 2 ^ place
@@ -106,14 +106,14 @@ above-rest w s v q = rw (pow-add 2 w s, add-mul (q * 2 ^ w) v (2 ^ s), mul-assoc
 regroup : (w s v rest q : ℕ) → q * 2 ^ (w + s) + (v * 2 ^ s + rest) ≡ (q * 2 ^ w + v) * 2 ^ s + rest
 regroup w s v rest q = sym (add-assoc (q * 2 ^ (w + s)) (v * 2 ^ s) rest) ∙ ap (λ (x : ℕ). x + rest) (above-rest w s v q)
 
--- "or" puts a number behind what stands above it
+-- "or" puts a number after what stands above it
 joined : (w s v q : ℕ) → v < 2 ^ w → w + s ≤ 32 → bitOr (q * 2 ^ (w + s)) (moved s v) ≡ (q * 2 ^ w + v) * 2 ^ s
 joined w s v q h l =
     ap (bitOr (q * 2 ^ (w + s))) (moved-whole w s v h l)
     ∙ or-shifted q (w + s) (v * 2 ^ s) (shl-lt w s h)
     ∙ above-rest w s v q
 
--- .. and a part that is 0 needs no "or"
+-- a part that is 0 needs no "or"
 not-joined : (w s q : ℕ) → q * 2 ^ (w + s) ≡ (q * 2 ^ w + 0) * 2 ^ s
 not-joined w s q = rw (add-zero, pow-add 2 w s, mul-assoc q (2 ^ w) (2 ^ s))
 
@@ -142,7 +142,7 @@ packed-sum row values f l =
     ∙ packed-after row values 0 f l
     ∙ nothing-added (size row) (sumOf row values)
 
--- a row is larger by a field behind it
+-- a row is larger by a field after it
 size-last : (row : Layout) (w : ℕ) → size (row ++ field w ∷ []) ≡ size row + w
 size-last [] w = omega arith
 size-last (part ∷ row) w = rw (size-last row w) (omega arith)
@@ -155,7 +155,7 @@ none-fit so (zeros u ∷ row) w = none-fit so row w
 none-fit so (field u ∷ row) w = refl
 none-fit so (unused u ∷ row) w = none-fit so row w
 
--- .. and to a row with a field behind it the last number is asked last
+-- of a row with a field after it the last number is asked last
 fit-last-after : (so : Bool) (row : Layout) (values : List ℕ) (w k : ℕ) → fitAfter so (row ++ field w ∷ []) (values ++ k ∷ []) ≡ (fitAfter so row values && ltb k (2 ^ w))
 fit-last-after so [] [] w k = refl
 fit-last-after so [] (v ∷ []) w k = refl
@@ -166,15 +166,15 @@ fit-last-after so (field u ∷ row) [] w k = none-fit (so && ltb k (2 ^ u)) row 
 fit-last-after so (field u ∷ row) (v ∷ values) w k = fit-last-after (so && ltb v (2 ^ u)) row values w k
 fit-last-after so (unused u ∷ row) values w k = fit-last-after so row values w k
 
--- numbers fit a row with a field behind it where those before the last fit the row and the last fits the field
+-- numbers fit a row with a field after it where those before the last fit the row and the last fits the field
 fit-last : (row : Layout) (values : List ℕ) (w k : ℕ) → fit (row ++ field w ∷ []) (values ++ k ∷ []) ≡ (fit row values && ltb k (2 ^ w))
 fit-last row values w k = fit-last-after true row values w k
 
--- .. so that where all fit, those before the last fit the row
+-- where all numbers fit, those before the last fit the row
 pub fit-before : (row : Layout) (values : List ℕ) (w k : ℕ) → fit (row ++ field w ∷ []) (values ++ k ∷ []) ≡ true → fit row values ≡ true
 fit-before row values w k e = and-eq-true-iff (fit row values) (ltb k (2 ^ w)) .0 (sym (fit-last row values w k) ∙ e) .0
 
--- .. and fit with any other number that fits the field
+-- numbers that fit with one last number fit with any other that fits the field
 pub fit-other : (row : Layout) (values : List ℕ) (w k other : ℕ) → fit (row ++ field w ∷ []) (values ++ k ∷ []) ≡ true → other < 2 ^ w → fit (row ++ field w ∷ []) (values ++ other ∷ []) ≡ true
 fit-other row values w k other e small = fit-last row values w other ∙ rw (fit-before row values w k e, lt-ltb other (2 ^ w) small)
 
@@ -192,11 +192,11 @@ above-is : (place n : ℕ) → above place n ≡ n / 2 ^ place
 above-is zero n = sym (div-one n)
 above-is (suc place) n = refl
 
--- .. so that the bits at a place are what is left over a power, up to another
+-- the bits at a place are what is left over a power, up to another
 pub bits-are : (place wide n : ℕ) → bitsAt place wide n ≡ n / 2 ^ place % 2 ^ wide
 bits-are place wide n = ap (λ (x : ℕ). x % 2 ^ wide) (above-is place n)
 
--- .. and those above a place are those of the number above it
+-- the bits above a place are those of the number above it
 pub bits-above : (below place wide n : ℕ) → bitsAt (below + place) wide n ≡ bitsAt place wide (n / 2 ^ below)
 bits-above below place wide n =
     bits-are (below + place) wide n ∙ rw (← shr-shr n below place) (sym (bits-are place wide (n / 2 ^ below)))
@@ -282,7 +282,7 @@ masked chosen (part ∷ row) n =
     ∙ and-block s (n / 2 ^ s) ones (n % 2 ^ s) (maskOf chosen row) (mod-lt n (pow-pos s)) (mask-lt chosen row)
     ∙ ap₂ (λ (x y : ℕ). x * 2 ^ s + y) (and-part (chosen part) s w n) (and-low n (maskOf chosen row) s (mask-lt chosen row) ∙ masked chosen row n)
 
--- .. and so has what it takes
+-- what a mask takes has no more bits than the row
 taken-lt : (chosen : Part → Bool) (row : Layout) (n : ℕ) → takenOf chosen row n < 2 ^ size row
 taken-lt chosen row n = rw (← masked chosen row n) (lt-of-le-of-lt (and-le-r n (maskOf chosen row)) (mask-lt chosen row))
 
@@ -296,8 +296,8 @@ same-parts s a b r t h k = by-test (eqb a b) refl (eqb r t) refl
     by-test false e y f = ne-eqb _ _ (λ q. eqb-false a b e (sym (digits-div a h) ∙ ap (λ (x : ℕ). x / 2 ^ s) q ∙ digits-div b k))
 
 -- what the table prints has no more bits than the row
-printed-behind : (w : ℕ) (row : Layout) → printedBits row < 2 ^ size row → printedBits row < 2 ^ (w + size row)
-printed-behind w row h =
+printed-after : (w : ℕ) (row : Layout) → printedBits row < 2 ^ size row → printedBits row < 2 ^ (w + size row)
+printed-after w row h =
     rw (nothing-added (size row) (printedBits row)) at (number-lt w (size row) 0 (printedBits row) (pow-pos w) h)
 
 printed-lt : (row : Layout) → T (printedFit row) → printedBits row < 2 ^ size row
@@ -305,9 +305,9 @@ printed-lt [] t = omega arith
 printed-lt (printed w v ∷ row) t =
     let both = and-yes (ltb v (2 ^ w)) (printedFit row) t in
     number-lt w (size row) v (printedBits row) (ltb→lt v (2 ^ w) (both .0)) (printed-lt row (both .1))
-printed-lt (zeros w ∷ row) t = printed-behind w row (printed-lt row t)
-printed-lt (field w ∷ row) t = printed-behind w row (printed-lt row t)
-printed-lt (unused w ∷ row) t = printed-behind w row (printed-lt row t)
+printed-lt (zeros w ∷ row) t = printed-after w row (printed-lt row t)
+printed-lt (field w ∷ row) t = printed-after w row (printed-lt row t)
+printed-lt (unused w ∷ row) t = printed-after w row (printed-lt row t)
 
 -- what the mask takes is what the table prints exactly if each part is
 shown-each : (row : Layout) (n : ℕ) → T (printedFit row) → eqb (takenOf isPrinted row n) (printedBits row) ≡ shownEach row n
@@ -369,11 +369,11 @@ each-fits row values t e = fits true row values (and-yes (leb (size row) 32) (pr
 pub packed-is : (row : Layout) (values : List ℕ) → T (laid row) → fit row values ≡ true → packed row values ≡ sumOf row values
 packed-is row values t e = packed-sum row values (each-fits row values t e) (at-most-32 row t)
 
--- .. and has no more bits than the row
+-- what was built has no more bits than the row
 pub packed-lt : (row : Layout) (values : List ℕ) → T (laid row) → fit row values ≡ true → packed row values < 2 ^ size row
 packed-lt row values t e = rw (packed-is row values t e) (sum-lt row values (each-fits row values t e))
 
--- .. and with one field more it stands above that field's number
+-- what was built with one field more is the rest above that field's number
 pub packed-last : (row : Layout) (values : List ℕ) (w k : ℕ) → T (laid row) → T (laid (row ++ field w ∷ [])) → fit row values ≡ true → k < 2 ^ w → packed (row ++ field w ∷ []) (values ++ k ∷ []) ≡ packed row values * 2 ^ w + k
 packed-last row values w k t u e h =
     packed-is (row ++ field w ∷ []) (values ++ k ∷ []) u (fit-last row values w k ∙ rw (e, lt-ltb k (2 ^ w) h))
@@ -409,6 +409,6 @@ packed-read row n t e =
     ∙ read-sum row n (shown-bits row n t e)
     ∙ sym (masked isRead row n)
 
--- .. and the very bits where every one is looked at
+-- building what was read gives the very bits where every one is looked at
 pub packed-read-whole : (row : Layout) (n : ℕ) → T (laid row) → n < 2 ^ size row → shows row n ≡ true → maskOf isRead row ≡ 2 ^ size row - 1 → packed row (fieldsOf row n) ≡ n
 packed-read-whole row n t h e whole = packed-read row n t e ∙ ap (bitAnd n) whole ∙ and-mask n (size row) ∙ mod-eq-of-lt h

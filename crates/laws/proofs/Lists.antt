@@ -21,7 +21,7 @@ use Rattle.laws.proofs.Tests.{decided}
 -- ---- what stands at a place
 
 module _ {ℓ} {A : Type ℓ} where
-  -- within a row it is the row's, whatever is said to stand behind it
+  -- what stands at a place within a row is the row's, whatever is said to stand after the row
   pub at-within : (row : List A) (k : ℕ) (d e : A) → k < length row → getD row k d ≡ getD row k e
   at-within [] k d e within = absurd (omega arith)
   at-within (x ∷ row) zero d e within = refl
@@ -38,20 +38,20 @@ module _ {ℓ} {A : Type ℓ} where
 
 -- ---- the numbers from a first one on
 
--- they are as many as asked for
+-- the numbers from a first one on are as many as asked for
 pub up-length : (a n : ℕ) → length (upFrom a n) ≡ n
 unfolding upFrom
 up-length a zero = refl
 up-length a (suc n) = rw (up-length (suc a) n)
 
--- each is one more than the one before
+-- each of the numbers from a first one on is one more than the one before
 pub up-at : (a n k : ℕ) → k < n → getD (upFrom a n) k 0 ≡ a + k
 unfolding upFrom
 up-at a zero k within = absurd (omega arith)
 up-at a (suc n) zero within = omega arith
 up-at a (suc n) (suc k) within = up-at (suc a) n k (omega arith) ∙ omega arith
 
--- a number among them is found where it stands
+-- a number among the numbers from a first one on is found where it stands
 pub up-place : (a n w : ℕ) → a ≤ w → w < a + n → placeIn (upFrom a n) w ≡ w - a
 unfolding upFrom placeIn
 up-place a zero w least most = absurd (omega arith)
@@ -61,13 +61,13 @@ up-place a (suc n) w least most =
     (λ later. let not-here = eqb-false w a later in rw (later, up-place (suc a) n w (omega arith) (omega arith)) (omega arith))
     (decided (eqb w a))
 
--- .. and one that is not among them nowhere
+-- a number that is not among the numbers from a first one on is found nowhere
 pub up-no-place : (a n w : ℕ) → (w < a) ⊎ (a + n ≤ w) → placeIn (upFrom a n) w ≡ n
 unfolding placeIn
 up-no-place a n w outside =
     none-found (eqb w) (upFrom a n) 0 (λ k within.
     let inside : k < n = rw up-length at within in
-    rw (up-at a n k inside) (ne-eqb w (a + k) (λ is. ⊎-elim (λ before. omega arith) (λ behind. omega arith) outside)))
+    rw (up-at a n k inside) (ne-eqb w (a + k) (λ is. ⊎-elim (λ before. omega arith) (λ after. omega arith) outside)))
     ∙ up-length a n
 
 module _ {ℓ} {A : Type ℓ} (test : A → Bool) where
@@ -81,20 +81,20 @@ module _ {ℓ} {A : Type ℓ} (test : A → Bool) where
   any-at (x ∷ row) d (suc k) within good = rw (any-at row d k (omega arith) good) (or-true (test x))
 
   module _ (row : List A) (d : A) (i : ℕ) where
-    -- from a place on: the one there, or one behind it
+    -- from a place on: the one there, or one after it
     pub any-from : i < length row → anyOf test (drop i row) ≡ (test (getD row i d) || anyOf test (drop (i + 1) row))
     unfolding anyOf
     any-from within = rw (add-one, drop-cons row i d within)
 
-    -- asked so far, the one there, and those behind it
+    -- asked so far, the one there, and those after it
     pub any-turn : (so : Bool) → i < length row → ((so || test (getD row i d)) || anyOf test (drop (i + 1) row)) ≡ (so || anyOf test (drop i row))
     any-turn so within = rw (any-from within) (or-assoc so (test (getD row i d)) (anyOf test (drop (i + 1) row)))
 
-    -- one that passes: one does
+    -- where the one at a place passes, one from there on does
     pub any-here : i < length row → test (getD row i d) ≡ true → true ≡ anyOf test (drop i row)
     any-here within good = rw (any-from within, good)
 
-    -- one that does not: those behind it are still to be asked
+    -- where the one at a place does not pass, those after it are still to be asked
     pub any-later : i < length row → test (getD row i d) ≡ false → anyOf test (drop (i + 1) row) ≡ anyOf test (drop i row)
     any-later within bad = rw (any-from within, bad)
 
@@ -110,7 +110,7 @@ module _ {ℓ} {A : Type ℓ} (test : A → Bool) where
 
   -- ---- those of a row that pass
 
-  -- those of what is joined are those of both
+  -- those that pass of what is joined are those that pass of both
   pub those-append : (xs ys : List A) → those test (xs ++ ys) ≡ those test xs ++ those test ys
   unfolding those
   those-append [] ys = refl
@@ -120,12 +120,12 @@ module _ {ℓ} {A : Type ℓ} (test : A → Bool) where
       by-test true = refl
       by-test false = refl
 
-  -- .. so that one more behind a row is the last of them, if it passes
+  -- one more after a row is the last of those that pass, if it does
   pub those-snoc : (row : List A) (x : A) → those test (row ++ x ∷ []) ≡ those test row ++ pick (test x) (x ∷ []) []
   unfolding those
   those-snoc row x = those-append row (x ∷ [])
 
-  -- how many they are: one more where the first passes
+  -- how many pass: one more where the first does
   pub those-length-cons : (x : A) (row : List A) → length (those test (x ∷ row)) ≡ bitOf (test x) + length (those test row)
   unfolding those
   those-length-cons x row = by-test (test x)
@@ -134,13 +134,13 @@ module _ {ℓ} {A : Type ℓ} (test : A → Bool) where
       by-test true = omega arith
       by-test false = omega arith
 
-  -- .. and at most all
+  -- those that pass are at most all
   pub those-most : (row : List A) → length (those test row) ≤ length row
   unfolding those
   those-most [] = omega arith
   those-most (x ∷ row) = omega (arith, those-length-cons x row, bit-le (test x), those-most row)
 
-  -- .. and fewer where one does not
+  -- those that pass are fewer than all where one does not
   pub those-fewer : (row : List A) (d : A) (k : ℕ) → k < length row → test (getD row k d) ≡ false → length (those test row) < length row
   unfolding those
   those-fewer [] d k within bad = absurd (omega arith)

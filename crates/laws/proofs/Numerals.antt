@@ -49,7 +49,7 @@ first-digit : (b d : ℕ) (row : List ℕ) → areDigits b (d ∷ row) ≡ true 
 unfolding all
 first-digit b d row e = ltb-true d b (first-of (ltb d b) (areDigits b row) e)
 
--- .. and so are the others
+-- of a row of digits the others are digits as well
 other-digits : (b d : ℕ) (row : List ℕ) → areDigits b (d ∷ row) ≡ true → areDigits b row ≡ true
 unfolding all
 other-digits b d row e = second-of (ltb d b) (areDigits b row) e
@@ -58,11 +58,11 @@ other-digits b d row e = second-of (ltb d b) (areDigits b row) e
 lowest : (b d n : ℕ) → d < b → (d + b * n) % b ≡ d
 lowest b d n h = add-mul-mod-self-left d b n ∙ mod-eq-of-lt h
 
--- .. and the digits above it
+-- of a digit and the digits above it, those above it
 without-lowest : (b d n : ℕ) → d < b → (d + b * n) / b ≡ n
 without-lowest b d n h = add-mul-div-left d n (omega arith) ∙ rw (div-eq-of-lt h, zero-add)
 
--- .. and a power of the base is a digit
+-- of a digit and the digits above it, those above a power are those above the power that is one lower
 a-digit-less : (b d n k : ℕ) → d < b → (d + b * n) / b ^ suc k ≡ n / b ^ k
 a-digit-less b d n k h = rw (pow-succ' b k, ← div-div-eq-div-mul (d + b * n) b (b ^ k), without-lowest b d n h)
 
@@ -74,7 +74,7 @@ digits-number b (d ∷ row) e =
     let h = first-digit b d row e in
     ap₂ _∷_ (lowest b d (number b row) h) (rw (without-lowest b d (number b row) h) (digits-number b row (other-digits b d row e)))
 
--- .. so that the digits of a number, so many, are not asked for more than their power
+-- so many digits of a number do not depend on what is above their power
 pub digits-low : (b n x : ℕ) → 0 < b → digits b n (x % b ^ n) ≡ digits b n x
 digits-low b n x h = rw (length-digits b n x, number-digits b n x h) at (digits-number b (digits b n x) (digits-are b n x h))
 
@@ -95,7 +95,7 @@ number-drop b (d ∷ row) (suc k) e =
     rw (a-digit-less b d (number b row) k (first-digit b d row e))
     (number-drop b row k (other-digits b d row e))
 
--- .. and its lowest digit is then the row's digit at that place, 0 behind the row's end
+-- the lowest digit of what is left is the row's digit at that place, 0 after the row's end
 pub digit-at : (b : ℕ) (row : List ℕ) (k : ℕ) → areDigits b row ≡ true → number b row / b ^ k % b ≡ getD row k 0
 unfolding number
 digit-at b [] k e = rw (zero-div (b ^ k)) (zero-mod b)
@@ -126,7 +126,7 @@ digit-bits size row k place wide e h =
     (sym (low-bits place wide (size - (wide + place)) (n / (2 ^ size) ^ k))
     ∙ rw (parts, digit-at (2 ^ size) row k e))
 
--- the digits of a number from a place on: the one there, and those behind it
+-- the digits of a number from a place on: the one there, and those after it
 pub digits-next : (b count n i : ℕ) → i < count → digits b (count - i) (n / b ^ i) ≡ n / b ^ i % b ∷ digits b (count - (i + 1)) (n / b ^ (i + 1))
 unfolding digits
 digits-next b count n i more =
@@ -134,7 +134,7 @@ digits-next b count n i more =
     let above : n / b ^ i / b ≡ n / b ^ (i + 1) = div-div-eq-div-mul n (b ^ i) b ∙ rw (add-one, pow-suc) in
     rw (left, above)
 
--- so many numbers of a row from a place on, 0 behind its end
+-- so many numbers of a row from a place on, 0 after its end
 abbrev pub window : List ℕ → ℕ → ℕ → List ℕ
 window row k zero = []
 window row k (suc n) = getD row k 0 ∷ window row (suc k) n
@@ -147,7 +147,7 @@ digits-from b row k (suc n) e =
     ap₂ _∷_ (digit-at b row k e)
     (rw (div-div-eq-div-mul (number b row) (b ^ k) b, ← pow-suc b k) (digits-from b row (suc k) n e))
 
--- .. and make the number that stands there, up to their power
+-- so many digits of a row from a place on make the number that stands there, up to their power
 pub number-from : (b : ℕ) (row : List ℕ) (k n : ℕ) → 0 < b → areDigits b row ≡ true → number b (window row k n) ≡ number b row / b ^ k % b ^ n
 number-from b row k n h e = rw (← digits-from b row k n e) (number-digits b n (number b row / b ^ k) h)
 

@@ -10,18 +10,18 @@ use lib.Seq.{drop-append-le, drop-drop, take-nil, take-all}
 use Rattle.laws.specs.Lists.{put}
 
 module _ {A : Type 0} (buffer : List A) (place count : ℕ) where
-  -- behind the end there is nothing,
+  -- a part that begins after the buffer's end is empty
   pub part-none : length buffer ≤ place → [] ≡ take count (drop place buffer)
   part-none out = sym (ap (take count) (drop-of-length-le buffer out) ∙ take-nil count)
 
-  -- where the buffer ends before so many, its rest,
+  -- where the buffer ends before so many, the part is its rest
   pub part-rest : place ≤ length buffer → length buffer - place < count → take (length buffer - place) (drop place buffer) ≡ take count (drop place buffer)
   part-rest within fewer =
       let rest = drop place buffer in
       let room : length rest ≡ length buffer - place = length-drop place buffer in
       take-all (length buffer - place) rest (omega arith) ∙ sym (take-all count rest (omega arith))
 
-  -- and else what lies from the place to the end of so many
+  -- else the part is what lies from the place to the end of so many
   pub part-whole : take (place + count - place) (drop place buffer) ≡ take count (drop place buffer)
   part-whole =
       let size : place + count - place ≡ count = omega arith in
@@ -31,8 +31,8 @@ module _ {A : Type 0} (buffer : List A) (start end : ℕ) (before : start ≤ en
   -- a part whose elements are given back is what was put at its place
   pub part-put : (part : List A) → length part ≡ end - start → putMid start (end - start) buffer part ≡ put buffer start part
   part-put part same =
-      let behind : start + length part ≡ end = omega arith in
-      rw behind (ap (λ (rest : List A). take start buffer ++ (part ++ rest)) (post-is start end buffer before) ∙ sym (append-assoc (take start buffer) part (drop end buffer)))
+      let ends : start + length part ≡ end = omega arith in
+      rw ends (ap (λ (rest : List A). take start buffer ++ (part ++ rest)) (post-is start end buffer before) ∙ sym (append-assoc (take start buffer) part (drop end buffer)))
 
   -- a text that is put at the start of a part is put at the part's place
   pub part-written : (text : List A) → length text ≤ end - start → putMid start (end - start) buffer (put (midOf start (end - start) buffer) 0 text) ≡ put buffer start text
@@ -43,5 +43,5 @@ module _ {A : Type 0} (buffer : List A) (start end : ℕ) (before : start ≤ en
       sym (drop-append-le (length text) part (drop (end - start) (drop start buffer)) (omega arith))
       ∙ ap (drop (length text)) (take-append-drop (end - start) (drop start buffer))
       ∙ drop-drop (length text) start buffer in
-      let behind = drop (end - start) (drop start buffer) in
-      rw (zero-add (length text), append-assoc text (drop (length text) part) behind, rest) (sym (append-assoc (take start buffer) text (drop (start + length text) buffer)))
+      let later = drop (end - start) (drop start buffer) in
+      rw (zero-add (length text), append-assoc text (drop (length text) part) later, rest) (sym (append-assoc (take start buffer) text (drop (start + length text) buffer)))

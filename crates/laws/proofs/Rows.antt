@@ -1,6 +1,6 @@
 -- Rows: a test of all, also number by number from the front, a search, a sum.
 use Prim.Native.Nat.{ℕ, zero, suc, _+_, _*_, _≤_, _<_}
-use mathlib.Core.Bool.{Bool, true, false, _&&_, and-assoc, and-eq-true-iff}
+use mathlib.Core.Bool.{Bool, true, false, _&&_, and-assoc, and-true, and-eq-true-iff}
 use mathlib.Core.List.{List, [], _∷_, _++_, map}
 use mathlib.Core.Path.{_≡_, refl, sym, ap, _∙_}
 use native.Mathlib.Nat.{add-assoc, zero-add}
@@ -13,19 +13,13 @@ use lib.Seq.{take-add, drop-cons, drop-drop}
 use Rattle.laws.specs.Lists.{placeIn, all, sumBy}
 use Rattle.laws.proofs.Searches.{first-passes}
 
--- a place within a row holds the same whatever stands for places behind it
-pub same-default : (row : List ℕ) (place a b : ℕ) → place < length row → getD row place a ≡ getD row place b
-same-default [] place a b within = absurd (omega arith)
-same-default (c ∷ row) zero a b within = refl
-same-default (c ∷ row) (suc place) a b within = same-default row place a b (omega arith)
-
 -- all of what is joined pass a test if all of both rows do
 pub all-append : (test : ℕ → Bool) (xs ys : List ℕ) → all test (xs ++ ys) ≡ (all test xs && all test ys)
 unfolding all
 all-append test [] ys = refl
 all-append test (x ∷ xs) ys = rw (all-append test xs ys) (sym (and-assoc (test x) (all test xs) (all test ys)))
 
--- .. so that where all of what is joined pass, all of each row do
+-- where all of what is joined pass, all of each row do
 pub all-parts : (test : ℕ → Bool) (xs ys : List ℕ) → all test (xs ++ ys) ≡ true → (all test xs ≡ true) × (all test ys ≡ true)
 all-parts test xs ys e = and-eq-true-iff (all test xs) (all test ys) .0 (sym (all-append test xs ys) ∙ e)
 
@@ -36,11 +30,11 @@ all-at test [] k e h = absurd (omega arith)
 all-at test (x ∷ row) zero e h = and-eq-true-iff (test x) (all test row) .0 e .0
 all-at test (x ∷ row) (suc k) e h = all-at test row k (and-eq-true-iff (test x) (all test row) .0 e .1) (omega arith)
 
--- .. and so do all of a part of a row
+-- where all of a row pass a test, all of a part of it do
 pub all-part : (test : ℕ → Bool) (row : List ℕ) (n place : ℕ) → all test row ≡ true → all test (take n (drop place row)) ≡ true
 all-part test row n place e =
-    let behind = all-parts test (take place row) (drop place row) (rw (take-append-drop place row) e) .1 in
-    all-parts test (take n (drop place row)) (drop n (drop place row)) (rw (take-append-drop n (drop place row)) behind) .0
+    let later = all-parts test (take place row) (drop place row) (rw (take-append-drop place row) e) .1 in
+    all-parts test (take n (drop place row)) (drop n (drop place row)) (rw (take-append-drop n (drop place row)) later) .0
 
 -- what passes a test passes one that asks less
 pub all-weaker : (test other : ℕ → Bool) (row : List ℕ) → ((x : ℕ) → test x ≡ true → other x ≡ true) → all test row ≡ true → all other row ≡ true
@@ -63,12 +57,25 @@ all-map test rule [] = refl
 all-map test rule (x ∷ row) = rw (all-map test rule row)
 
 module _ (test : ℕ → Bool) (row : List ℕ) (i : ℕ) where
-  -- the number there, and all behind it
+  -- the number there, and all after it
   all-from : i < length row → all test (drop i row) ≡ (test (getD row i 0) && all test (drop (i + 1) row))
   unfolding all
   all-from within = rw (add-one, drop-cons row i 0 within)
 
-  -- a number that passes: all behind it are still to be asked
+  -- one turn of a loop that carries along whether all so far have passed: the number there is asked with those before it
+  pub all-turn : (so : Bool) → i < length row → ((so && test (getD row i 0)) && all test (drop (i + 1) row)) ≡ (so && all test (drop i row))
+  all-turn so within = rw (all-from within) (and-assoc so (test (getD row i 0)) (all test (drop (i + 1) row)))
+
+  -- when all have been asked, what was found so far is found
+  pub all-done : (so : Bool) → length row ≤ i → so ≡ (so && all test (drop i row))
+  unfolding all
+  all-done so done = rw (drop-of-length-le row done) (sym (and-true so))
+
+  -- where all from a place on pass, the number there does, and all after it do
+  pub all-next : i < length row → all test (drop i row) ≡ true → (test (getD row i 0) ≡ true) × (all test (drop (i + 1) row) ≡ true)
+  all-next within pass = and-eq-true-iff (test (getD row i 0)) (all test (drop (i + 1) row)) .0 (sym (all-from within) ∙ pass)
+
+  -- a number that passes: all after it are still to be asked
   pub passes : i < length row → test (getD row i 0) ≡ true → all test (drop (i + 1) row) ≡ all test (drop i row)
   passes within good = rw (all-from within, good)
 
@@ -92,7 +99,7 @@ pub place-found : (row : List ℕ) (n : ℕ) → placeIn row n < length row → 
 unfolding placeIn
 place-found row n h = sym (eqb-true n (getD row (placeIn row n) 0) (first-passes (eqb n) row 0 h))
 
--- a sum from a place on: the number there, and the sum behind it
+-- a sum from a place on: the number there, and the sum after it
 pub sum-from : (rule : ℕ → ℕ) (row : List ℕ) (k : ℕ) → k < length row → sumBy rule (drop k row) ≡ rule (getD row k 0) + sumBy rule (drop (suc k) row)
 unfolding sumBy
 sum-from rule row k h = ap (sumBy rule) (drop-cons row k 0 h)
@@ -103,7 +110,7 @@ unfolding sumBy
 sum-join rule [] ys = sym (zero-add (sumBy rule ys))
 sum-join rule (x ∷ xs) ys = rw (sum-join rule xs ys) (sym (add-assoc (rule x) (sumBy rule xs) (sumBy rule ys)))
 
--- of a row in parts of a size, so many parts from one on: that part, and those behind it
+-- of a row in parts of a size, so many parts from one on: that part, and those after it
 pub parts-next : (size : ℕ) (row : List ℕ) (part count : ℕ) → take (size * suc count) (drop (size * part) row) ≡ take size (drop (size * part) row) ++ take (size * count) (drop (size * suc part) row)
 parts-next size row part count =
     let many : size * suc count ≡ size + size * count = omega arith in

@@ -16,7 +16,7 @@ use Rattle.laws.specs.Lists.{firstThat}
 use Rattle.laws.proofs.Tests.{decided, not-both}
 
 module _ {ℓ} {A : Type ℓ} (test : A → Bool) where
-  -- nothing is found behind the row
+  -- nothing is found after the row
   pub first-most : (row : List A) → firstThat test row ≤ length row
   unfolding firstThat
   first-most [] = omega arith
@@ -37,7 +37,7 @@ module _ {ℓ} {A : Type ℓ} (test : A → Bool) where
       by-test true e rest l = e
       by-test false e rest l = rest (omega arith)
 
-  -- none before it does
+  -- none before the one that is found passes
   pub none-before : (row : List A) (d : A) (k : ℕ) → k < firstThat test row → test (getD row k d) ≡ false
   unfolding firstThat
   none-before [] d k before = absurd (omega arith)
@@ -49,7 +49,7 @@ module _ {ℓ} {A : Type ℓ} (test : A → Bool) where
       by-test false e zero rest l = e
       by-test false e (suc k) rest l = rest k (omega arith)
 
-  -- so that it is found no later than one that passes
+  -- the first is found no later than any one that passes
   pub found-by : (row : List A) (d : A) (k : ℕ) → k < length row → test (getD row k d) ≡ true → firstThat test row ≤ k
   unfolding firstThat
   found-by [] d k within good = absurd (omega arith)
@@ -60,32 +60,32 @@ module _ {ℓ} {A : Type ℓ} (test : A → Bool) where
       by-test true l = omega arith
       by-test false l = omega arith
 
-  -- .. and where none passes, none is found
+  -- where none of a row passes, none is found
   pub none-found : (row : List A) (d : A) → ((k : ℕ) → k < length row → test (getD row k d) ≡ false) → firstThat test row ≡ length row
   unfolding firstThat
   none-found [] d none = refl
   none-found (x ∷ row) d none = rw (none 0 (omega arith), none-found row d (λ k within. none (suc k) (omega arith)))
 
   module _ (row : List A) (d : A) where
-    -- whether one is found: where one passes,
+    -- where one passes, one is found
     pub is-found : (k : ℕ) → k < length row → test (getD row k d) ≡ true → ltb (firstThat test row) (length row) ≡ true
     is-found k within good = lt-ltb (firstThat test row) (length row) (omega (arith, found-by row d k within good))
 
-    -- .. and then only: the one that is found passes,
+    -- where one is found, it passes
     pub found-passes : ltb (firstThat test row) (length row) ≡ true → (firstThat test row < length row) × (test (getD row (firstThat test row) d) ≡ true)
     found-passes is =
         let within = ltb-true (firstThat test row) (length row) is in
         (within, first-passes row d within)
 
-    -- .. else none of the row does
+    -- where none is found, none of the row passes
     pub none-passes : ltb (firstThat test row) (length row) ≡ false → (k : ℕ) → k < length row → test (getD row k d) ≡ false
     none-passes none k within = ⊎-elim (λ good. absurd (not-both (ltb (firstThat test row) (length row)) (is-found k within good) none)) (λ bad. bad) (decided (test (getD row k d)))
 
-    -- where none does, none is found
+    -- where none of the row passes, a test says that none is found
     pub is-none : ((k : ℕ) → k < length row → test (getD row k d) ≡ false) → ltb (firstThat test row) (length row) ≡ false
     is-none none = le-ltb (firstThat test row) (length row) (omega (arith, none-found row d none))
 
-  -- .. and the search ends at the row's end
+  -- where none is found, the search ends at the row's end
   pub none-at : (row : List A) → ltb (firstThat test row) (length row) ≡ false → firstThat test row ≡ length row
   none-at row none = omega (arith, first-most row, ltb-false (firstThat test row) (length row) none)
 
@@ -99,7 +99,7 @@ module _ {ℓ} {A : Type ℓ} (test : A → Bool) where
       rw (alike 0 (omega arith), found-alike row other d (omega arith) (λ k within. alike (suc k) (omega arith)))
 
   module _ (row : List A) (d : A) (i : ℕ) where
-    -- the search from a place on: the one there, or the search behind it
+    -- the search from a place on: the one there, or the search after it
     first-from : i < length row → firstThat test (drop i row) ≡ pick (test (getD row i d)) 0 (suc (firstThat test (drop (i + 1) row)))
     unfolding firstThat
     first-from within = rw (add-one, drop-cons row i d within)
@@ -118,8 +118,8 @@ module _ {ℓ} {A : Type ℓ} (test : A → Bool) where
     found-none done = rw (drop-of-length-le row done) (omega arith)
 
   -- none is found from a place on exactly if the search ends at the row's end
-  pub none-behind : (row : List A) (i : ℕ) → i ≤ length row → eqb (i + firstThat test (drop i row)) (length row) ≡ not (ltb (firstThat test (drop i row)) (length (drop i row)))
-  none-behind row i within =
+  pub none-after : (row : List A) (i : ℕ) → i ≤ length row → eqb (i + firstThat test (drop i row)) (length row) ≡ not (ltb (firstThat test (drop i row)) (length (drop i row)))
+  none-after row i within =
       let left : length (drop i row) ≡ length row - i = length-drop i row in
       ⊎-elim
       (λ same. eq-eqb (i + firstThat test (drop i row)) (length row) (omega arith) ∙ sym (ap not (le-ltb (firstThat test (drop i row)) (length (drop i row)) (omega arith))))

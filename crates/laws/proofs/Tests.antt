@@ -29,7 +29,7 @@ pub first-of : (a b : Bool) → (a && b) ≡ true → a ≡ true
 first-of true b e = refl
 first-of false b e = e
 
--- and the second
+-- of two tests that both hold, the second holds
 pub second-of : (a b : Bool) → (a && b) ≡ true → b ≡ true
 second-of true b e = e
 second-of false true e = refl

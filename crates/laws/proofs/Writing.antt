@@ -18,9 +18,9 @@ module _ {ℓ} {A : Type ℓ} where
   pub put-one : (buffer : List A) (place : ℕ) (a : A) → place < length buffer → set buffer place a ≡ put buffer place (a ∷ [])
   put-one buffer place a within = set-split buffer place a within ∙ rw (add-one, append-snoc)
 
-  -- a text goes on behind what was put
-  pub put-behind : (buffer xs ys : List A) (place : ℕ) → place ≤ length buffer → put (put buffer place xs) (place + length xs) ys ≡ put buffer place (xs ++ ys)
-  put-behind buffer xs ys place within =
+  -- a text goes on after what was put
+  pub put-after : (buffer xs ys : List A) (place : ℕ) → place ≤ length buffer → put (put buffer place xs) (place + length xs) ys ≡ put buffer place (xs ++ ys)
+  put-after buffer xs ys place within =
       let front = take place buffer ++ xs in
       let back = drop (place + length xs) buffer in
       let here : length front ≡ place + length xs =
@@ -29,14 +29,14 @@ module _ {ℓ} {A : Type ℓ} where
       ap (λ (n : ℕ). drop (n + length ys) (front ++ back)) (sym here) ∙ drop-append-add front back (length ys) ∙ drop-drop (length ys) (place + length xs) buffer in
       rw (take-at front back (place + length xs) here, rest, length-append xs ys, ← add-assoc place (length xs) (length ys)) (simp append-assoc)
 
-  -- .. also where what was put, and where it ends, is known by name
+  -- a text goes on after what was put, where what was put, and where it ends, is known by name
   pub put-on : (buffer after xs ys : List A) (place next : ℕ) → place ≤ length buffer → after ≡ put buffer place xs → next ≡ place + length xs → put after next ys ≡ put buffer place (xs ++ ys)
-  put-on buffer after xs ys place next within is there = rw (is, there) (put-behind buffer xs ys place within)
+  put-on buffer after xs ys place next within is there = rw (is, there) (put-after buffer xs ys place within)
 
-  -- a store, and a text behind it
+  -- a store, and a text after it
   pub put-next : (buffer text : List A) (place : ℕ) (a : A) → place < length buffer → put (set buffer place a) (suc place) text ≡ put buffer place (a ∷ text)
   put-next buffer text place a within =
-      rw (put-one buffer place a within, ← add-one place) (put-behind buffer (a ∷ []) text place (omega arith))
+      rw (put-one buffer place a within, ← add-one place) (put-after buffer (a ∷ []) text place (omega arith))
 
   -- a text is put in front of what was put
   pub put-before : (buffer xs ys : List A) (place : ℕ) → place + length xs + length ys ≤ length buffer → put (put buffer (place + length xs) ys) place xs ≡ put buffer place (xs ++ ys)
@@ -54,14 +54,14 @@ module _ {ℓ} {A : Type ℓ} where
       let before : length (take place buffer) ≡ place = length-take-le place buffer (omega arith) in
       simp (length-append, length-drop) (omega arith)
 
-  -- a text, one element more, and a text behind it
+  -- a text, one element more, and a text after it
   pub put-joined : (buffer xs ys : List A) (place : ℕ) (a : A) → place + length xs + 1 ≤ length buffer → put (set (put buffer place xs) (place + length xs) a) (place + length xs + 1) ys ≡ put buffer place (xs ++ a ∷ ys)
   put-joined buffer xs ys place a within =
       let kept : length (put buffer place xs) ≡ length buffer = length-put buffer xs place (omega arith) in
       let longer : place + length (xs ++ a ∷ []) ≡ place + length xs + 1 = ap (λ (n : ℕ). place + n) (length-append xs (a ∷ [])) ∙ sym (add-assoc place (length xs) 1) in
-      ap (λ (b : List A). put b (place + length xs + 1) ys) (put-one (put buffer place xs) (place + length xs) a (omega arith) ∙ put-behind buffer xs (a ∷ []) place (omega arith))
+      ap (λ (b : List A). put b (place + length xs + 1) ys) (put-one (put buffer place xs) (place + length xs) a (omega arith) ∙ put-after buffer xs (a ∷ []) place (omega arith))
       ∙ ap (λ (n : ℕ). put (put buffer place (xs ++ a ∷ [])) n ys) (sym longer)
-      ∙ put-behind buffer (xs ++ a ∷ []) ys place (omega arith)
+      ∙ put-after buffer (xs ++ a ∷ []) ys place (omega arith)
       ∙ ap (put buffer place) (append-snoc xs a ys)
 
   -- the first n of what is joined, where of the one part the first n are taken before
@@ -85,9 +85,9 @@ module _ {ℓ} {A : Type ℓ} where
       ∙ sym (part-joined n from (take place buffer) (drop place buffer) (omega arith))
       ∙ rw (take-append-drop place buffer))
 
-  -- .. and all that stands behind it
-  pub put-keeps-behind : (buffer xs : List A) (place from : ℕ) → place + length xs ≤ from → place ≤ length buffer → drop from (put buffer place xs) ≡ drop from buffer
-  put-keeps-behind buffer xs place from behind within =
+  -- what was put leaves all that stands after it
+  pub put-keeps-after : (buffer xs : List A) (place from : ℕ) → place + length xs ≤ from → place ≤ length buffer → drop from (put buffer place xs) ≡ drop from buffer
+  put-keeps-after buffer xs place from past within =
       let front = take place buffer ++ xs in
       let here : length front ≡ place + length xs =
       length-append (take place buffer) xs ∙ ap (λ (n : ℕ). n + length xs) (length-take-le place buffer within) in
@@ -103,7 +103,7 @@ module _ {ℓ} {A : Type ℓ} where
   take-from buffer place n within =
       rw (take-add place n buffer) (drop-at (take place buffer) (take n (drop place buffer)) place (length-take-le place buffer within))
 
-  -- a text put behind what stands from a place on: from there on it is what stood there, then the text
+  -- a text put after what stands from a place on: from there on it is what stood there, then the text
   pub put-grows : (buffer xs : List A) (place n : ℕ) → place + n ≤ length buffer → take (n + length xs) (drop place (put buffer (place + n) xs)) ≡ take n (drop place buffer) ++ xs
   put-grows buffer xs place n within =
       let front : length (take (place + n) buffer) ≡ place + n = length-take-le (place + n) buffer within in
@@ -113,6 +113,6 @@ module _ {ℓ} {A : Type ℓ} where
       ∙ rw (drop-append-le place (take (place + n) buffer) xs (omega arith), take-from buffer place n (omega arith))
       (take-all (n + length xs) (take n (drop place buffer) ++ xs) (simp length-append (omega arith)))
 
-  -- .. so that what was put at a place stands there
+  -- what was put at a place stands there
   pub put-there : (buffer xs : List A) (place : ℕ) → place ≤ length buffer → take (length xs) (drop place (put buffer place xs)) ≡ xs
   put-there buffer xs place within = rw (zero-add, add-zero) at (put-grows buffer xs place 0 (omega arith))

@@ -13,7 +13,7 @@ pub use lib.Bits.{xor-comm, xor-self, xor-zero-l, xor-zero-r, xor-lt}
 abbrev either-way : ℕ → ℕ → ℕ → Bool
 either-way x y z = eqb (differ (bitXor x y) z) (differ x (bitXor y z))
 
--- .. computed for all bits
+-- three bits may be taken together either way, as is computed for all bits
 bits-assoc : (x y z : ℕ) → differ (bitXor (x % 2) (y % 2)) (z % 2) ≡ differ (x % 2) (bitXor (y % 2) (z % 2))
 bits-assoc x y z =
     let at-x = of-all-below (λ a. allBelow (λ b. allBelow (either-way a b) 2) 2) 2 tt (x % 2) (omega arith) in

@@ -24,7 +24,7 @@ width (zeros w) = w
 width (field w) = w
 width (unused w) = w
 
--- how many bits a row has. A field is a place and a width: its place is the number of bits that stand behind it
+-- how many bits a row has. A field is a place and a width: its place is the number of bits that stand after it
 abbrev pub size : Layout → ℕ
 size [] = 0
 size (part ∷ row) = width part + size row

@@ -6,7 +6,7 @@ use lib.Dec.{eqb}
 use lib.ListN.{length, take, drop}
 use Rattle.laws.specs.Choice.{pick}
 
--- a buffer with a text written at a place: all before and behind is as it was
+-- a buffer with a text written at a place: all before and after it is as it was
 abbrev pub put {ℓ} : {A : Type ℓ} → List A → ℕ → List A → List A
 put buffer place text = take place buffer ++ text ++ drop (place + length text) buffer
 

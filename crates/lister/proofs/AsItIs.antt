@@ -40,13 +40,13 @@ module _ (byte : ℕ) (e : asItIs byte ≡ true) where
   no-return : byte ≡ 13 → ⊥
   no-return return = omega (arith, from-32)
 
-  -- it writes itself
+  -- a byte that is shown as it is writes itself
   pub writes-itself : (text : List ℕ) → byte ∷ [] ≡ writes (stand text false) byte
   writes-itself text = shown-plain byte no-slash printable ∙ writes-byte text false byte no-feed no-return
 
-  -- and is kept
-  pub stands-behind : (text after : List ℕ) → text ≡ kept (text ++ []) → after ≡ kept (text ++ byte ∷ []) → stand after false ≡ next (stand text false) byte
-  stands-behind text after same more = rw (ne-eqb byte 13 no-return) at (next-kept text false byte text after no-feed no-return same more)
+  -- the line keeps a byte that is shown as it is
+  pub stands-after : (text after : List ℕ) → text ≡ kept (text ++ []) → after ≡ kept (text ++ byte ∷ []) → stand after false ≡ next (stand text false) byte
+  stands-after text after same more = rw (ne-eqb byte 13 no-return) at (next-kept text false byte text after no-feed no-return same more)
 
 -- the whole of what it does
 pub fed-as-it-is : (line : List ℕ) (before : Course) (buffer : List ℕ) (byte count : ℕ) (after : List ℕ)
@@ -57,6 +57,6 @@ fed-as-it-is line before buffer byte count after sixteen within plain more =
     let none : before .held ≡ false = is-not (before .held) (second-of (asItIs byte) (not (before .held)) plain) in
     record {
       taken = refl;
-      stands = rw none (stands-behind byte e (take (before .count) line) (take count after) (keep-none line (before .count) sixteen) more);
+      stands = rw none (stands-after byte e (take (before .count) line) (take count after) (keep-none line (before .count) sixteen) more);
       wrote = rw (none, ← writes-itself byte e (take (before .count) line)) (record { ends = refl; holds = put-one buffer (before .written) byte within });
     }

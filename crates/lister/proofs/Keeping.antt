@@ -35,17 +35,17 @@ module _ (line : List ℕ) (count : ℕ) (sixteen : length line ≡ 16) where
   keep-none = rw append-nil (sym (take-all 16 (take count line) (omega (arith, length-take count line))))
 
 module _ (text : List ℕ) (held : Bool) (byte : ℕ) where
-  -- behind a line feed
+  -- where the listing stands after a line feed
   pub next-line : byte ≡ 10 → stand [] (eqb byte 13) ≡ next (stand text held) byte
   unfolding next
   next-line feed = rw feed
 
-  -- behind a carriage return
+  -- where the listing stands after a carriage return
   pub next-held : (before : List ℕ) → byte ≡ 13 → before ≡ kept (text ++ heldBytes held) → stand before (eqb byte 13) ≡ next (stand text held) byte
   unfolding next
   next-held before return e = rw (return, e)
 
-  -- behind any other byte
+  -- where the listing stands after any other byte
   pub next-kept : (before after : List ℕ) → (byte ≡ 10 → ⊥) → (byte ≡ 13 → ⊥) → before ≡ kept (text ++ heldBytes held) → after ≡ kept (before ++ byte ∷ []) → stand after (eqb byte 13) ≡ next (stand text held) byte
   unfolding next kept
   next-kept before after no-feed no-return e f =

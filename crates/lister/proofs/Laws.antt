@@ -34,7 +34,7 @@ use Rattle.lister.proofs.Reading.{too-long, kept-read, kept-verdict}
 pub long-refused : (text : List ℕ) → 16 ≤ length text → readOf text ≡ refused Text
 long-refused = too-long
 
--- the sixteen bytes that are kept of a text are read as the whole text is, and the listing shows the same behind them
+-- the sixteen bytes that are kept of a text are read as the whole text is, and the listing shows the same after them
 pub kept-tell : (text : List ℕ) → (readOf (kept text) ≡ readOf text) × (verdictOf (kept text) ≡ verdictOf text)
 kept-tell text = (kept-read text, kept-verdict text)
 
@@ -46,7 +46,7 @@ accepted-shown = said-shown
 pub most-written : (s : Stand) (byte : ℕ) → length (writes s byte) ≤ mostWritten
 most-written = writes-short
 
--- portions of any size give the same listing: two, one behind the other, write what they write joined, and lead where they lead joined
+-- portions of any size give the same listing: two, one after the other, write what they write joined, and lead where they lead joined
 pub portions-join : (s : Stand) (input more : List ℕ)
     → (writesAll s (input ++ more) ≡ writesAll s input ++ writesAll (nextAll s input) more) × (nextAll s (input ++ more) ≡ nextAll (nextAll s input) more)
 portions-join s input more = (writes-joined s input more, next-joined s input more)

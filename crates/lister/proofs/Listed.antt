@@ -118,12 +118,12 @@ module _ (body line : List ℕ) (held : Bool) (is-line : line ≡ body ++ heldBy
   whole-shown : shown body ++ heldShown held ≡ shown line
   whole-shown = rw is-line (sym (shown-joined body (heldBytes held) ∙ rw (shown-held held)))
 
-  -- .. and kept as the line
+  -- the body and what is held back are kept as the line
   whole-kept : kept (kept body ++ heldBytes held) ≡ kept line
   unfolding kept
   whole-kept = take-joined 16 body (heldBytes held) ∙ ap (take 16) (sym is-line)
 
-  -- .. with one byte more
+  -- with one byte more they are kept as the line with that byte
   longer-kept : (byte : ℕ) → kept (kept body ++ heldBytes held ++ byte ∷ []) ≡ kept (line ++ byte ∷ [])
   unfolding kept
   longer-kept byte =

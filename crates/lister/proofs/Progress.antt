@@ -16,7 +16,7 @@ use Rattle.lister.specs.Portions.{standAt, writes, next, writesAll, next
 use Rattle.lister.proofs.Writes.{wrote-none, wrote-same, wrote-then}
 use Rattle.lister.proofs.Lengths.{writes-short}
 
--- where two portions one behind the other lead
+-- where two portions one after the other lead
 pub next-joined : (s : Stand) (input more : List ℕ) → nextAll s (input ++ more) ≡ nextAll (nextAll s input) more
 unfolding nextAll
 next-joined s [] more = refl
@@ -33,13 +33,13 @@ taken-byte : (s : Stand) (room byte : ℕ) (input : List ℕ) → mostWritten �
 unfolding takenOf
 taken-byte s room byte input enough = rw (le-leb mostWritten room enough)
 
--- .. and none where there is not
+-- no byte is taken where there is no room for whatever one may write
 taken-none : (s : Stand) (room : ℕ) (input : List ℕ) → room < mostWritten → takenOf s room input ≡ 0
 unfolding takenOf
 taken-none s room [] short = refl
 taken-none s room (byte ∷ input) short = rw (lt-leb mostWritten room short)
 
--- no byte is taken behind the last
+-- no byte is taken after the last
 taken-end : (s : Stand) (room : ℕ) (input : List ℕ) (i : ℕ) → length input ≤ i → takenOf s room (drop i input) ≡ 0
 unfolding takenOf
 taken-end s room input i past = rw (drop-of-length-le input past)

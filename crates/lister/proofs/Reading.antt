@@ -35,7 +35,7 @@ kept-read text = by-length (leb (length text) 16) refl
         let long : 16 < length text = leb-false (length text) 16 e in
         too-long (take 16 text) (omega (arith, length-take-le 16 text (omega arith))) ∙ sym (too-long text (omega arith))
 
--- .. so the listing shows the same behind the text
+-- the listing shows the same after the bytes that are kept as after the whole text
 pub kept-verdict : (text : List ℕ) → verdictOf (kept text) ≡ verdictOf text
 unfolding verdictOf
 kept-verdict text = ap (λ (answer : Told). verdictBy answer ++ lineFeed ∷ []) (kept-read text)

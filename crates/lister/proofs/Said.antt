@@ -45,7 +45,7 @@ said-length text c e =
 plain-shown : (byte : ℕ) → 32 ≤ byte → byte ≤ 91 → shownByte byte ≡ byte ∷ []
 plain-shown byte low high = rw (ne-eqb byte 92 (λ e. omega arith), le-leb 32 byte low, le-leb byte 126 (omega arith))
 
--- texts are shown one behind the other
+-- texts are shown one after the other
 pub shown-joined : (text more : List ℕ) → shown (text ++ more) ≡ shown text ++ shown more
 unfolding shown
 shown-joined [] more = refl
@@ -87,7 +87,7 @@ said-shown text c e =
     let said = printed-of-read text c e in
     rw (said .0) at (text-shown c (said .1))
 
--- so is one that is read
+-- a text that is read is shown as it is
 pub read-shown : (text : List ℕ) → numberTold (readOf text) ≡ 0 → shown text ≡ text
 read-shown text e = by-form (formOf text) refl e
   where

@@ -20,7 +20,7 @@ use Rattle.lister.specs.Lines.{shownByte, shown}
 use Rattle.lister.specs.Portions.{standAt, kept, asItIs, next, writesAll, nextAll, mostWritten, takenOf, FedByte, Ahead, LineWritten, FedOn}
 use Rattle.lister.proofs.Writes.{wrote-same, writes-line}
 use Rattle.lister.proofs.Keeping.{next-line}
-use Rattle.lister.proofs.AsItIs.{is-not, writes-itself, stands-behind}
+use Rattle.lister.proofs.AsItIs.{is-not, writes-itself, stands-after}
 use Rattle.lister.proofs.line_end.Lengths.{verdict-short}
 use Rattle.lister.proofs.Progress.{next-joined, writes-joined, taken-run, byte-on}
 use Rattle.lister.proofs.Reading.{kept-verdict}
@@ -65,7 +65,7 @@ unfolding writesAll nextAll kept
 plain-text [] before same plain = (refl, ap (λ (k : List ℕ). stand k false) (same ∙ ap kept (sym (append-nil before))))
 plain-text (byte ∷ text) before same plain =
     let then : List ℕ = kept (before ++ byte ∷ []) in
-    let step : next (stand before false) byte ≡ stand then false = sym (stands-behind byte (plain .0) before then (same ∙ ap kept (sym (append-nil before))) refl) in
+    let step : next (stand before false) byte ≡ stand then false = sym (stands-after byte (plain .0) before then (same ∙ ap kept (sym (append-nil before))) refl) in
     let rest = plain-text text then (sym (take-take 16 16 (before ++ byte ∷ []) (omega arith))) (plain .1) in
     let joined : kept (then ++ text) ≡ kept (before ++ byte ∷ text) = take-joined 16 (before ++ byte ∷ []) text ∙ ap kept (append-assoc before (byte ∷ []) text) in
     (rw (step, ← writes-itself byte (plain .0) before) (ap (λ (l : List ℕ). byte ∷ l) (rest .0)), rw step (rest .1 ∙ ap (λ (k : List ℕ). stand k false) joined))
@@ -106,36 +106,36 @@ line-bytes before input room n ahead =
     let last : getD (drop (before .taken) input) n 0 ≡ lineFeed = getD-drop (before .taken) input n 0 ∙ ahead .ends in
     rw (add-one n) (take-suc (drop (before .taken) input) n 0 within ∙ rw last)
 
--- its text is so long
+-- the text of a line that is ahead is so long
 pub line-length : (before : Course) (input : List ℕ) (room n : ℕ) → Ahead before input room n → length (take (before .taken + n - before .taken) (drop (before .taken) input)) ≡ n
 line-length before input room n ahead =
     let count : before .taken + n - before .taken ≡ n = omega arith in
     rw count (length-take-le n (drop (before .taken) input) (omega (arith, ahead .within, length-drop (before .taken) input)))
 
 -- a line that was written whole
-pub line-on : (line : List ℕ) (before : Course) (input buffer : List ℕ) (n behind : ℕ) (line₁ : Line) (after : List ℕ) → n < 16 → before .written ≤ length buffer → line₁ ≡ Line.Written behind
+pub line-on : (line : List ℕ) (before : Course) (input buffer : List ℕ) (n end : ℕ) (line₁ : Line) (after : List ℕ) → n < 16 → before .written ≤ length buffer → line₁ ≡ Line.Written end
     → Ahead before input (length buffer - before .written) n → LineWritten buffer (before .written) (take (before .taken + n - before .taken) (drop (before .taken) input)) line₁ after
-    → FedOn line before input buffer line (record { count = before .count; held = before .held; taken = before .taken + n + 1; written = behind }) after
-line-on line before input buffer n behind line₁ after few fits is ahead done =
+    → FedOn line before input buffer line (record { count = before .count; held = before .held; taken = before .taken + n + 1; written = end }) after
+line-on line before input buffer n end line₁ after few fits is ahead done =
     let i : ℕ = before .taken in
     let text : List ℕ = take n (drop i input) in
     let room : ℕ = length buffer - before .written in
     let part : i + n - i ≡ n = omega arith in
-    let written : LineWritten buffer (before .written) text (Line.Written behind) after = rw (is, part) at done in
+    let written : LineWritten buffer (before .written) text (Line.Written end) after = rw (is, part) at done in
     let whole = whole-line text (written .1) in
     let start : standAt line before ≡ fresh = rw (ahead .begins .0, ahead .begins .1) in
     let count : i + n + 1 - i ≡ n + 1 = omega arith in
     let bytes : take (i + n + 1 - i) (drop i input) ≡ text ++ lineFeed ∷ [] = ap (λ (k : ℕ). take k (drop i input)) count ∙ line-bytes before input room n ahead in
     let long : length text ≡ n = rw part at (line-length before input room n ahead) in
     let wrote : length (writesAll fresh (text ++ lineFeed ∷ [])) ≡ n + length (verdictOf text) = ap length (whole .0) ∙ length-append text (verdictOf text) ∙ ap (λ (k : ℕ). k + length (verdictOf text)) long in
-    let behind-it : i + n + 1 ≡ i + (n + 1) = omega arith in
+    let after-it : i + n + 1 ≡ i + (n + 1) = omega arith in
     let rest : (text ++ lineFeed ∷ []) ++ drop (i + n + 1) input ≡ drop i input =
     ap (λ (l : List ℕ). l ++ drop (i + n + 1) input) (sym (line-bytes before input room n ahead))
-    ∙ ap (λ (l : List ℕ). take (n + 1) (drop i input) ++ l) (ap (λ (k : ℕ). drop k input) behind-it ∙ sym (drop-drop (n + 1) i input))
+    ∙ ap (λ (l : List ℕ). take (n + 1) (drop i input) ++ l) (ap (λ (k : ℕ). drop k input) after-it ∙ sym (drop-drop (n + 1) i input))
     ∙ take-append-drop (n + 1) (drop i input) in
     let ones : length (text ++ lineFeed ∷ []) ≡ n + 1 = omega (arith, length-append text (lineFeed ∷ []), long) in
-    let left : room - length (writesAll fresh (text ++ lineFeed ∷ [])) ≡ length buffer - behind = omega (arith, wrote, written .0 .ends, length-append text (verdictOf text), long) in
-    let all : takenOf fresh room ((text ++ lineFeed ∷ []) ++ drop (i + n + 1) input) ≡ n + 1 + takenOf fresh (length buffer - behind) (drop (i + n + 1) input) =
+    let left : room - length (writesAll fresh (text ++ lineFeed ∷ [])) ≡ length buffer - end = omega (arith, wrote, written .0 .ends, length-append text (verdictOf text), long) in
+    let all : takenOf fresh room ((text ++ lineFeed ∷ []) ++ drop (i + n + 1) input) ≡ n + 1 + takenOf fresh (length buffer - end) (drop (i + n + 1) input) =
     taken-run fresh room (text ++ lineFeed ∷ []) (drop (i + n + 1) input) (omega (arith, wrote, verdict-short text, ahead .roomy))
     ∙ rw (whole .1, left, ones) in
     record {

@@ -7,7 +7,7 @@ use native.Mathlib.Omega.{arith}
 use lib.Dec.{leb}
 use lib.ListN.{length, length-append}
 use borrow.Author.Tests.{eq-eqb, ne-eqb}
-use Rattle.laws.proofs.Writing.{put-nothing, put-behind}
+use Rattle.laws.proofs.Writing.{put-nothing, put-after}
 use Rattle.lister.specs.Stands.{stand}
 use Rattle.lister.specs.Texts.{Answered, Wrote}
 use Rattle.lister.specs.Verdicts.{hexDigit, verdictOf}
@@ -16,20 +16,20 @@ use Rattle.lister.specs.declared.Written.{Written}
 use Rattle.lister.specs.Portions.{kept, heldBytes, heldShown, writes, closedText, closes}
 
 -- the same text by another name
-pub wrote-same : (buffer : List ℕ) (place : ℕ) (text other : List ℕ) (behind : ℕ) (after : List ℕ) → text ≡ other → Wrote buffer place text behind after → Wrote buffer place other behind after
-wrote-same buffer place text other behind after e w = rw e at w
+pub wrote-same : (buffer : List ℕ) (place : ℕ) (text other : List ℕ) (end : ℕ) (after : List ℕ) → text ≡ other → Wrote buffer place text end after → Wrote buffer place other end after
+wrote-same buffer place text other end after e w = rw e at w
 
 -- nothing written
 pub wrote-none : (buffer : List ℕ) (place : ℕ) → Wrote buffer place [] place buffer
 wrote-none buffer place = record { ends = omega arith; holds = sym (put-nothing buffer place) }
 
--- a text, and one right behind it
-pub wrote-then : (buffer : List ℕ) (place : ℕ) (text more : List ℕ) (middle behind : ℕ) (between after : List ℕ)
-    → place ≤ length buffer → Wrote buffer place text middle between → Wrote between middle more behind after → Wrote buffer place (text ++ more) behind after
-wrote-then buffer place text more middle behind between after within first second =
+-- a text, and one right after it
+pub wrote-then : (buffer : List ℕ) (place : ℕ) (text more : List ℕ) (middle end : ℕ) (between after : List ℕ)
+    → place ≤ length buffer → Wrote buffer place text middle between → Wrote between middle more end after → Wrote buffer place (text ++ more) end after
+wrote-then buffer place text more middle end between after within first second =
     record {
       ends = omega (arith, first .ends, second .ends, length-append text more);
-      holds = second .holds ∙ rw (first .holds, first .ends) (put-behind buffer text more place within);
+      holds = second .holds ∙ rw (first .holds, first .ends) (put-after buffer text more place within);
     }
 
 module _ (byte : ℕ) where

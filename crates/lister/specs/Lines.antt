@@ -39,7 +39,7 @@ withoutReturn [] = []
 withoutReturn (b ∷ []) = pick (eqb b carriageReturn) [] (b ∷ [])
 withoutReturn (b ∷ c ∷ text) = b ∷ withoutReturn (c ∷ text)
 
--- the listing of what follows `line`, the bytes of a line so far: a line ends at a line feed; what stands behind the last one is a line if it has a byte
+-- the listing of what follows `line`, the bytes of a line so far: a line ends at a line feed; what stands after the last one is a line if it has a byte
 unfoldable pub listedFrom : List ℕ → List ℕ → List ℕ
 listedFrom [] [] = []
 listedFrom (b ∷ line) [] = lineOf (b ∷ line)

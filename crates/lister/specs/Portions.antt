@@ -28,7 +28,7 @@ abbrev pub heldBytes : Bool → List ℕ
 heldBytes true = carriageReturn ∷ []
 heldBytes false = []
 
--- .. as the listing shows it
+-- the carriage return that was held back, as the listing shows it
 abbrev pub heldShown : Bool → List ℕ
 heldShown true = shownByte carriageReturn
 heldShown false = []
@@ -39,19 +39,19 @@ writes (stand text held) byte =
     pick (eqb byte lineFeed) (verdictOf text)
     (heldShown held ++ pick (eqb byte carriageReturn) [] (shownByte byte))
 
--- where the listing stands behind it
+-- where the listing stands after a byte
 unfoldable pub next : Stand → ℕ → Stand
 next (stand text held) byte =
     pick (eqb byte lineFeed) fresh
     (pick (eqb byte carriageReturn) (stand (kept (text ++ heldBytes held)) true)
     (stand (kept (text ++ heldBytes held ++ byte ∷ [])) false))
 
--- what a portion writes, and where the listing stands behind it
+-- what a portion writes
 unfoldable pub writesAll : Stand → List ℕ → List ℕ
 writesAll s [] = []
 writesAll s (byte ∷ input) = writes s byte ++ writesAll (next s byte) input
 
--- .. where it then stands
+-- where the listing stands after a portion
 unfoldable pub nextAll : Stand → List ℕ → Stand
 nextAll s [] = s
 nextAll s (byte ∷ input) = nextAll (next s byte) input
@@ -71,7 +71,7 @@ abbrev pub closedText : List ℕ → Bool → List ℕ
 closedText [] held = []
 closedText (b ∷ text) held = heldShown held ++ verdictOf (b ∷ text)
 
--- .. from where the listing stands
+-- what is written at the end of the input, from where the listing stands
 unfoldable pub closes : Stand → List ℕ
 closes (stand text held) = closedText (kept (text ++ heldBytes held)) held
 
@@ -94,7 +94,7 @@ pub record Ahead (course : Course) (input : List ℕ) (room n : ℕ) : Type 0 wh
 
 -- a line was written at a place, its text as it is, or nothing was
 abbrev pub LineWritten : List ℕ → ℕ → List ℕ → Line → List ℕ → Type 0
-LineWritten buffer place text (Line.Written behind) after = Wrote buffer place (text ++ verdictOf text) behind after × (shown text ≡ text)
+LineWritten buffer place text (Line.Written end) after = Wrote buffer place (text ++ verdictOf text) end after × (shown text ≡ text)
 LineWritten buffer place text Line.Other after = after ≡ buffer
 
 -- the bytes taken between two places of a portion

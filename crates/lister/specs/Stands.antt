@@ -17,6 +17,6 @@ keptOf l = take (l .count) (l .line)
 abbrev pub standOf : Lister → Stand
 standOf l = stand (keptOf l) (l .held)
 
--- before the first byte, and behind a line feed
+-- before the first byte, and after a line feed
 abbrev pub fresh : Stand
 fresh = stand [] false

@@ -33,7 +33,7 @@ pub record Answered (buffer text : List ℕ) (written : Written) (after : List �
   pub tells : toldWritten written ≡ answerOf buffer text
   pub holds : after ≡ bufferAfter buffer text
 
--- a text was written at a place: `behind` is the place behind it, and `after` what the buffer holds
-pub record Wrote (buffer : List ℕ) (place : ℕ) (text : List ℕ) (behind : ℕ) (after : List ℕ) : Type 0 where
-  pub ends : behind ≡ place + length text
+-- a text was written at a place: `end` is the place after it, and `after` what the buffer holds
+pub record Wrote (buffer : List ℕ) (place : ℕ) (text : List ℕ) (end : ℕ) (after : List ℕ) : Type 0 where
+  pub ends : end ≡ place + length text
   pub holds : after ≡ put buffer place text

@@ -1,4 +1,4 @@
--- What the listing shows behind a text, to the letter (document 01, "The listing program").
+-- What the listing shows after a text, to the letter (document 01, "The listing program").
 use Prim.Native.Nat.{ℕ, _+_, _-_, _/_, _%_}
 use Prim.Native.Char.{code}
 use mathlib.Core.List.{List, [], _∷_, _++_}
@@ -44,7 +44,7 @@ wordsShown (told n words) = sixDigits (getD words 0 0) ++ code " " ∷ secondSho
 abbrev pub phaseShown : ℕ → ℕ
 phaseShown phase = pick (eqb phase 4) (code "*") (code "A" + phase)
 
--- what stands behind the text of an accepted CAPCODE, of which letter, frame, collapse, address, phase and base frame are told
+-- what stands after the text of an accepted CAPCODE, of which letter, frame, collapse, address, phase and base frame are told
 abbrev pub acceptedEnd : List ℕ → List ℕ
 acceptedEnd values =
     code " " ∷ wordsShown (wordsOf (getD values 3 0))
@@ -56,15 +56,15 @@ acceptedEnd values =
 abbrev pub plain : ℕ → List ℕ
 plain n = pick (ltb n 10) ((code "0" + n) ∷ []) ((code "0" + n / 10 % 10) ∷ (code "0" + n % 10) ∷ [])
 
--- what stands behind a refused text: the word, and 01's number
+-- what stands after a refused text: the word, and 01's number
 abbrev pub refusedEnd : ℕ → List ℕ
 refusedEnd n = bytesOf " REFUSED " ++ plain n
 
--- what stands behind a text, by what it was read as
+-- what stands after a text, by what it was read as
 abbrev pub verdictBy : Told → List ℕ
 verdictBy (told n values) = pick (eqb n 0) (acceptedEnd values) (refusedEnd n)
 
--- what stands behind a text in the listing, the end of the line with it
+-- what stands after a text in the listing, the end of the line with it
 unfoldable pub verdictOf : List ℕ → List ℕ
 verdictOf text = verdictBy (readOf text) ++ lineFeed ∷ []
 
@@ -72,7 +72,7 @@ verdictOf text = verdictBy (readOf text) ++ lineFeed ∷ []
 abbrev pub padded : List ℕ → List ℕ
 padded end = end ++ replicate (23 - length end) 0
 
--- what is told of a text, by what it was read as: whether it is accepted, how many bytes stand behind it, and which
+-- what is told of a text, by what it was read as: whether it is accepted, how many bytes stand after it, and which
 abbrev pub verdictAs : Told → Verdict
 verdictAs answer =
     record {

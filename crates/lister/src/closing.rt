@@ -35,7 +35,7 @@ fn with_return(lister: Lister) -> Lister
     }
 }
 
-// What stands behind the text of a line; a count over sixteen stands for sixteen.
+// What stands after the text of a line; a count over sixteen stands for sixteen.
 fn verdict_on(ended: Lister) -> Verdict
     ensures { λ r. ⌜ r ≡ verdictAs (readOf (keptOf ended)) ⌝ }
 {
@@ -76,7 +76,7 @@ fn write_last(ended: Lister, held: bool, out: &mut [u8]) -> Written
     Written::Length(copy(&end[..length], out, place))
 }
 
-// Writes what stands behind the last byte: the end of the last line, if that has a byte and no line feed.
+// Writes what stands after the last byte: the end of the last line, if that has a byte and no line feed.
 pub fn close(lister: Lister, out: &mut [u8]) -> Written
     ensures { λ r. ⌜ Answered (now (out .entry)) (closes (standOf lister)) r (now (out .exit)) ⌝ }
 {

@@ -26,13 +26,13 @@ struct Course {
     written: usize,
 }
 
-// Whether a line was written: the place behind it, or nothing because its text is not an accepted one.
+// Whether a line was written: the place after it, or nothing because its text is not an accepted one.
 enum Line {
     Written(usize),
     Other,
 }
 
-// Writes what stands behind a text.
+// Writes what stands after a text.
 fn write_verdict(text: &[u8], out: &mut [u8], place: usize) -> usize
     requires { ⌜ place + 23 ≤ length (now out) ⌝ }
     ensures { λ r. ⌜ Wrote (now (out .entry)) place (verdictOf (now (text .entry))) r (now (out .exit)) ⌝ }
@@ -216,9 +216,9 @@ fn write_line(text: &[u8], out: &mut [u8], place: usize) -> Line
     if !verdict.is_accepted {
         return Line::Other;
     }
-    let behind = copy(text, out, place);
+    let text_end = copy(text, out, place);
     let end = verdict.end;
-    Line::Written(copy(&end, out, behind))
+    Line::Written(copy(&end, out, text_end))
 }
 
 // Takes a whole line, if that of an accepted text is ahead, and else one byte: most lines are such, and

@@ -29,7 +29,7 @@ pub use starting::title;
 
 // Where a listing stands inside a line: the line's first sixteen bytes (no correct text is longer than
 // fifteen), how many of them came, and whether a carriage return is held back: it is dropped if the line
-// ends right behind it, and is a byte of the line if not.
+// ends right after it, and is a byte of the line if not.
 pub struct Lister {
     pub line: [u8; 16],
     pub count: usize,

@@ -13,7 +13,7 @@ use capcode::ReadAnswer;
 use capcode::Worded;
 use refusal::Refusal;
 
-// What stands behind a text, with the end of its line: whether the text is accepted, how many bytes, and these; behind
+// What stands after a text, with the end of its line: whether the text is accepted, how many bytes, and these; after
 // them 0.
 pub struct Verdict {
     pub is_accepted: bool,
@@ -43,7 +43,7 @@ fn phase_mark(phase: u8) -> u8
     if phase == 4 { b'*' } else { b'A' + phase }
 }
 
-// What stands behind an accepted text, by its two words as they are shown.
+// What stands after an accepted text, by its two words as they are shown.
 fn fields(first: [u8; 6], second: [u8; 6], c: Capcode, a: Assignment) -> [u8; 23]
     requires { ⌜ a .phase ≤ 4 ⌝ }
     ensures { λ r. ⌜ r ≡ 32 ∷ first ++ 32 ∷ second ++ 32 ∷ phaseShown (a .phase) ∷ 32 ∷ digits 3 (a .frame) ++ 32 ∷ digits 1 (c .collapse) ++ lineFeed ∷ [] ⌝ }
@@ -75,7 +75,7 @@ fn fields(first: [u8; 6], second: [u8; 6], c: Capcode, a: Assignment) -> [u8; 23
     ]
 }
 
-// What stands behind the text of an accepted CAPCODE.
+// What stands after the text of an accepted CAPCODE.
 fn accepted_end(c: Capcode, a: Assignment) -> [u8; 23]
     requires { ⌜ a .phase ≤ 4 ⌝ }
     ensures { λ r. ⌜ r ≡ verdictBy (toldRead (ReadAnswer.Whole c a)) ++ lineFeed ∷ [] ⌝ }
@@ -87,7 +87,7 @@ fn accepted_end(c: Capcode, a: Assignment) -> [u8; 23]
     }
 }
 
-// What stands behind a refused text: " REFUSED n".
+// What stands after a refused text: " REFUSED n".
 fn refused_end(refusal: Refusal) -> Verdict
     ensures { λ r. ⌜ r ≡ verdictAs (refused refusal) ⌝ }
 {
@@ -113,7 +113,7 @@ fn refused_end(refusal: Refusal) -> Verdict
     }
 }
 
-// What stands behind a text.
+// What stands after a text.
 pub(crate) fn judge(text: &[u8]) -> Verdict
     ensures { λ r. ⌜ r ≡ verdictAs (readOf (now (text .entry))) ⌝ }
 {

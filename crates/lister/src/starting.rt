@@ -8,7 +8,7 @@ use crate::Written;
 use crate::writing::copy;
 use refusal::Refusal;
 
-// Where a listing stands before the first byte, and behind each line feed.
+// Where a listing stands before the first byte, and after each line feed.
 pub fn start() -> Lister
     ensures { λ r. ⌜ standOf r ≡ fresh ⌝ }
 {

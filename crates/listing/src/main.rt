@@ -1,6 +1,6 @@
 // The listing program (document 01, "The listing program"): CAPCODE lines from standard input, their
 // listing to standard output. Lines may have any bytes and any length; what the last line feed leaves
-// behind it is a line too.
+// after it is a line too.
 ghost use Prim.Native.Nat.{_≤_, _<_};
 ghost use lib.ListN.{length};
 use libc::STDIN_FILENO;

@@ -28,7 +28,7 @@ pub some-word : (numbered : Bool) (n : ℕ) → 1 ≤ wordsFor numbered n
 some-word true n = omega arith
 some-word false n = omega arith
 
--- its words have room for the text
+-- the words of a page have room for the text
 pub room-enough : (numbered : Bool) (n : ℕ) → n ≤ roomOf numbered (wordsFor numbered n)
 room-enough true n = omega arith
 room-enough false n = omega arith
@@ -54,7 +54,7 @@ abbrev pub aboveK : Bool → Layout
 aboveK true = field 1 ∷ field 1 ∷ field 6 ∷ []
 aboveK false = field 0 ∷ field 0 ∷ field 0 ∷ []
 
--- .. and K5 with K4 behind it
+-- a head is what stands above K5 and K4, and these two after it
 head-parts : (numbered : Bool) → headOf numbered ≡ aboveK numbered ++ field 2 ∷ []
 head-parts true = refl
 head-parts false = refl
@@ -68,7 +68,7 @@ laid-head false = tt
 flags-fit : (numbered : Bool) (flags : List ℕ) → fit (headOf numbered) (flags ++ 0 ∷ []) ≡ true → fit (aboveK numbered) flags ≡ true
 flags-fit numbered flags e = fit-before (aboveK numbered) flags 2 0 (rw (head-parts numbered) at e)
 
--- .. and fit with any K5 and K4
+-- numbers that fit the head fit it with any K5 and K4
 fit-with : (numbered : Bool) (flags : List ℕ) (k : ℕ) → fit (headOf numbered) (flags ++ 0 ∷ []) ≡ true → k < 4 → fit (headOf numbered) (flags ++ k ∷ []) ≡ true
 fit-with numbered flags k e h = rw (head-parts numbered) (fit-other (aboveK numbered) flags 2 0 k (rw (head-parts numbered) at e) h)
 
@@ -94,7 +94,7 @@ unkeyed-same (suc n) q k h =
 first-word : (numbered : Bool) (n row : ℕ) → getD (digits (2 ^ wordBits) (wordsFor numbered n) row) 0 0 ≡ row % 2 ^ wordBits
 first-word numbered n row = digits-at (2 ^ wordBits) (wordsFor numbered n) row 0 (some-word numbered n) ∙ omega arith
 
--- .. among them the head
+-- the head lies within the first word
 in-first : (numbered : Bool) (row : ℕ) → row % 2 ^ wordBits % 2 ^ size (headOf numbered) ≡ row % 2 ^ size (headOf numbered)
 in-first true row = omega arith
 in-first false row = omega arith
@@ -109,15 +109,15 @@ abbrev pub headSent : Set → Bool → List ℕ → List ℕ → List ℕ
 headSent set numbered flags text = flags ++ inWord (checkOf set numbered flags text) ∷ []
 
 module _ (set : Set) (numbered : Bool) (flags text : List ℕ) (e : fit (headOf numbered) (flags ++ 0 ∷ []) ≡ true) where
-  -- .. fit
+  -- the numbers of the head as it is sent fit it
   head-fits : fit (headOf numbered) (headSent set numbered flags text) ≡ true
   head-fits = fit-with numbered flags (inWord (checkOf set numbered flags text)) e (check-small set numbered flags text)
 
-  -- .. have no more bits than the head
+  -- the head as it is sent has no more bits than its layout
   head-lt : packed (headOf numbered) (headSent set numbered flags text) < 2 ^ size (headOf numbered)
   head-lt = packed-lt (headOf numbered) (headSent set numbered flags text) (laid-head numbered) head-fits
 
-  -- .. and are read back
+  -- the numbers of the head as it is sent are read back
   pub head-read : headIn numbered (pageOf set numbered flags text) ≡ headSent set numbered flags text
   unfolding pageOf wordsWith
   head-read =
@@ -140,7 +140,7 @@ module _ (set : Set) (numbered : Bool) (flags text : List ℕ) (e : fit (headOf 
       ap (λ (words : List ℕ). complement 6 (folded (binarySum words)))
       (unkeyed-words (inWord (checkOf set numbered flags text)) (check-small set numbered flags text))
 
-  -- .. and K5 with K4 stands in the first word
+  -- K5 with K4 stands in the first word
   pub k-in-word : getD (pageOf set numbered flags text) 0 0 % 4 ≡ inWord (checkOf set numbered flags text)
   unfolding pageOf wordsWith
   k-in-word =
@@ -156,7 +156,7 @@ pub codes-are : (set : Set) (text : List ℕ) → length set ≡ 16 → inSet se
 unfolding inSet
 codes-are set text sixteen known = all-map (λ d. ltb d 16) (placeIn set) text ∙ (rw sixteen at known)
 
--- .. and tell the characters
+-- the codes of characters of the set tell the characters
 known-back : (set : Set) (text : List ℕ) → inSet set text ≡ true → map (λ c. getD set c 0) (map (placeIn set) text) ≡ text
 unfolding inSet all
 known-back set [] known = refl
@@ -171,11 +171,11 @@ module _ (set : Set) (numbered : Bool) (flags text : List ℕ) (e : fit (headOf 
   pub codes-digits : areDigits 16 (map (placeIn set) (filled numbered text)) ≡ true
   codes-digits = codes-are set (filled numbered text) sixteen known
 
-  -- .. as many as the words have room for
+  -- the codes of the text and its spaces are as many as the words have room for
   codes-length : length (map (placeIn set) (filled numbered text)) ≡ roomOf numbered (wordsFor numbered (length text))
   codes-length = length-map (filled numbered text) (placeIn set) ∙ filled-length numbered text
 
-  -- .. four bits each
+  -- the codes of the text and its spaces have four bits each
   codes-lt : codesOf set (filled numbered text) < 2 ^ (4 * roomOf numbered (wordsFor numbered (length text)))
   codes-lt =
       rw (← pow-mul 2 4 (roomOf numbered (wordsFor numbered (length text))))
@@ -187,18 +187,18 @@ module _ (set : Set) (numbered : Bool) (flags text : List ℕ) (e : fit (headOf 
       rw (pow-add 2 (4 * roomOf numbered (wordsFor numbered (length text))) (size (headOf numbered)), add-comm (packed (headOf numbered) (headSent set numbered flags text)) _, mul-comm (2 ^ size (headOf numbered)) _)
       (digits-lt codes-lt (head-lt set numbered flags text e))
 
-  -- .. no more than those of the words
+  -- the page's bits are no more than those of the words
   row-lt : rowOf set numbered (headSent set numbered flags text) text < (2 ^ wordBits) ^ wordsFor numbered (length text)
   row-lt = rw (pow-mul 2 wordBits (wordsFor numbered (length text))) (lt-of-lt-of-le row-below (pow-mono (row-within numbered (length text))))
 
-  -- .. so that the words make them again
+  -- the words make the page's bits again
   pub number-page : number (2 ^ wordBits) (pageOf set numbered flags text) ≡ rowOf set numbered (headSent set numbered flags text) text
   unfolding pageOf wordsWith
   number-page =
       number-digits (2 ^ wordBits) (wordsFor numbered (length text)) (rowOf set numbered (headSent set numbered flags text) text) (omega arith)
       ∙ mod-eq-of-lt row-lt
 
-  -- .. with the characters above the head
+  -- above the head the words have the codes of the characters
   pub above-head : number (2 ^ wordBits) (pageOf set numbered flags text) / 2 ^ size (headOf numbered) ≡ codesOf set (filled numbered text)
   above-head =
       rw (number-page, add-comm (packed (headOf numbered) (headSent set numbered flags text)) _, mul-comm (2 ^ size (headOf numbered)) _)

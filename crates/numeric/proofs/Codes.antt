@@ -19,7 +19,7 @@ pub digit-character : (code : ℕ) → code < 10 → 48 + code ≡ getD standard
 unfolding standardSet
 digit-character code small = eqb→eq _ _ (of-all-below (λ n. eqb (48 + n) (getD standardSet n 0)) 10 tt code small)
 
--- .. and back
+-- the code of a digit is its byte less that of 0
 pub digit-code : (n : ℕ) → 48 ≤ n → n < 58 → n - 48 ≡ placeIn standardSet n
 unfolding standardSet placeIn
 digit-code n large small = eqb→eq _ _ (rw (le-ltb n 48 large) at (of-all-below (λ n. ltb n 48 || eqb (n - 48) (placeIn standardSet n)) 58 tt n small))
@@ -58,7 +58,7 @@ pub in-place : (n code : ℕ) → code ≡ placeIn standardSet n → code ≤ 15
 unfolding standardSet
 in-place n code is small = rw (← is) (lt-ltb code 16 (omega arith))
 
--- .. and 16 is not
+-- the code 16 is of no character of the set
 pub in-no-place : (n code : ℕ) → code ≡ placeIn standardSet n → 15 < code → ltb (placeIn standardSet n) (length standardSet) ≡ false
 unfolding standardSet
 in-no-place n code is large = rw (← is) (le-ltb code 16 large)
@@ -74,10 +74,10 @@ module _ (text : List ℕ) (room i : ℕ) where
       let here : i < length (spaced room text) = simp length-append (omega arith) in
       sym (map-at (placeIn standardSet) (spaced room text) i here ∙ ap (placeIn standardSet) (List·getD-append text _ 0 i within))
 
-  -- .. of a space behind the text
+  -- the codes of a page: of a space after the text
   pub space-code : length text ≤ room → length text ≤ i → i < room → 12 ≡ getD (map (placeIn standardSet) (spaced room text)) i 0
   unfolding standardSet placeIn
-  space-code fits behind within =
+  space-code fits past within =
       let there = i - length text in
       let back : i ≡ length text + there = omega arith in
       let here : i < length (spaced room text) = rw (length-spaced fits) within in
@@ -85,8 +85,8 @@ module _ (text : List ℕ) (room i : ℕ) where
       ap (λ (j : ℕ). getD (spaced room text) j 0) back ∙ getD-append-add text _ there 0 ∙ getD-replicate (room - length text) there 32 0 (omega arith) in
       sym (map-at (placeIn standardSet) (spaced room text) i here ∙ ap (placeIn standardSet) space)
 
-  -- .. and none behind the room
+  -- after the room there are no codes
   pub no-more : length text ≤ room → room ≤ i → 0 ≡ getD (map (placeIn standardSet) (spaced room text)) i 0
-  no-more fits behind =
-      let done : length (map (placeIn standardSet) (spaced room text)) ≤ i = rw (length-map (spaced room text) (placeIn standardSet), length-spaced fits) behind in
+  no-more fits past =
+      let done : length (map (placeIn standardSet) (spaced room text)) ≤ i = rw (length-map (spaced room text) (placeIn standardSet), length-spaced fits) past in
       sym (List·getD-eq-default (map (placeIn standardSet) (spaced room text)) 0 done)

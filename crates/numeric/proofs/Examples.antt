@@ -46,7 +46,7 @@ rooms-numbered = refl
 abbrev numbers : ℕ → ℕ → ℕ → Numbering
 numbers s r n = record { «message_number» = n; retrieval = r; «special_format» = s }
 
--- .. all 0
+-- S, R and N all 0
 abbrev none : Numbering
 none = numbers 0 0 0
 
@@ -55,22 +55,22 @@ pub standard-example : writtenOf standardSet 1 3 none (bytesOf "0417") ≡ given
 unfolding standardSet writtenOf pageOf checkOf wordsWith placeIn number digits sumBy inSet all
 standard-example = refl
 
--- .. its word, with K5 and K4
+-- the word of "0417", with K5 and K4
 pub standard-words : pageOf standardSet false (0 ∷ 0 ∷ 0 ∷ []) (bytesOf "0417") ≡ 0x01C503 ∷ []
 unfolding standardSet pageOf checkOf wordsWith placeIn number digits sumBy
 standard-words = refl
 
--- .. and what is read
+-- what is read of that word
 pub standard-read : readOf standardSet 4 3 6 (0x01C503 ∷ []) ≡ given (0 ∷ 0 ∷ 0 ∷ 4 ∷ [])
 unfolding readOf sumBy all
 standard-read = refl
 
--- .. also with all bits behind the characters set: the groups 00H, C5H and 1DH make 226; 3 and 34 make 37; K is 26, 10 in the vector and 1 in the word
+-- what is read of the word with all bits after the characters set: the groups 00H, C5H and 1DH make 226; 3 and 34 make 37; K is 26, 10 in the vector and 1 in the word
 pub left-over-example : readOf standardSet 4 3 10 (0x1DC501 ∷ []) ≡ given (0 ∷ 0 ∷ 0 ∷ 4 ∷ [])
 unfolding readOf sumBy all
 left-over-example = refl
 
--- .. and the text is the same
+-- the text of that word is the same
 pub left-over-text : textIn standardSet false (0x1DC501 ∷ []) ≡ bytesOf "0417"
 unfolding standardSet textIn number digits
 left-over-text = refl
@@ -81,36 +81,36 @@ pub numbered-example : writtenOf standardSet 2 7 (numbers 1 1 5) (bytesOf "0417"
 unfolding standardSet writtenOf pageOf checkOf wordsWith placeIn number digits sumBy inSet all
 numbered-example = refl
 
--- .. its words
+-- the words of "0417" numbered
 pub numbered-words : pageOf standardSet true (1 ∷ 1 ∷ 5 ∷ []) (bytesOf "0417") ≡ 0x050316 ∷ 0x19998E ∷ []
 unfolding standardSet pageOf checkOf wordsWith placeIn number digits sumBy
 numbered-words = refl
 
--- .. what is read
+-- what is read of those words
 pub numbered-read : readOf standardSet 8 7 2 (0x050316 ∷ 0x19998E ∷ []) ≡ given (1 ∷ 1 ∷ 5 ∷ 8 ∷ [])
 unfolding readOf sumBy all
 numbered-read = refl
 
--- .. and the text with its spaces
+-- the text of those words with its spaces
 pub numbered-text : textIn standardSet true (0x050316 ∷ 0x19998E ∷ []) ≡ bytesOf "0417    "
 unfolding standardSet textIn number digits
 numbered-text = refl
 
--- .. as the law says, whose premises hold here
+-- the text and its spaces are read back as the law says, whose premises hold here
 pub numbered-back : textIn standardSet true (pageFor standardSet 7 (numbers 1 1 5) (bytesOf "0417")) ≡ filled true (bytesOf "0417")
 numbered-back = read-written standardSet 2 8 7 (numbers 1 1 5) (bytesOf "0417") usable-standard (ap numberTold numbered-example) (rw numbered-words (omega arith)) .1
 
--- lent words behind the page stay as they were
-pub words-behind : wordsAfter standardSet 3 none (bytesOf "0417") (7 ∷ 8 ∷ []) ≡ 0x01C503 ∷ 8 ∷ []
+-- lent words after the page stay as they were
+pub words-after : wordsAfter standardSet 3 none (bytesOf "0417") (7 ∷ 8 ∷ []) ≡ 0x01C503 ∷ 8 ∷ []
 unfolding standardSet writtenOf pageOf checkOf wordsWith placeIn number digits sumBy inSet all
-words-behind = refl
+words-after = refl
 
--- .. and so do lent bytes behind the text
-pub bytes-behind : textAfter standardSet 3 6 (0x01C503 ∷ []) (bytesOf "abcdef") ≡ bytesOf "0417ef"
+-- lent bytes after the text stay as they were
+pub bytes-after : textAfter standardSet 3 6 (0x01C503 ∷ []) (bytesOf "abcdef") ≡ bytesOf "0417ef"
 unfolding standardSet readOf textIn number digits sumBy all
-bytes-behind = refl
+bytes-after = refl
 
--- .. and a refusal leaves them all
+-- a refusal leaves all lent words as they were
 pub refused-leaves : wordsAfter standardSet 3 none (bytesOf "12345") (7 ∷ []) ≡ 7 ∷ []
 unfolding standardSet writtenOf pageOf checkOf wordsWith placeIn number digits sumBy inSet all
 refused-leaves = refl
@@ -183,17 +183,17 @@ read-examples = refl
 abbrev spaceless : Set
 spaceless = bytesOf "0123456789?U_-]["
 
--- .. takes nine zeros
+-- the set without the space takes nine zeros
 pub space-accepted : writtenOf spaceless 2 3 none (bytesOf "000000000") ≡ given (15 ∷ 2 ∷ [])
 unfolding writtenOf pageOf checkOf wordsWith placeIn number digits sumBy inSet all
 space-accepted = refl
 
--- .. whose words are those of ten: the code 16 of a space has run over
+-- the words of nine zeros are those of ten: the code 16 of a space has run over
 pub space-needed : map (pageOf spaceless false (0 ∷ 0 ∷ 0 ∷ [])) (bytesOf "000000000" ∷ bytesOf "0000000000" ∷ []) ≡ (3 ∷ 0 ∷ []) ∷ (3 ∷ 0 ∷ []) ∷ []
 unfolding pageOf checkOf wordsWith placeIn number digits sumBy
 space-needed = refl
 
--- .. and so is the text
+-- nine zeros are read as ten
 pub space-misread : textIn spaceless false (3 ∷ 0 ∷ []) ≡ bytesOf "0000000000"
 unfolding textIn number digits
 space-misread = refl
@@ -202,17 +202,17 @@ space-misread = refl
 abbrev seventeen : Set
 seventeen = bytesOf "0123456789?U[-] A"
 
--- .. takes its last
+-- the set of seventeen characters takes its last
 pub sixteen-accepted : writtenOf seventeen 1 3 none (bytesOf "A") ≡ given (11 ∷ 1 ∷ [])
 unfolding writtenOf pageOf checkOf wordsWith placeIn number digits sumBy inSet all
 sixteen-accepted = refl
 
--- .. whose word is that of a zero and the last: its code 16 has run over
+-- the word of the last character is that of a zero and the last: its code 16 has run over
 pub sixteen-needed : map (pageOf seventeen false (0 ∷ 0 ∷ 0 ∷ [])) (bytesOf "A" ∷ bytesOf "0A" ∷ []) ≡ (0x040003 ∷ []) ∷ (0x040003 ∷ []) ∷ []
 unfolding pageOf checkOf wordsWith placeIn number digits sumBy
 sixteen-needed = refl
 
--- .. and the text is neither
+-- the text that is read of that word is neither
 pub sixteen-misread : textIn seventeen false (0x040003 ∷ []) ≡ bytesOf "0000"
 unfolding textIn number digits
 sixteen-misread = refl
@@ -221,12 +221,12 @@ sixteen-misread = refl
 abbrev spaceLast : Set
 spaceLast = bytesOf "0123456789?U[-] "
 
--- .. with a character that is not among them
+-- a character that is not among them has the word of a zero and that character
 pub character-needed : map (pageOf spaceLast false (0 ∷ 0 ∷ 0 ∷ [])) (bytesOf "A" ∷ bytesOf "0A" ∷ []) ≡ (0x040003 ∷ []) ∷ (0x040003 ∷ []) ∷ []
 unfolding pageOf checkOf wordsWith placeIn number digits sumBy
 character-needed = refl
 
--- .. are misread alike
+-- both texts are misread alike
 pub character-misread : textIn spaceLast false (0x040003 ∷ []) ≡ bytesOf "0000"
 unfolding textIn number digits
 character-misread = refl
@@ -236,12 +236,12 @@ pub head-needed : pageOf standardSet true (24 ∷ 0 ∷ 0 ∷ []) (bytesOf "0") 
 unfolding standardSet pageOf checkOf wordsWith placeIn number digits sumBy
 head-needed = refl
 
--- .. S is read as 0
+-- S 24 is read as 0
 pub head-misread : readOf standardSet 2 7 12 (0x033000 ∷ []) ≡ given (0 ∷ 0 ∷ 0 ∷ 2 ∷ [])
 unfolding readOf sumBy all
 head-misread = refl
 
--- .. and the zero as a space
+-- the zero after it is read as a space
 pub zero-misread : textIn standardSet true (0x033000 ∷ []) ≡ bytesOf "  "
 unfolding standardSet textIn number digits
 zero-misread = refl

@@ -16,7 +16,7 @@ pub head-small : (numbered : Bool) → size (headOf numbered) ≤ 10
 head-small true = omega arith
 head-small false = omega arith
 
--- .. so that it is below 1024
+-- a head is below 1024
 pub head-power : (numbered : Bool) → 2 ^ size (headOf numbered) ≤ 1024
 head-power true = omega arith
 head-power false = omega arith

@@ -88,7 +88,7 @@ k-right set numbered flags text e =
 abbrev pub pageFor : Set → ℕ → Numbering → List ℕ → List ℕ
 pageFor set kind numbering text = pageOf set (isNumbered kind) (flagsOf numbering) text
 
--- .. and K for the vector
+-- K for the vector of that page
 abbrev pub checkFor : Set → ℕ → Numbering → List ℕ → ℕ
 checkFor set kind numbering text = inVector (checkOf set (isNumbered kind) (flagsOf numbering) text)
 
@@ -142,7 +142,7 @@ module _ (set : Set) (lent kind : ℕ) (numbering : Numbering) (text : List ℕ)
         enough = omega (arith, page-size set (isNumbered kind) (flagsOf numbering) text short .2);
       })
 
-  -- .. and a longer one is too long, whatever its characters and however many words are lent
+  -- a text over the room of eight words is too long, whatever its characters and however many words are lent
   pub one-more : headed kind (flagsOf numbering) ≡ true → roomOf (isNumbered kind) mostWords < length text → writtenOf set lent kind numbering text ≡ refused refusals.TooLong
   unfolding writtenOf
   one-more head long = rw (head, lt-ltb (roomOf (isNumbered kind) mostWords) (length text) long)
@@ -228,7 +228,7 @@ module _ {set : Set} {numbered : Bool} {flags text : List ℕ} (usable : Usable 
       sym (digit-bits wordBits (pageOf set numbered flags text) (place / wordBits) (place % wordBits) 1 (words-small set numbered flags text) (omega arith))
       ∙ rw (div-add-mod place wordBits)
 
-  -- bit k of character j stands behind the head and the characters before it
+  -- bit k of character j stands after the head and the characters before it
   pub cell : (j k : ℕ) → j < length (filled numbered text) → k < 4
       → let place = size (headOf numbered) + 4 * j + k in bitsAt (place % wordBits) 1 (getD (pageOf set numbered flags text) (place / wordBits) 0) ≡ bitsAt k 1 (placeIn set (getD (filled numbered text) j 0))
   cell j k within four =
@@ -238,19 +238,19 @@ module _ {set : Set} {numbered : Bool} {flags text : List ℕ} (usable : Usable 
       (digit-bits 4 (map (placeIn set) (filled numbered text)) j k 1 (codes-digits set numbered flags text (fits .head) (usable .sixteen) known) (omega arith)
       ∙ rw (map-at (placeIn set) (filled numbered text) j within))
 
-  -- each bit behind the last character is 0
+  -- each bit after the last character is 0
   pub left-over : (place : ℕ) → size (headOf numbered) + 4 * length (filled numbered text) ≤ place → bitsAt (place % wordBits) 1 (getD (pageOf set numbered flags text) (place / wordBits) 0) ≡ 0
-  left-over place behind =
+  left-over place past =
       let known = filled-known usable fits in
       let small = lt-of-lt-of-le (row-below set numbered flags text (fits .head) (usable .sixteen) known) (pow-mono {j = place} (omega (arith, filled-length numbered text))) in
       word-bits place
       ∙ rw (number-page set numbered flags text (fits .head) (usable .sixteen) known, bits-are place 1 (rowOf set numbered (headSent set numbered flags text) text), div-eq-of-lt small)
 
--- so many characters are read from no more bits than theirs, behind the head
+-- so many characters are read from no more bits than theirs, after the head
 low-characters : (room head row : ℕ) → digits 16 room (row % 2 ^ (4 * room + head) / 2 ^ head) ≡ digits 16 room (row / 2 ^ head)
 low-characters room head row = rw (field row (4 * room) head, ← pow-mul 2 4 room) (digits-low 16 room (row / 2 ^ head) (omega arith))
 
--- .. so that the bits behind the last character are not looked at in reading: words that agree in all others have the same text
+-- the bits after the last character are not looked at in reading: words that agree in all others have the same text
 pub left-over-unread : (set : Set) (numbered : Bool) (words words′ : List ℕ) → length words ≡ length words′
     → let bits = 4 * roomOf numbered (length words) + size (headOf numbered) in number (2 ^ wordBits) words % 2 ^ bits ≡ number (2 ^ wordBits) words′ % 2 ^ bits → textIn set numbered words ≡ textIn set numbered words′
 unfolding textIn

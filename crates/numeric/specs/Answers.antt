@@ -16,7 +16,7 @@ use Rattle.numeric.specs.Pages.{Set, mostWords, roomOf, checkOf, inVecto
 abbrev pub flagsOf : Numbering → List ℕ
 flagsOf n = n .«special_format» ∷ n .retrieval ∷ n .«message_number» ∷ []
 
--- .. and back
+-- S, R and N from a row of those numbers
 abbrev pub asNumbering : List ℕ → Numbering
 asNumbering head = record { «message_number» = getD head 2 0; retrieval = getD head 1 0; «special_format» = getD head 0 0 }
 

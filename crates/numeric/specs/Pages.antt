@@ -67,7 +67,7 @@ checkOf set numbered flags text = sixBits (wordsWith set numbered (flags ++ 0 �
 abbrev pub inVector : ℕ → ℕ
 inVector k = k % 16
 
--- .. and K4 and K5 in the first word
+-- K4 and K5, which stand in the first word
 abbrev pub inWord : ℕ → ℕ
 inWord k = k / 16
 

@@ -102,7 +102,7 @@ fn head_of(numbered: bool, n: Numbering) -> u32
     n.special_format * 512 + n.retrieval * 256 + n.message_number * 4
 }
 
-// The code at a place of the page: that of the text, then that of a space, and behind the room 0.
+// The code at a place of the page: that of the text, then that of a space, and after the room 0.
 fn code_at(text: &[u8], place: usize, room: usize) -> u32
     requires { ⌜ length (now text) ≤ room ⌝ }
     ensures code { λ r. ⌜ r ≡ getD (map (placeIn standardSet) (spaced room (now (text .entry)))) place 0 ⌝ }
@@ -137,7 +137,7 @@ fn six_codes(text: &[u8], place: usize, room: usize) -> u32
     three_codes(text, place, room) + 4096 * three_codes(text, place + 3, room)
 }
 
-// The first word: the head, and as many of the characters' bits as stand behind it.
+// The first word: the head, and as many of the characters' bits as stand after it.
 fn first_word(text: &[u8], numbered: bool, head: u32, room: usize) -> u32
     requires { ⌜ inSet standardSet (now text) ≡ true ⌝ }
     requires { ⌜ length (now text) ≤ room ⌝ }

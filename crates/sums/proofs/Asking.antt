@@ -1,17 +1,15 @@
 -- All words of a row asked at once: whether each is below a power of two is asked of their bits taken together.
-use Prim.Native.Nat.{ℕ, suc, _+_, _^_, _≤_, _<_}
-use mathlib.Core.Bool.{Bool, true, false, _&&_, and-assoc}
+use Prim.Native.Nat.{ℕ, _+_, _^_, _<_}
+use mathlib.Core.Bool.{Bool, true, false, _&&_}
 use mathlib.Core.List.{List}
-use mathlib.Core.Path.{_≡_, refl, ap, _∙_}
-use native.Mathlib.Numerals.{add-one}
+use mathlib.Core.Path.{_≡_, refl}
 use native.Mathlib.Omega.{arith}
 use borrow.Author.Tests.{lt-ltb, le-ltb, ltb-true, ltb-false}
 use lib.Bits.{bitOr, or-lt, or-add-and, and-le-l, and-le-r}
 use lib.Dec.{ltb}
-use lib.ListN.{length, getD, drop, drop-of-length-le}
-use lib.Seq.{drop-cons}
-use Rattle.laws.specs.Lists.{all}
+use lib.ListN.{length, getD, drop}
 use Rattle.laws.specs.Numerals.{areDigits}
+use Rattle.laws.proofs.Rows.{all-turn}
 
 -- two numbers taken together are below a power of two exactly if both are
 or-below : (k a b : ℕ) → ltb (bitOr a b) (2 ^ k) ≡ (ltb a (2 ^ k) && ltb b (2 ^ k))
@@ -25,16 +23,4 @@ or-below k a b = by-tests (ltb a (2 ^ k)) (ltb b (2 ^ k)) refl refl
 module _ (k : ℕ) (row : List ℕ) (bits i : ℕ) where
   -- one turn: the number there is asked with those before it
   pub asked-more : i < length row → (ltb (bitOr bits (getD row i 0)) (2 ^ k) && areDigits (2 ^ k) (drop (i + 1) row)) ≡ (ltb bits (2 ^ k) && areDigits (2 ^ k) (drop i row))
-  unfolding all
-  asked-more within =
-      rw (or-below k bits (getD row i 0), add-one, drop-cons row i 0 within)
-      (and-assoc (ltb bits (2 ^ k)) (ltb (getD row i 0) (2 ^ k)) (areDigits (2 ^ k) (drop (suc i) row)))
-
-  -- at the end none is still to be asked
-  pub all-asked : length row ≤ i → ltb bits (2 ^ k) ≡ (ltb bits (2 ^ k) && areDigits (2 ^ k) (drop i row))
-  unfolding all
-  all-asked done = rw (drop-of-length-le row done) (by-test (ltb bits (2 ^ k)))
-    where
-      by-test : (x : Bool) → x ≡ (x && true)
-      by-test true = refl
-      by-test false = refl
+  asked-more within = rw (or-below k bits (getD row i 0)) (all-turn (λ digit. ltb digit (2 ^ k)) row i (ltb bits (2 ^ k)) within)

@@ -32,10 +32,10 @@ fn groups(word: u32) -> u32
     word % 256 + (word >> 8) % 256 + (word >> 16) % 32
 }
 
-// The low ten bits of the sum of a first word and of all words behind the first of a row. More bits than ten are never
-// asked for. They are taken behind the loop, since one that reduces at each turn is not compiled to several words at a
+// The low ten bits of the sum of a first word and of all words after the first of a row. More bits than ten are never
+// asked for. They are taken after the loop, since one that reduces at each turn is not compiled to several words at a
 // time; the loop's own sum wraps at a multiple of 1024.
-fn sum_behind(first: u32, words: &[u32]) -> u32
+fn sum_after(first: u32, words: &[u32]) -> u32
     ensures { λ r. ⌜ r ≡ (groupsOf first + binarySum (drop 1 (now (words .entry)))) % 1024 ⌝ }
 {
     let mut sum = groups(first);
@@ -55,7 +55,7 @@ fn sum_unkeyed(words: &[u32], held: u32) -> u32
     if words.len() == 0 {
         return 0;
     }
-    sum_behind(words[0] >> held << held, words)
+    sum_after(words[0] >> held << held, words)
 }
 
 // K of a numeric page: its first word's two K bits are taken as 0.
@@ -74,8 +74,8 @@ pub fn ten_bit(words: &[u32]) -> u32
     1023 - sum_unkeyed(words, 10)
 }
 
-// The signature of a text with its fill. Of a byte that is no character the low seven bits count. They are taken behind
-// the loop, as in `sum_behind`.
+// The signature of a text with its fill. Of a byte that is no character the low seven bits count. They are taken after
+// the loop, as in `sum_after`.
 pub fn signature(characters: &[u8]) -> u32
     ensures { λ r. ⌜ r ≡ signatureOf (now (characters .entry)) ⌝ }
 {

@@ -9,7 +9,8 @@ use lib.Dec.{ltb, eqb}
 use lib.ListN.{length, getD, take, drop, replicate, List·getD-append}
 use lib.Seq.{drop-cons}
 use Rattle.laws.specs.Lists.{sumBy}
-use Rattle.laws.proofs.Rows.{same-default, all-at, sum-join}
+use Rattle.laws.proofs.Lists.{at-within}
+use Rattle.laws.proofs.Rows.{all-at, sum-join}
 use Rattle.laws.proofs.Tests.{first-of}
 use Rattle.laws.specs.Numerals.{number}
 use Rattle.sums.specs.Sums.{whole, signatureOf}
@@ -35,24 +36,24 @@ pub first-cell : (text : List ℕ) (place : ℕ) → place ≡ 0 → signatureOf
 unfolding messageOf
 first-cell text place first = rw first
 
--- behind a text there is fill, and nothing but fill
-fill-behind : (text : List ℕ) (count place : ℕ) → length text ≤ place → getD (text ++ replicate count etx) place etx ≡ etx
-fill-behind [] zero place behind = refl
-fill-behind [] (suc count) zero behind = refl
-fill-behind [] (suc count) (suc place) behind = fill-behind [] count place (omega arith)
-fill-behind (c ∷ text) count zero behind = absurd (omega arith)
-fill-behind (c ∷ text) count (suc place) behind = fill-behind text count place (omega arith)
+-- after a text there is fill, and nothing but fill
+fill-after : (text : List ℕ) (count place : ℕ) → length text ≤ place → getD (text ++ replicate count etx) place etx ≡ etx
+fill-after [] zero place past = refl
+fill-after [] (suc count) zero past = refl
+fill-after [] (suc count) (suc place) past = fill-after [] count place (omega arith)
+fill-after (c ∷ text) count zero past = absurd (omega arith)
+fill-after (c ∷ text) count (suc place) past = fill-after text count place (omega arith)
 
--- behind it the text
+-- after its signature the message has the text
 pub text-cell : (text : List ℕ) (place : ℕ) → (place ≡ 0 → ⊥) → place ≤ length text → getD text (place - 1) 0 ≡ getD (messageOf text) place etx
 unfolding messageOf
 text-cell text zero later within = absurd (later refl)
 text-cell text (suc place) later within =
     let less : suc place - 1 ≡ place = omega arith in
     let here : place < length text = omega arith in
-    rw less (same-default text place 0 etx here ∙ sym (List·getD-append text (replicate (2 - length text % 3) etx) etx place here))
+    rw less (at-within text place 0 etx here ∙ sym (List·getD-append text (replicate (2 - length text % 3) etx) etx place here))
 
--- .. of which every character has seven bits
+-- every character of a text to send has seven bits
 pub cell-small : (text : List ℕ) (place : ℕ) → sendable text ≡ true → (place ≡ 0 → ⊥) → place ≤ length text → getD text (place - 1) 0 < 128
 unfolding sendable
 cell-small text zero good later within = absurd (later refl)
@@ -61,11 +62,11 @@ cell-small text (suc place) good later within =
     let c = getD text place 0 in
     rw less (ltb-true c 128 (first-of (ltb c 128) (not (eqb c etx)) (all-at isText text place good (omega arith))))
 
--- and behind that fill
+-- after the text the message has fill
 pub fill-cell : (text : List ℕ) (place : ℕ) → length text < place → 3 ≡ getD (messageOf text) place etx
 unfolding messageOf
-fill-cell text zero behind = absurd (omega arith)
-fill-cell text (suc place) behind = sym (fill-behind text (2 - length text % 3) place (omega arith))
+fill-cell text zero past = absurd (omega arith)
+fill-cell text (suc place) past = sym (fill-after text (2 - length text % 3) place (omega arith))
 
 -- three cells of a row, as the number that they make
 pub three-cells : (text : List ℕ) (place : ℕ) → place + 3 ≤ length (messageOf text)

@@ -1,4 +1,4 @@
--- A fragment written word by word, and fragments one behind the other.
+-- A fragment written word by word, and fragments one after the other.
 use Prim.Native.Nat.{ℕ, zero, suc, _+_, _-_, _*_, _≤_, _<_, min}
 use mathlib.Core.Bool.{Bool, true}
 use mathlib.Core.List.{List, [], _∷_, _++_, append-nil, flatten}
@@ -13,7 +13,7 @@ use Rattle.laws.specs.Layouts.{fit, packed}
 use Rattle.laws.specs.Lists.{put}
 use Rattle.laws.specs.Numerals.{number}
 use Rattle.laws.proofs.Counting.{take-min}
-use Rattle.laws.proofs.Writing.{put-next, put-nothing, put-behind}
+use Rattle.laws.proofs.Writing.{put-next, put-nothing, put-after}
 use Rattle.sums.specs.Sums.{tenBits}
 use Rattle.fragment.specs.declared.Marks.{Marks}
 use Rattle.fragment.specs.Cutting.{messageOf, wordsFor, cellsFor, fragmentsFor, cellsAt, fragmentAt, fragmentsFrom, cut}
@@ -43,10 +43,10 @@ module _ (row : List ℕ) where
       let none : size - i ≡ 0 = omega arith in
       rw none (sym (put-nothing words i))
 
--- words that fill all behind the first
-behind-first : (words others : List ℕ) → length words ≡ 1 + length others → put words 1 others ≡ getD words 0 0 ∷ others
-behind-first [] others e = absurd (omega arith)
-behind-first (word ∷ words) others e =
+-- words that fill all after the first
+after-first : (words others : List ℕ) → length words ≡ 1 + length others → put words 1 others ≡ getD words 0 0 ∷ others
+after-first [] others e = absurd (omega arith)
+after-first (word ∷ words) others e =
     ap (λ (rest : List ℕ). word ∷ (others ++ rest)) (drop-of-length-le (word ∷ words) {i = 1 + length others} (omega arith)) ∙ ap (λ (rest : List ℕ). word ∷ rest) (append-nil others)
 
 -- so many words hold three times as many cells
@@ -56,10 +56,10 @@ body-length row place size inside =
     let many : length cells ≡ 3 * size = length-take-le (3 * size) (drop place row) (simp length-drop (omega arith)) in
     omega (arith, words-length cells (omega arith))
 
--- the words behind the first of a fragment
+-- the words after the first of a fragment
 pub body-written : (row words : List ℕ) (place : ℕ) → 1 ≤ length words → place + 3 * (length words - 1) ≤ length row
     → put words 1 (wordsOf (take (3 * (length words - 1)) (drop place row))) ≡ getD words 0 0 ∷ wordsOf (take (3 * (length words - 1)) (drop place row))
-body-written row words place some inside = behind-first words _ (omega (arith, body-length row place (length words - 1) inside))
+body-written row words place some inside = after-first words _ (omega (arith, body-length row place (length words - 1) inside))
 
 module _ (first : Bool) (head cells : List ℕ) (fits : fit (headOf first) (head ++ 0 ∷ []) ≡ true) where
   -- K below the numbers of the first word
@@ -108,21 +108,21 @@ module _ (largest : ℕ) (text : List ℕ) (place : ℕ) (two : 2 ≤ largest) (
   pub starts : largest * place ≡ (largest - 1) * place + place
   starts = let more : largest ≡ largest - 1 + 1 = omega arith in ap (λ (n : ℕ). n * place) more ∙ one-more (largest - 1) place
 
-  -- so it begins within the row
+  -- a fragment begins within the row
   pub starts-within : largest * place ≤ fragmentsFor largest (length text) + wordsFor (length text)
   starts-within = omega (arith, starts, words-before)
 
-  -- its part of the row is as long as the fragment
+  -- the part of the row from a fragment's place on is as long as the fragment
   pub part-size : min largest (fragmentsFor largest (length text) + wordsFor (length text) - largest * place) ≡ 1 + wordsAt largest (length text) place
   part-size =
       let more : largest ≡ largest - 1 + 1 = omega arith in
       rw starts (ap (λ (n : ℕ). min n (fragmentsFor largest (length text) + wordsFor (length text) - ((largest - 1) * place + place))) more ∙ sized (largest - 1) place (fragmentsFor largest (length text)) (wordsFor (length text)) inside (not-too-many largest (length text) two))
 
-  -- its cells are within the message
+  -- the cells of a fragment are within the message
   pub cells-within : 3 * (largest - 1) * place + 3 * wordsAt largest (length text) place ≤ length (messageOf text)
   cells-within = omega (arith, message-length text, three-within (largest - 1) (wordsFor (length text)) place words-before)
 
-  -- .. and are those of the fragment
+  -- so many cells from a fragment's place in the message on are those of the fragment
   pub cells-taken : take (3 * wordsAt largest (length text) place) (drop (3 * (largest - 1) * place) (messageOf text)) ≡ cellsAt largest text place
   cells-taken =
       let row = drop (cellsFor largest * place) (messageOf text) in
@@ -144,7 +144,7 @@ module _ (marks : Marks) (largest : ℕ) (text : List ℕ) (two : 2 ≤ largest)
         starts-within largest text (place + 1) two more,
       )
 
-  -- one turn: a fragment, and the others behind it still to come
+  -- one turn: a fragment, and the others after it still to come
   pub fragment-turn : (words : List ℕ) (place count : ℕ) → count ≡ fragmentsFor largest (length text) → place < count → largest * place ≤ length words
       → put (put words (largest * place) (fragmentAt marks largest text place)) (largest * (place + 1)) (flatten (fragmentsFrom marks largest text (place + 1) (count - (place + 1)))) ≡ put words (largest * place) (flatten (fragmentsFrom marks largest text place (count - place)))
   unfolding fragmentsFrom flatten
@@ -157,7 +157,7 @@ module _ (marks : Marks) (largest : ℕ) (text : List ℕ) (two : 2 ≤ largest)
           rw (none, one) (put-nothing (put words (largest * place) (fragmentAt marks largest text place)) (largest * (place + 1)) ∙ ap (put words (largest * place)) (sym (append-nil (fragmentAt marks largest text place))))
       by-left (suc left) some =
           let more : count - place ≡ suc (suc left) = omega arith in
-          rw (some, more, ← full-size place (omega arith), add-one) (put-behind words (fragmentAt marks largest text place) _ (largest * place) inside)
+          rw (some, more, ← full-size place (omega arith), add-one) (put-after words (fragmentAt marks largest text place) _ (largest * place) inside)
 
   -- at the start all are still to come
   pub fragments-begin : (words : List ℕ) (count : ℕ) → count ≡ fragmentsFor largest (length text) → put words (largest * 0) (flatten (fragmentsFrom marks largest text 0 (count - 0))) ≡ put words 0 (flatten (cut marks largest text))

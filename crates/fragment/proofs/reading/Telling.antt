@@ -22,7 +22,7 @@ use Rattle.fragment.proofs.Laws.{Good, heading-told, read-told, text-to
 abbrev asked : Bool → Bool → Bool → Told → Told
 asked sized intact right rest = ask (not sized) Size (ask (not intact) Damaged (ask (not right) Checksum rest))
 
--- an answer that one of them refuses is the same, whatever is asked behind them
+-- an answer that one of them refuses is the same, whatever is asked after them
 same-refusal : (sized intact right : Bool) (rest other : Told) → numberTold rest ≡ 0 → (numberTold (asked sized intact right rest) ≡ 0 → ⊥) → asked sized intact right other ≡ asked sized intact right rest
 same-refusal false intact right rest other none some = refl
 same-refusal true false right rest other none some = refl
@@ -44,7 +44,7 @@ module _ (words lent : List ℕ) where
     unfolding readOf
     read-asks = rw (good .size, good .intact, good .sum)
 
-    -- .. so that it is refused where its text is
+    -- a good fragment is refused where its text is
     pub read-full : (numberTold (textOf (length lent) words) ≡ 0 → ⊥) → readOf (length lent) words ≡ refused Room
     unfolding textOf
     read-full some = read-asks ∙ by-test (ltb (length lent) (length (textIn words))) some
@@ -53,12 +53,12 @@ module _ (words lent : List ℕ) where
         by-test true more = refl
         by-test false more = absurd (more refl)
 
-    -- .. and told as its heading where its text is not
+    -- a good fragment is told as its heading where its text is not refused
     pub read-given : numberTold (textOf (length lent) words) ≡ 0 → readOf (length lent) words ≡ headingOf words
     read-given none =
         read-told words (length lent) good (text-accepted words (length lent) .0 none) ∙ sym (heading-told words good)
 
-    -- .. and what is written is its text
+    -- what is written of a good fragment is its text
     pub read-writes : readAfter words lent ≡ textAfter words lent
     unfolding textOf
     read-writes = ap (λ (answer : Told). writtenBy answer lent (textIn words)) read-asks ∙ by-test (ltb (length lent) (length (textIn words)))

@@ -1,4 +1,4 @@
--- The words behind the second written one after the other, with or without fill: those so far, and those still to come.
+-- The words after the second written one after the other, with or without fill: those so far, and those still to come.
 use Prim.Native.Nat.{ℕ, _+_, _≤_, _<_}
 use mathlib.Core.List.{List}
 use mathlib.Core.Path.{_≡_, refl, sym, ap, _∙_}
@@ -21,7 +21,7 @@ module _ (words lent : List ℕ) (from : ℕ) where
     pub place : at + length (textAt words i) ≡ from + length (textAt words 2)
     pub holds : put text at (textAt words i) ≡ put lent from (textAt words 2)
 
-  -- none is written
+  -- no word is written yet
   pub begun-none : from + length (textAt words 2) ≤ length lent → Begun lent from 2
   begun-none room = record { kept = refl; room = room; place = refl; holds = refl }
 
@@ -29,7 +29,7 @@ module _ (words lent : List ℕ) (from : ℕ) where
   pub begun-room : (text : List ℕ) (at i : ℕ) → Begun text at i → i < length words → at + length (withoutFill (cellsIn (getD words i 0))) ≤ length text
   begun-room text at i so-far within = omega (arith, length-next words i within)
 
-  -- .. and is written
+  -- the next word is written
   pub begun-more : (text after : List ℕ) (at next i : ℕ) → Begun text at i → i < length words
       → next ≡ at + length (withoutFill (cellsIn (getD words i 0))) → after ≡ put text at (withoutFill (cellsIn (getD words i 0))) → Begun after next (i + 1)
   begun-more text after at next i so-far within there is =
@@ -42,7 +42,7 @@ module _ (words lent : List ℕ) (from : ℕ) where
         holds = put-on text after _ _ at next (omega arith) is there ∙ ap (put text at) (sym (text-next words i within)) ∙ so-far .holds;
       }
 
-  -- behind the last word all is written
+  -- after the last word all is written
   pub begun-all : (text : List ℕ) (at i : ℕ) → Begun text at i → length words ≤ i → (at ≡ from + length (textAt words 2)) × (text ≡ put lent from (textAt words 2))
   begun-all text at i so-far done =
       let none = text-end words i done in

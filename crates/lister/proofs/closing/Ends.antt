@@ -16,7 +16,7 @@ module _ (line : List ℕ) (count : ℕ) (sixteen : length line ≡ 16) where
   return-kept true e = keep-more line count sixteen carriageReturn (ltb-true count 16 e)
   return-kept false e = absurd (false≢true e)
 
-  -- none was, or the line is full
+  -- no carriage return was held back, or the line is full
   pub no-return-kept : (held : Bool) → (held && ltb count 16) ≡ false → take count line ≡ kept (take count line ++ heldBytes held)
   no-return-kept true e = keep-full line count sixteen carriageReturn (ltb-false count 16 e)
   no-return-kept false e = keep-none line count sixteen

@@ -26,7 +26,7 @@ second-length (first ∷ second ∷ more) = refl
 words-length : (words : Told) → length (wordsShown words) ≡ 13
 words-length (told n words) = omega (arith, second-length words)
 
--- what stands behind an accepted text has 22 bytes before the line feed
+-- what stands after an accepted text has 22 bytes before the line feed
 accepted-length : (values : List ℕ) → length (acceptedEnd values) ≡ 22
 unfolding digits
 accepted-length values = simp length-append (omega (arith, words-length (wordsOf (getD values 3 0))))

@@ -58,7 +58,7 @@ module _ (r : Refusal) (n : ℕ) (number : n ≡ numberOf r) where
       let digit : n % 10 ≡ numberOf r = omega arith in
       rw (not-none, lt-ltb (numberOf r) 10 (omega arith), digit)
 
-  -- .. and of one whose number has two
+  -- the end of a refused text whose number has two digits
   pub refused-two : 10 ≤ n → 32 ∷ 82 ∷ 69 ∷ 70 ∷ 85 ∷ 83 ∷ 69 ∷ 68 ∷ 32 ∷ (48 + n / 10 % 10) ∷ (48 + n % 10) ∷ 10 ∷ [] ≡ verdictBy (refused r) ++ lineFeed ∷ []
   refused-two many = rw (not-none, le-ltb (numberOf r) 10 (omega arith), number)
 

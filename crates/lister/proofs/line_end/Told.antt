@@ -40,18 +40,18 @@ module _ (r : Refusal) (n : ℕ) (number : n ≡ numberOf r) where
       → _≡_ {A = Verdict} (record { «is_accepted» = false; size = 11; end = padded (32 ∷ 82 ∷ 69 ∷ 70 ∷ 85 ∷ 83 ∷ 69 ∷ 68 ∷ 32 ∷ (48 + n % 10) ∷ 10 ∷ []) }) (verdictAs (refused r))
   one-told few = let end = refused-one r n number few in same-verdict (sym (not-none r n number)) (ap length end) (ap padded end)
 
-  -- .. and of one whose number has two
+  -- a refused text whose number has two digits
   pub two-told : 10 ≤ n
       → _≡_ {A = Verdict} (record { «is_accepted» = false; size = 12; end = padded (32 ∷ 82 ∷ 69 ∷ 70 ∷ 85 ∷ 83 ∷ 69 ∷ 68 ∷ 32 ∷ (48 + n / 10 % 10) ∷ (48 + n % 10) ∷ 10 ∷ []) }) (verdictAs (refused r))
   two-told many = let end = refused-two r n number many in same-verdict (sym (not-none r n number)) (ap length end) (ap padded end)
 
 module _ (text : List ℕ) (v : Verdict) (told : v ≡ verdictAs (readOf text)) where
-  -- so many bytes stand behind the text
+  -- so many bytes stand after the text
   pub size-of : v .size ≡ length (verdictOf text)
   unfolding verdictOf
   size-of = ap (λ (w : Verdict). w .size) told
 
-  -- .. and these
+  -- the bytes that stand after the text
   pub end-of : take (v .size) (v .end) ≡ verdictOf text
   unfolding verdictOf
   end-of = rw told (take-at (verdictOf text) (replicate (23 - length (verdictOf text)) 0) (length (verdictOf text)) refl)

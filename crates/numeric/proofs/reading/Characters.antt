@@ -15,7 +15,7 @@ use Rattle.laws.proofs.Numerals.{digits-next, number-drop, pow-mul}
 use Rattle.laws.proofs.Writing.{put-next}
 use Rattle.sums.specs.Words.{undamaged}
 
--- a word and those behind it, from a bit of the word on
+-- a word and those after it, from a bit of the word on
 from-bit : (place word rest : ℕ) → place < 21 → (word + 2 ^ 21 * rest) / 2 ^ place ≡ word / 2 ^ place + 2 ^ (21 - place) * rest
 from-bit place word rest h =
     let both : place + (21 - place) ≡ 21 = omega arith in
@@ -54,7 +54,7 @@ module _ (words : List ℕ) (at place : ℕ) (good : undamaged words ≡ true) (
   pub code-within : place < 18 → number (2 ^ 21) words / 2 ^ (21 * at + place) % 16 ≡ getD words at 0 / 2 ^ place % 16
   code-within low = rw from-word (within-word place (getD words at 0) (number (2 ^ 21) (drop (suc at) words)) low)
 
-  -- .. where no word follows
+  -- the code there, where no word follows
   pub code-last : at + 1 ≡ length words → number (2 ^ 21) words / 2 ^ (21 * at + place) % 16 ≡ getD words at 0 / 2 ^ place % 16
   unfolding number
   code-last last =
@@ -62,16 +62,16 @@ module _ (words : List ℕ) (at place : ℕ) (good : undamaged words ≡ true) (
       let none : drop (suc at) words ≡ [] = drop-of-length-le words end in
       rw (from-word, none, mul-zero, add-zero)
 
-  -- .. and where it goes on in the next
+  -- the code there, where it goes on in the next word
   pub code-over : at + 1 < length words → number (2 ^ 21) words / 2 ^ (21 * at + place) % 16 ≡ (getD words at 0 / 2 ^ place % 16 + getD words (at + 1) 0 * 2 ^ (21 - place) % 2 ^ 32 % 16) % 16
   unfolding number
   code-over more =
       let next : suc at < length words = omega arith in
       rw (from-word, drop-cons words (suc at) 0 next, add-one) (over-words place (getD words at 0) (getD words (suc at) 0) (number (2 ^ 21) (drop (suc (suc at)) words)) bit)
 
--- the bits behind the head and so many characters
-pub behind-characters : (n head i place : ℕ) → place ≡ head + 4 * i → n / 2 ^ place ≡ n / 2 ^ head / 16 ^ i
-behind-characters n head i place e = rw (e, ← shr-shr n head (4 * i), ← pow-mul 2 4 i)
+-- the bits after the head and so many characters
+pub after-characters : (n head i place : ℕ) → place ≡ head + 4 * i → n / 2 ^ place ≡ n / 2 ^ head / 16 ^ i
+after-characters n head i place e = rw (e, ← shr-shr n head (4 * i), ← pow-mul 2 4 i)
 
 -- characters spelled from a number, so many, each by a rule: one is stored, and the others are still to come
 pub spelled-turn : (rule : ℕ → ℕ) (out : List ℕ) (room i x : ℕ) → i < room → room ≤ length out → put (set out i (rule (x / 16 ^ i % 16))) (i + 1) (map rule (digits 16 (room - (i + 1)) (x / 16 ^ (i + 1)))) ≡ put out i (map rule (digits 16 (room - i) (x / 16 ^ i)))

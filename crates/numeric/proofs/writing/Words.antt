@@ -33,7 +33,7 @@ pub six-row : (codes : List ℕ) (place : ℕ) → areDigits 16 codes ≡ true �
 unfolding number
 six-row codes place good = simp towards-suc (omega (arith, simp towards-suc at (six-from 16 codes place (omega arith) good)))
 
--- the first word: the head, and the lowest of the characters' bits behind it
+-- the first word: the head, and the lowest of the characters' bits after it
 pub first-is : (numbered : Bool) (head codes : ℕ) → head < 2 ^ size (headOf numbered) → head + codes / 16 ^ 0 % 16 ^ 6 * 2 ^ size (headOf numbered) % 2 ^ 32 % 2 ^ 21 ≡ (head + 2 ^ size (headOf numbered) * codes) % 2 ^ 21
 first-is true head codes small = omega arith
 first-is false head codes small = omega arith
@@ -52,7 +52,7 @@ later-is codes start =
 
 -- the digits of a number written into words one by one, the lowest first
 module _ (b row count : ℕ) (words : List ℕ) where
-  -- one is written: those behind it are still to come
+  -- one word is written: those after it are still to come
   pub word-turn : (i a : ℕ) → i < count → i < length words → a ≡ row / b ^ i % b → put (set words i a) (i + 1) (digits b (count - (i + 1)) (row / b ^ (i + 1))) ≡ put words i (digits b (count - i) (row / b ^ i))
   word-turn i a more within is =
       rw (digits-next b count row i more, ← is, add-one i) (put-next words _ i a within)
@@ -71,8 +71,8 @@ module _ (b row count : ℕ) (words : List ℕ) where
       rw none (sym (put-nothing words i))
 
 -- a later word is none of the head's bits
-pub behind-head : (h start i head codes : ℕ) → head < 2 ^ h → h + start ≡ 21 * i → (head + 2 ^ h * codes) / (2 ^ 21) ^ i ≡ codes / 2 ^ start
-behind-head h start i head codes small e =
+pub after-head : (h start i head codes : ℕ) → head < 2 ^ h → h + start ≡ 21 * i → (head + 2 ^ h * codes) / (2 ^ 21) ^ i ≡ codes / 2 ^ start
+after-head h start i head codes small e =
     let row = head + 2 ^ h * codes in
     let swap : row ≡ codes * 2 ^ h + head = omega arith in
     ap (λ (d : ℕ). row / d) (pow-mul 2 21 i ∙ ap (λ (k : ℕ). 2 ^ k) (sym e))
@@ -105,7 +105,7 @@ module _ (numbered : Bool) (flags text lent : List ℕ) where
   pub zeroed-fits : wordsFor numbered (length text) ≤ length lent → length (put lent 0 (zeroed numbered flags text)) ≡ length lent
   zeroed-fits enough = length-put lent (zeroed numbered flags text) 0 (omega (arith, zeroed-length))
 
-  -- .. and K is taken of them
+  -- K is taken of the words with K as 0
   pub k-taken : sixBits (take (wordsFor numbered (length text)) (put lent 0 (zeroed numbered flags text))) ≡ checkOf standardSet numbered flags text
   unfolding checkOf
   k-taken = ap sixBits (take-at (zeroed numbered flags text) _ (wordsFor numbered (length text)) zeroed-length)
@@ -118,7 +118,7 @@ module _ (numbered : Bool) (flags text lent : List ℕ) where
         rw (row-with standardSet numbered flags text k fits small, row-with standardSet numbered flags text 0 fits (omega arith))
         (first-more (wordsFor numbered (length text)) (aboveOf standardSet numbered flags text) k lent (some-word numbered (length text)) small)
 
-    -- .. and its own makes the page
+    -- their own K5 with K4 added to the first makes the page
     pub k-added : let words = put lent 0 (zeroed numbered flags text) in (getD words 0 0 < 2 ^ 21) × (set words 0 (getD words 0 0 + inWord (checkOf standardSet numbered flags text)) ≡ put lent 0 (pageOf standardSet numbered flags text))
     unfolding pageOf
     k-added = keyed (inWord (checkOf standardSet numbered flags text)) (check-small standardSet numbered flags text)

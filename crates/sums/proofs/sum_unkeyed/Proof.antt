@@ -12,22 +12,22 @@ returns c =
     let args = c .before .before .args in
     ap (λ (n : ℕ). n % 1024) (sym (empty-sum (args .held) (args .words .now) (omega arith)))
 
-shared-slice-read-sum-behind : tie.Need-shared-slice-read-sum-behind
-shared-slice-read-sum-behind c = search needs
+shared-slice-read-sum-after : tie.Need-shared-slice-read-sum-after
+shared-slice-read-sum-after c = search needs
 
-shr-sum-behind : tie.Need-shr-sum-behind
-shr-sum-behind c = search needs
+shr-sum-after : tie.Need-shr-sum-after
+shr-sum-after c = search needs
 
-shl-sum-behind : tie.Need-shl-sum-behind
-shl-sum-behind c = search needs
+shl-sum-after : tie.Need-shl-sum-after
+shl-sum-after c = search needs
 
-sum-behind-requires : tie.Need-sum-behind-requires
-sum-behind-requires c κs = search needs
+sum-after-requires : tie.Need-sum-after-requires
+sum-after-requires c κs = search needs
 
 returns-2 : tie.Need-returns-2
 returns-2 c =
     let args = c .before .before .before .before .args in
-    c .sum-behind .ensures
+    c .sum-after .ensures
     ∙ ap (λ (n : ℕ). n % 1024) (unkeyed-sum (args .held) (args .words .now) (omega arith) (omega (arith, c .before .shared-slice-known2 .given 0)))
 
 pub sum-unkeyed-spec : {M : Type 1} → statement M
@@ -35,8 +35,8 @@ sum-unkeyed-spec =
     tie.close
     (tie.spec
     returns
-    shared-slice-read-sum-behind
-    shr-sum-behind
-    shl-sum-behind
-    sum-behind-requires
+    shared-slice-read-sum-after
+    shr-sum-after
+    shl-sum-after
+    sum-after-requires
     returns-2)

@@ -6,7 +6,8 @@ use native.Mathlib.Omega.{arith}
 use lib.Dec.{ltb}
 use lib.ListN.{length, drop}
 use Rattle.laws.specs.Numerals.{areDigits}
-use Rattle.sums.proofs.Asking.{asked-more, all-asked}
+use Rattle.laws.proofs.Rows.{all-done}
+use Rattle.sums.proofs.Asking.{asked-more}
 use borrow.Author.Needs.{needs}
 use Rattle.sums.proofs.undamaged.Statement.{statement}
 use Rattle.sums.proofs.undamaged.Tie as tie
@@ -40,7 +41,7 @@ loop-again c =
 returns : tie.Need-returns Inv-loop μ-loop
 returns c =
     let turn = c .before in
-    all-asked 21 (turn .before .args .words .now) (turn .loop .bits) (turn .loop .at) (omega arith) ∙ turn .loop .inv
+    all-done (λ word. ltb word (2 ^ 21)) (turn .before .args .words .now) (turn .loop .at) (ltb (turn .loop .bits) (2 ^ 21)) (omega arith) ∙ turn .loop .inv
 
 pub undamaged-spec : {M : Type 1} → statement M
 undamaged-spec =

@@ -1,7 +1,7 @@
 -- `word_at` meets its contract.
 use mathlib.Core.Path.{sym}
 use lib.ListN.{List·getD-eq-default}
-use Rattle.laws.proofs.Rows.{same-default}
+use Rattle.laws.proofs.Lists.{at-within}
 use Rattle.call.specs.Words.{lacking}
 use borrow.Author.Needs.{needs}
 use Rattle.call.proofs.memory.word_at.Statement.{statement}
@@ -16,7 +16,7 @@ shared-slice-read-result c = search needs
 returns : tie.Need-returns
 returns c =
     let start = c .before .before in
-    same-default (start .args .memory .now) (start .args .at) 0 lacking (c .before .if1 .taken)
+    at-within (start .args .memory .now) (start .args .at) 0 lacking (c .before .if1 .taken)
 
 returns-2 : tie.Need-returns-2
 returns-2 c =

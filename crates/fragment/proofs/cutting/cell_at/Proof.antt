@@ -1,4 +1,4 @@
--- `cell_at` meets its contract: before, within and behind the text.
+-- `cell_at` meets its contract: before, within and after the text.
 use Prim.Native.Nat.{_-_}
 use mathlib.Core.Path.{_∙_}
 use native.Mathlib.Omega.{arith}

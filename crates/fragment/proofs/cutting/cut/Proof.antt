@@ -32,7 +32,7 @@ start c = c .before .before .before .before
 none : (c : tie.Else1) → numberTold (cutOf (length (start c .args .words .now)) (start c .args .marks) (start c .args .largest) (start c .args .text .now)) ≡ 0
 none c = sym (c .before .judge .ensures) ∙ c .if1 .left
 
--- .. so much is known
+-- what is known of a text that is not refused
 known : (c : tie.Else1) → Cuttable (start c .args .marks) (start c .args .largest) (start c .args .text .now) × (fragmentsFor (start c .args .largest) (length (start c .args .text .now)) + wordsFor (length (start c .args .text .now)) ≤ length (start c .args .words .now))
 known c = accepted (length (start c .args .words .now)) (start c .args .marks) (start c .args .largest) (start c .args .text .now) .0 (none c)
 
@@ -43,7 +43,9 @@ write-fragments-requires : tie.Need-write-fragments-requires
 write-fragments-requires c κs = (none (c .before .before), c .before .fragments-for .ensures .0)
 
 words-for-requires : tie.Need-words-for-requires
-words-for-requires c κs = known (c .before .before .before .before .before) .0 .short
+words-for-requires c κs =
+    let passed = c .before .before .before .before .before in
+    known passed .0 .short
 
 add-t13 : tie.Need-add-t13
 add-t13 c =

@@ -32,13 +32,19 @@ add-numbers-2 : tie.Need-add-numbers-2
 add-numbers-2 c = omega (arith, small (c .before .before .before), c .before .fragment-number .ensures .1, c .continued .ensures .1)
 
 mul-result : tie.Need-mul-result
-mul-result c = omega (arith, small (c .before .before .before .before .before))
+mul-result c =
+    let start = c .before .before .before .before .before in
+    omega (arith, small start)
 
 mul-result-2 : tie.Need-mul-result-2
-mul-result-2 c = omega (arith, small (c .before .before .before .before .before .before))
+mul-result-2 c =
+    let start = c .before .before .before .before .before .before in
+    omega (arith, small start)
 
 add-result : tie.Need-add-result
-add-result c = omega (arith, small (c .before .before .before .before .before .before))
+add-result c =
+    let start = c .before .before .before .before .before .before in
+    omega (arith, small start)
 
 add-result-2 : tie.Need-add-result-2
 add-result-2 c =

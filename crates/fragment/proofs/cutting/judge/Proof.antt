@@ -20,17 +20,20 @@ use Rattle.fragment.proofs.cutting.judge.Tie as tie
 abbrev start : tie.After-words-for → tie.Start
 start c = c .before .before .before .before .before .before .before .before .before .before
 
--- what each question leaves behind it
+-- what is known after each question
 fits : (c : tie.Else1) → marked (c .before .before .before .args .marks) ≡ true
 fits c = sym (c .before .marked .ensures) ∙ not-false _ (c .if1 .left)
 
-sized : (c : tie.Else2) → isSize (c .before .before .before .before .before .args .largest) ≡ true
+sized : (c : tie.Else2) → let entry = c .before .before .before .before .before in
+    isSize (entry .args .largest) ≡ true
 sized c = sym (c .before .is-size .ensures) ∙ not-false _ (c .if2 .left)
 
-short : (c : tie.Else3) → ltb 1008 (length (c .before .before .before .before .before .before .args .text .now)) ≡ false
+short : (c : tie.Else3) → let entry = c .before .before .before .before .before .before in
+    ltb 1008 (length (entry .args .text .now)) ≡ false
 short c = le-ltb _ _ (c .if3 .left)
 
-sent : (c : tie.Else4) → sendable (c .before .before .before .before .before .before .before .before .args .text .now) ≡ true
+sent : (c : tie.Else4) → let entry = c .before .before .before .before .before .before .before .before in
+    sendable (entry .args .text .now) ≡ true
 sent c = sym (c .before .sendable .ensures) ∙ not-false _ (c .if4 .left)
 
 marked-requires : tie.Need-marked-requires
@@ -86,7 +89,9 @@ words-for-requires : tie.Need-words-for-requires
 words-for-requires c κs = omega (arith, c .before .before .before .if3 .left)
 
 add-if5 : tie.Need-add-if5
-add-if5 c = omega (arith, c .before .fragments-for .ensures .1, c .words-for .ensures, c .before .before .before .before .if3 .left)
+add-if5 c =
+    let measured = c .before .before .before .before in
+    omega (arith, c .before .fragments-for .ensures .1, c .words-for .ensures, measured .if3 .left)
 
 number-requires-5 : tie.Need-number-requires-5
 number-requires-5 c κs = search needs
@@ -98,7 +103,8 @@ needed c = length (flatten (cut (start c .args .marks) (start c .args .largest) 
 together : (c : tie.After-words-for) → needed c ≡ c .before .fragments-for .result + c .words-for .result
 together c =
     let args = start c .args in
-    total (args .marks) (args .largest) (args .text .now) (size-limits (args .largest) (sized (c .before .before .before .before .before)) .0)
+    let sized-at = c .before .before .before .before .before in
+    total (args .marks) (args .largest) (args .text .now) (size-limits (args .largest) (sized sized-at) .0)
     ∙ ap₂ _+_ (sym (c .before .fragments-for .ensures .0)) (sym (c .words-for .ensures))
 
 returns-5 : tie.Need-returns-5
@@ -106,15 +112,17 @@ unfolding cutOf
 returns-5 c =
     let at = c .before .before in
     let past = at .before .before in
+    let sized-at = past .before .before .before in
     c .number5 .ensures
-    ∙ simp (fits (past .before .before .before .before .before), sized (past .before .before .before), short (past .before .before), sent past, lt-ltb (start at .args .lent) (needed at) (omega (arith, together at, c .before .if5 .taken)))
+    ∙ simp (fits (sized-at .before .before), sized sized-at, short (past .before .before), sent past, lt-ltb (start at .args .lent) (needed at) (omega (arith, together at, c .before .if5 .taken)))
 
 returns-6 : tie.Need-returns-6
 unfolding cutOf
 returns-6 c =
     let at = c .before in
     let past = at .before .before in
-    simp (fits (past .before .before .before .before .before), sized (past .before .before .before), short (past .before .before), sent past, le-ltb (start at .args .lent) (needed at) (omega (arith, together at, c .if5 .left)))
+    let sized-at = past .before .before .before in
+    simp (fits (sized-at .before .before), sized sized-at, short (past .before .before), sent past, le-ltb (start at .args .lent) (needed at) (omega (arith, together at, c .if5 .left)))
 
 pub judge-spec : {M : Type 1} → statement M
 judge-spec =

@@ -36,20 +36,22 @@ words-for-requires : tie.Need-words-for-requires
 words-for-requires c κs = known (c .before .before .before) .0 .short
 
 add-end-of : tie.Need-add-end-of
-add-end-of c = omega (arith, c .before .fragments-for .ensures .1, c .words-for .ensures, known (c .before .before .before .before) .0 .short)
+add-end-of c =
+    let start = c .before .before .before .before in
+    omega (arith, c .before .fragments-for .ensures .1, c .words-for .ensures, known start .0 .short)
 
 end-of-requires : tie.Need-end-of-requires
 end-of-requires c κs =
     let start = c .before .before .before .before in
     omega (arith, c .before .fragments-for .ensures .0, c .words-for .ensures, starts-within (start .args .largest) (start .args .text .now) (start .args .place) (limits start .0) (start .pre .1 .1))
 
--- how many words the fragment has behind its first
-abbrev behind : tie.Start → ℕ
-behind c = wordsAt (c .args .largest) (length (c .args .text .now)) (c .args .place)
+-- how many words the fragment has after its first
+abbrev afterFirst : tie.Start → ℕ
+afterFirst c = wordsAt (c .args .largest) (length (c .args .text .now)) (c .args .place)
 
 -- where the fragment ends
 ends : (c : tie.After-end-of) → let start = c .before .before .before .before .before in
-    (c .end-of .result ≡ start .args .largest * start .args .place + (1 + behind start)) × (c .end-of .result ≤ length (start .args .words .now))
+    (c .end-of .result ≡ start .args .largest * start .args .place + (1 + afterFirst start)) × (c .end-of .result ≤ length (start .args .words .now))
 ends c =
     let start = c .before .before .before .before .before in
     let total = ap₂ _+_ (c .before .before .fragments-for .ensures .0) (c .before .words-for .ensures) in
@@ -59,10 +61,14 @@ ends c =
     (end ∙ ap (λ (n : ℕ). from + n) size, omega (arith, end, known start .1, starts-within (start .args .largest) (start .args .text .now) (start .args .place) (limits start .0) (start .pre .1 .1)))
 
 sub-cell : tie.Need-sub-cell
-sub-cell c = omega (arith, limits (c .before .before .before .before .before))
+sub-cell c =
+    let start = c .before .before .before .before .before in
+    omega (arith, limits start)
 
 mul-cell : tie.Need-mul-cell
-mul-cell c = omega (arith, limits (c .before .before .before .before .before))
+mul-cell c =
+    let start = c .before .before .before .before .before in
+    omega (arith, limits start)
 
 mul-cell-2 : tie.Need-mul-cell-2
 mul-cell-2 c =
@@ -70,13 +76,19 @@ mul-cell-2 c =
     omega (arith, message-length (start .args .text .now), known start .0 .short, cells-within (start .args .largest) (start .args .text .now) (start .args .place) (limits start .0) (start .pre .1 .1))
 
 sub-write-fragment : tie.Need-sub-write-fragment
-sub-write-fragment c = omega (arith, c .before .before .fragments-for .ensures .0, c .before .before .before .before .before .pre .1 .1)
+sub-write-fragment c =
+    let start = c .before .before .before .before .before in
+    omega (arith, c .before .before .fragments-for .ensures .0, start .pre .1 .1)
 
 sub-write-fragment-2 : tie.Need-sub-write-fragment-2
-sub-write-fragment-2 c = omega (arith, c .before .before .fragments-for .ensures .0, c .before .before .before .before .before .pre .1 .1)
+sub-write-fragment-2 c =
+    let start = c .before .before .before .before .before in
+    omega (arith, c .before .before .fragments-for .ensures .0, start .pre .1 .1)
 
 mul-write-fragment : tie.Need-mul-write-fragment
-mul-write-fragment c = omega (arith, c .before .before .before .before .before .good, begins (c .before .before .before .before .before))
+mul-write-fragment c =
+    let start = c .before .before .before .before .before in
+    omega (arith, start .good, begins start)
 
 sub-write-fragment-3 : tie.Need-sub-write-fragment-3
 sub-write-fragment-3 c = omega (arith, ends c)
@@ -87,9 +99,9 @@ part-write-fragment-start c = omega (arith, ends c)
 part-write-fragment-end : tie.Need-part-write-fragment-end
 part-write-fragment-end c = ends c .1
 
--- .. and so long is its part of the row
+-- how long the fragment's part of the row is
 part-length : (c : tie.After-end-of) → let start = c .before .before .before .before .before in
-    length (midOf (start .args .largest * start .args .place) (c .end-of .result - start .args .largest * start .args .place) (start .args .words .now)) ≡ 1 + behind start
+    length (midOf (start .args .largest * start .args .place) (c .end-of .result - start .args .largest * start .args .place) (start .args .words .now)) ≡ 1 + afterFirst start
 part-length c =
     let start = c .before .before .before .before .before in
     mid-len (start .args .largest * start .args .place) (c .end-of .result) (start .args .words .now) (ends c .1) ∙ omega (arith, ends c .0)
@@ -111,9 +123,9 @@ written c =
     let largest = start .args .largest in
     let text = start .args .text .now in
     let place = start .args .place in
-    let behind-first : length (midOf (largest * place) (at .end-of .result - largest * place) (start .args .words .now)) - 1 ≡ behind start = omega (arith, part-length at) in
+    let after-first : length (midOf (largest * place) (at .end-of .result - largest * place) (start .args .words .now)) - 1 ≡ afterFirst start = omega (arith, part-length at) in
     c .write-fragment .ensures
-    ∙ ap₂ (λ (n k : ℕ). fragmentOf (eqb place 0) (headAt (start .args .marks) place (n - 1 - place)) (take (3 * k) (drop (3 * (largest - 1) * place) (messageOf text)))) (at .before .before .fragments-for .ensures .0) behind-first
+    ∙ ap₂ (λ (n k : ℕ). fragmentOf (eqb place 0) (headAt (start .args .marks) place (n - 1 - place)) (take (3 * k) (drop (3 * (largest - 1) * place) (messageOf text)))) (at .before .before .fragments-for .ensures .0) after-first
     ∙ ap (fragmentOf (eqb place 0) (headAt (start .args .marks) place (fragmentsFor largest (length text) - 1 - place))) (cells-taken largest text place (limits start .0) (start .pre .1 .1))
 
 same-length : tie.Need-same-length

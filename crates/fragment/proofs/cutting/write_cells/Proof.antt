@@ -28,7 +28,10 @@ word-at-requires c κs =
     (start .pre .0, (start .pre .1 .0, omega (arith, start .pre .1 .1 .1, c .before .loop .inv .0, c .before .loop .inv .2, c .before .loop .inv .3, c .loop-test .taken)))
 
 mul-words : tie.Need-mul-words Inv-loop μ-loop
-mul-words c = omega (arith, c .before .before .before .before .before .good, c .before .before .loop .inv .3, c .before .loop-test .taken)
+mul-words c =
+    let turn = c .before .before in
+    let start = turn .before .before .before in
+    omega (arith, start .good, turn .loop .inv .3, c .before .loop-test .taken)
 
 slice-write-words : tie.Need-slice-write-words Inv-loop μ-loop
 slice-write-words c = omega (arith, c .before .loop-test .taken)
@@ -40,7 +43,10 @@ add-at c =
     omega (arith, start .good, start .pre .1 .1 .1, message-length (start .args .text .now), turn .loop .inv .0, turn .loop .inv .2, turn .loop .inv .3, c .before .loop-test .taken)
 
 add-i : tie.Need-add-i Inv-loop μ-loop
-add-i c = omega (arith, c .before .before .before .before .before .good, c .before .before .loop .inv .3, c .before .loop-test .taken)
+add-i c =
+    let turn = c .before .before in
+    let start = turn .before .before .before in
+    omega (arith, start .good, turn .loop .inv .3, c .before .loop-test .taken)
 
 loop-less : tie.Need-loop-less Inv-loop μ-loop
 loop-less c = omega (arith, c .before .loop-test .taken, c .before .before .loop .inv .3)

@@ -46,7 +46,7 @@ zeroes c =
     (simp length-set at (c .write-cells .ensures))
     ∙ ap (λ (word : ℕ). word ∷ wordsOf (cells (start c))) (getD-set-same words 0 head 0 (omega (arith, start c .pre .1 .1 .1 .0)) ∙ c .before .before .head-of .ensures)
 
--- .. are as many as were lent
+-- the words with K as 0 are as many as were lent
 as-many : (c : tie.After-write-cells) → (length (c .write-cells .last .1 .1 .1 .0) ≡ length (start c .args .words .now)) × (1 ≤ length (c .write-cells .last .1 .1 .1 .0))
 as-many c =
     let args = start c .args in
@@ -67,16 +67,24 @@ k-fits : (c : tie.After-write-cells) → getD (c .write-cells .last .1 .1 .1 .0)
 k-fits c = rw (zeroes c) (with-k (start c) .1)
 
 slice-read-words : tie.Need-slice-read-words
-slice-read-words c = omega (arith, as-many (c .before .before .before .before .before))
+slice-read-words c =
+    let written = c .before .before .before .before .before in
+    omega (arith, as-many written)
 
 add-words : tie.Need-add-words
-add-words c = omega (arith, k-fits (c .before .before .before .before .before), c .before .ten-bit .ensures)
+add-words c =
+    let written = c .before .before .before .before .before in
+    omega (arith, k-fits written, c .before .ten-bit .ensures)
 
 slice-write-words-2 : tie.Need-slice-write-words-2
-slice-write-words-2 c = omega (arith, as-many (c .before .before .before .before .before))
+slice-write-words-2 c =
+    let written = c .before .before .before .before .before in
+    omega (arith, as-many written)
 
 same-length : tie.Need-same-length
-same-length c = simp length-set (as-many (c .before .before .before .before .before) .0)
+same-length c =
+    let written = c .before .before .before .before .before in
+    simp length-set (as-many written .0)
 
 returns : tie.Need-returns
 returns c =

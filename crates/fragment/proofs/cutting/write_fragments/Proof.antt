@@ -1,4 +1,4 @@
--- `write_fragments` meets its contract: each fragment behind the last.
+-- `write_fragments` meets its contract: each fragment after the one before it.
 use Prim.Native.Nat.{ℕ, _+_, _-_, _*_, _≤_}
 use mathlib.Core.List.{List, flatten}
 use mathlib.Core.Path.{_≡_, refl, ap, _∙_}
@@ -44,15 +44,18 @@ add-place : tie.Need-add-place Inv-loop μ-loop
 add-place c = search needs
 
 loop-less : tie.Need-loop-less Inv-loop μ-loop
-loop-less c = omega (arith, c .before .before .before .before .loop-test .taken)
+loop-less c =
+    let tested = c .before .before .before .before in
+    omega (arith, tested .loop-test .taken)
 
 loop-again : tie.Need-loop-again Inv-loop μ-loop
 loop-again c =
-    let turn = c .before .before .before .before .before in
+    let tested = c .before .before .before .before in
+    let turn = tested .before in
     let start = turn .before .before .before .before in
     let args = start .args in
     let two = size-limits (args .largest) (known start .0 .size) .0 in
-    let more = c .before .before .before .before .loop-test .taken in
+    let more = tested .loop-test .taken in
     let within = starts-within (args .largest) (args .text .now) (turn .loop .place) two (omega (arith, more, start .pre .1)) in
     let inside : args .largest * turn .loop .place ≤ length (turn .loop .words) = omega (arith, within, known start .1, turn .loop .inv .1) in
     let wrote = c .before .before .write-at .ensures in
@@ -66,8 +69,9 @@ same-length c = c .before .loop .inv .1
 returns : tie.Need-returns Inv-loop μ-loop
 returns c =
     let turn = c .before in
-    let args = turn .before .before .before .before .args in
-    fragments-done (args .marks) (args .largest) (args .text .now) (size-limits (args .largest) (known (turn .before .before .before .before) .0 .size) .0) (turn .loop .words) (turn .loop .place) (args .count) (c .loop-test .left)
+    let start = turn .before .before .before .before in
+    let args = start .args in
+    fragments-done (args .marks) (args .largest) (args .text .now) (size-limits (args .largest) (known start .0 .size) .0) (turn .loop .words) (turn .loop .place) (args .count) (c .loop-test .left)
     ∙ turn .loop .inv .2
 
 pub write-fragments-spec : {M : Type 1} → statement M

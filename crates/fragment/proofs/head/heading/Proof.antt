@@ -15,14 +15,15 @@ use borrow.Author.Needs.{needs}
 use Rattle.fragment.proofs.head.heading.Statement.{statement}
 use Rattle.fragment.proofs.head.heading.Tie as tie
 
--- what each question leaves behind it
+-- what is known after each question
 sized : (c : tie.Else1) → isSize (length (c .before .before .before .args .words .now)) ≡ true
 sized c = sym (c .before .is-size .ensures) ∙ not-false _ (c .if1 .left)
 
 two : (c : tie.Else1) → 2 ≤ length (c .before .before .before .args .words .now)
 two c = size-limits (length (c .before .before .before .args .words .now)) (sized c) .0
 
-intact : (c : tie.Else2) → undamaged (c .before .before .before .before .before .args .words .now) ≡ true
+intact : (c : tie.Else2) → let start = c .before .before .before .before .before in
+    undamaged (start .args .words .now) ≡ true
 intact c = sym (c .before .undamaged .ensures) ∙ not-false _ (c .if2 .left)
 
 is-size-requires : tie.Need-is-size-requires
@@ -51,7 +52,9 @@ ten-bit-requires : tie.Need-ten-bit-requires
 ten-bit-requires c κs = search needs
 
 shared-slice-read-if3 : tie.Need-shared-slice-read-if3
-shared-slice-read-if3 c = omega (arith, two (c .before .before .before .before))
+shared-slice-read-if3 c =
+    let sized-at = c .before .before .before .before in
+    omega (arith, two sized-at)
 
 refused-requires-3 : tie.Need-refused-requires-3
 refused-requires-3 c κs = search needs
@@ -66,7 +69,9 @@ returns-3 c =
     ∙ simp (sized (past .before .before), intact past, ne-eqb (tenBits words) (checkIn words) (λ same. omega (arith, asked .ten-bit .ensures, c .before .if3 .taken)))
 
 heading-of-requires : tie.Need-heading-of-requires
-heading-of-requires c κs = two (c .before .before .before .before .before)
+heading-of-requires c κs =
+    let sized-at = c .before .before .before .before .before in
+    two sized-at
 
 returns-4 : tie.Need-returns-4
 returns-4 c =

@@ -1,6 +1,6 @@
 -- `heading_of` meets its contract: each number stands at its place.
 use Rattle.fragment.specs.Fragments.{isFirst}
-use Rattle.fragment.proofs.text.Cells.{signature-cell, text-behind}
+use Rattle.fragment.proofs.text.Cells.{signature-cell, text-after-signature}
 use borrow.Author.Needs.{needs}
 use Rattle.fragment.proofs.head.heading_of.Statement.{statement}
 use Rattle.fragment.proofs.head.heading_of.Tie as tie
@@ -41,7 +41,7 @@ returns c =
     let first = sign .before .before .before .before in
     let start = first .before .before .before in
     let words = start .args .words .now in
-    rw (sign .before .before .before .kept .ensures, sign .before .before .kept2 .ensures, sign .kept3 .ensures, c .before .before .before .sum .ensures, c .count .ensures, c .before .unsigned .ensures, first .is-first .ensures, text-behind (isFirst words) words (start .pre), signature-cell words (start .pre))
+    rw (sign .before .before .before .kept .ensures, sign .before .before .kept2 .ensures, sign .kept3 .ensures, c .before .before .before .sum .ensures, c .count .ensures, c .before .unsigned .ensures, first .is-first .ensures, text-after-signature (isFirst words) words (start .pre), signature-cell words (start .pre))
 
 pub heading-of-spec : {M : Type 1} → statement M
 heading-of-spec =

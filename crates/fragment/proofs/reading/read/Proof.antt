@@ -9,8 +9,11 @@ use Rattle.fragment.proofs.reading.read.Statement.{statement}
 use Rattle.fragment.proofs.reading.read.Tie as tie
 
 -- a fragment whose heading is not refused is good
-good : (c : tie.Else1) → Good (c .before .before .before .before .before .args .words .now)
-good c = accepted (c .before .before .before .before .before .args .words .now) .0 (omega (arith, ap (λ r. r .number) (c .before .before .heading .ensures), c .if1 .left))
+good : (c : tie.Else1) → let start = c .before .before .before .before .before in
+    Good (start .args .words .now)
+good c =
+    let start = c .before .before .before .before .before in
+    accepted (start .args .words .now) .0 (omega (arith, ap (λ r. r .number) (c .before .before .heading .ensures), c .if1 .left))
 
 heading-requires : tie.Need-heading-requires
 heading-requires c κs = search needs

@@ -6,7 +6,7 @@ use native.Mathlib.Omega.{arith}
 use lib.ListN.{length, drop}
 use Rattle.laws.specs.Lists.{all}
 use Rattle.fragment.specs.Full.{isFull}
-use Rattle.fragment.proofs.text.Full.{asked-more, all-asked}
+use Rattle.laws.proofs.Rows.{all-turn, all-done}
 use borrow.Author.Needs.{needs}
 use Rattle.fragment.proofs.text.are_full.Statement.{statement}
 use Rattle.fragment.proofs.text.are_full.Tie as tie
@@ -40,13 +40,13 @@ loop-again c =
     let turn = c .before .before .before in
     let words = turn .before .before .args .words .now in
     ap (λ (b : Bool). (turn .loop .full && b) && all isFull (drop (turn .loop .at + 1) words)) (c .is-full .ensures)
-    ∙ asked-more isFull words (turn .loop .full) (turn .loop .at) (omega arith)
+    ∙ all-turn isFull words (turn .loop .at) (turn .loop .full) (omega arith)
     ∙ turn .loop .inv
 
 returns : tie.Need-returns Inv-loop μ-loop
 returns c =
     let turn = c .before in
-    all-asked isFull (turn .before .before .args .words .now) (turn .loop .full) (turn .loop .at) (omega arith) ∙ turn .loop .inv
+    all-done isFull (turn .before .before .args .words .now) (turn .loop .at) (turn .loop .full) (omega arith) ∙ turn .loop .inv
 
 pub are-full-spec : {M : Type 1} → statement M
 are-full-spec =

@@ -1,4 +1,4 @@
--- `has_room` meets its contract: three characters a word behind the first are never too few, and where there is less room they are counted.
+-- `has_room` meets its contract: three characters a word after the first are never too few, and where there is less room they are counted.
 use Prim.Native.Nat.{ℕ}
 use mathlib.Core.Path.{sym, ap}
 use native.Mathlib.Omega.{arith}

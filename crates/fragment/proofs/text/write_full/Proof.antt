@@ -6,7 +6,7 @@ use native.Mathlib.Omega.{arith}
 use lib.ListN.{length, drop}
 use Rattle.laws.specs.Lists.{all}
 use Rattle.fragment.specs.Full.{isFull}
-use Rattle.fragment.proofs.text.Full.{next-passes}
+use Rattle.laws.proofs.Rows.{all-next}
 use Rattle.fragment.proofs.text.Words.{Begun, begun-none, begun-room, begun-more, begun-all}
 use borrow.Author.Needs.{needs}
 use Rattle.fragment.proofs.text.write_full.Statement.{statement}
@@ -31,7 +31,7 @@ write-three-requires : tie.Need-write-three-requires Inv-loop μ-loop
 write-three-requires c κs =
     let turn = c .before .before .before in
     let words = turn .before .before .before .args .words .now in
-    (next-passes isFull words (turn .loop .i) (omega arith) (turn .loop .inv .1) .0, begun-room _ _ _ _ _ _ (turn .loop .inv .0) (omega arith))
+    (all-next isFull words (turn .loop .i) (omega arith) (turn .loop .inv .1) .0, begun-room _ _ _ _ _ _ (turn .loop .inv .0) (omega arith))
 
 add-i : tie.Need-add-i Inv-loop μ-loop
 add-i c = search needs
@@ -44,7 +44,7 @@ loop-again c =
     let wrote = c .before .before in
     let turn = wrote .before .before .before .before in
     let words = turn .before .before .before .args .words .now in
-    (begun-more _ _ _ _ _ _ _ _ (turn .loop .inv .0) (omega arith) (wrote .write-three .ensures .0) (wrote .write-three .ensures .1), next-passes isFull words (turn .loop .i) (omega arith) (turn .loop .inv .1) .1)
+    (begun-more _ _ _ _ _ _ _ _ (turn .loop .inv .0) (omega arith) (wrote .write-three .ensures .0) (wrote .write-three .ensures .1), all-next isFull words (turn .loop .i) (omega arith) (turn .loop .inv .1) .1)
 
 same-length : tie.Need-same-length Inv-loop μ-loop
 same-length c = search needs

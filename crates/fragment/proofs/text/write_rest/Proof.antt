@@ -34,7 +34,8 @@ loop-less c = search needs
 loop-again : tie.Need-loop-again Inv-loop μ-loop
 loop-again c =
     let wrote = c .before .before in
-    begun-more _ _ _ _ _ _ _ _ (wrote .before .before .before .before .loop .inv) (omega arith) (wrote .write-word .ensures .0) (wrote .write-word .ensures .1)
+    let turn = wrote .before .before .before .before in
+    begun-more _ _ _ _ _ _ _ _ (turn .loop .inv) (omega arith) (wrote .write-word .ensures .0) (wrote .write-word .ensures .1)
 
 same-length : tie.Need-same-length Inv-loop μ-loop
 same-length c = search needs

@@ -1,4 +1,4 @@
--- `write_text` meets its contract: the text is that of the second word without the signature and of the words behind it.
+-- `write_text` meets its contract: the text is that of the second word without the signature and of the words after it.
 use Prim.Native.Nat.{ℕ, _≤_}
 use mathlib.Core.Bool.{Bool}
 use mathlib.Core.Path.{_≡_, sym, ap, _∙_}
@@ -10,22 +10,24 @@ use Rattle.fragment.specs.Fragments.{isFirst, textIn}
 use Rattle.fragment.proofs.Laws.{text-told}
 use Rattle.fragment.specs.FlatAnswers.{asText}
 use Rattle.fragment.specs.Cells.{unsigned, textFrom}
-use Rattle.fragment.proofs.text.Cells.{text-behind}
+use Rattle.fragment.proofs.text.Cells.{text-after-signature}
 use Rattle.fragment.proofs.text.Telling.{text-given, text-refused, text-none}
 use borrow.Author.Needs.{needs}
 use Rattle.fragment.proofs.text.write_text.Statement.{statement}
 use Rattle.fragment.proofs.text.write_text.Tie as tie
 
 -- the text that the second word begins is that of the fragment
-same : (c : tie.After-unsigned) → textFrom (c .unsigned .result) (c .before .before .before .before .before .before .before .args .words .now) ≡ textIn (c .before .before .before .before .before .before .before .args .words .now)
+same : (c : tie.After-unsigned) → let start = c .before .before .before .before .before .before .before in
+    textFrom (c .unsigned .result) (start .args .words .now) ≡ textIn (start .args .words .now)
 same c =
     let past = c .before .before .before .before in
     let words = past .before .before .before .args .words .now in
     ap (λ (n : ℕ). textFrom n words) (c .unsigned .ensures ∙ ap (λ (first : Bool). unsigned first (getD words 1 0)) (c .before .before .is-first .ensures))
-    ∙ text-behind (isFirst words) words (omega (arith, past .if1 .left))
+    ∙ text-after-signature (isFirst words) words (omega (arith, past .if1 .left))
 
--- it has room
-room : (c : tie.Else2) → length (textFrom (c .before .before .unsigned .result) (c .before .before .before .before .before .before .before .before .before .args .words .now)) ≤ length (c .before .before .before .before .before .before .before .before .before .args .text .now)
+-- the text has room
+room : (c : tie.Else2) → let start = c .before .before .before .before .before .before .before .before .before in
+    length (textFrom (c .before .before .unsigned .result) (start .args .words .now)) ≤ length (start .args .text .now)
 room c = leb-true _ _ (sym (c .before .has-room .ensures) ∙ not-false _ (c .if2 .left))
 
 returns : tie.Need-returns

@@ -1,4 +1,4 @@
--- `write_words` meets its contract: the text of the second word, then that of the words behind it, by the one way or the other.
+-- `write_words` meets its contract: the text of the second word, then that of the words after it, by the one way or the other.
 use Prim.Native.Nat.{_+_, _≤_}
 use mathlib.Core.Path.{sym, _∙_}
 use native.Mathlib.Omega.{arith}
@@ -18,8 +18,10 @@ write-word-requires c κs =
 are-full-requires : tie.Need-are-full-requires
 are-full-requires c κs = search needs
 
--- the words behind the second have room
-room : (c : tie.After-are-full) → let wrote = c .before .before .before in let args = wrote .before .before .before .before .args in wrote .write-word .result + length (withoutFill (cellsOf (drop 2 (args .words .now)))) ≤ length (wrote .write-word .last .1 .0)
+-- the words after the second have room
+room : (c : tie.After-are-full) → let wrote = c .before .before .before in
+    let start = wrote .before .before .before .before in
+    wrote .write-word .result + length (withoutFill (cellsOf (drop 2 (start .args .words .now)))) ≤ length (wrote .write-word .last .1 .0)
 room c =
     let wrote = c .before .before .before in
     let start = wrote .before .before .before .before in
@@ -37,7 +39,8 @@ returns : tie.Need-returns
 returns c =
     let last = c .before .before in
     let wrote = last .before .before .before .before .before .before in
-    joined _ _ _ (wrote .before .before .before .before .args .words .now) _ _ _ (wrote .write-word .ensures .0) (wrote .write-word .ensures .1) (last .write-full .ensures .0) (last .write-full .ensures .1)
+    let start = wrote .before .before .before .before in
+    joined _ _ _ (start .args .words .now) _ _ _ (wrote .write-word .ensures .0) (wrote .write-word .ensures .1) (last .write-full .ensures .0) (last .write-full .ensures .1)
 
 write-rest-requires : tie.Need-write-rest-requires
 write-rest-requires c κs = room (c .before .before)
@@ -49,7 +52,8 @@ returns-2 : tie.Need-returns-2
 returns-2 c =
     let last = c .before .before in
     let wrote = last .before .before .before .before .before .before in
-    joined _ _ _ (wrote .before .before .before .before .args .words .now) _ _ _ (wrote .write-word .ensures .0) (wrote .write-word .ensures .1) (last .write-rest .ensures .0) (last .write-rest .ensures .1)
+    let start = wrote .before .before .before .before in
+    joined _ _ _ (start .args .words .now) _ _ _ (wrote .write-word .ensures .0) (wrote .write-word .ensures .1) (last .write-rest .ensures .0) (last .write-rest .ensures .1)
 
 pub write-words-spec : {M : Type 1} → statement M
 write-words-spec =

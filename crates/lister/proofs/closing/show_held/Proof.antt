@@ -8,13 +8,19 @@ slice-aggregate-copy : tie.Need-slice-aggregate-copy
 slice-aggregate-copy c = search needs
 
 copy-requires : tie.Need-copy-requires
-copy-requires c κs = rw (c .before .before .if1 .taken) at (c .before .before .before .before .pre)
+copy-requires c κs =
+    let is-held = c .before .before in
+    let start = is-held .before .before in
+    rw (is-held .if1 .taken) at (start .pre)
 
 same-length : tie.Need-same-length
 same-length c = search needs
 
 returns : tie.Need-returns
-returns c = rw (c .before .before .before .before .before .if1 .taken) (c .before .before .copy .ensures)
+returns c =
+    let copied = c .before .before in
+    let is-held = copied .before .before .before in
+    rw (is-held .if1 .taken) (copied .copy .ensures)
 
 returns-2 : tie.Need-returns-2
 returns-2 c = rw (c .if1 .left) (wrote-none (c .before .before .args .out .now) 0)

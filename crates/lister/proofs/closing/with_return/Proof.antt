@@ -1,4 +1,4 @@
--- `with_return` meets its contract: the carriage return stands behind what is kept, if one was held back and fits.
+-- `with_return` meets its contract: the carriage return stands after what is kept, if one was held back and fits.
 use Prim.Native.Nat.{_<_}
 use mathlib.Core.Path.{_≡_}
 use lib.Dec.{ltb}

@@ -1,4 +1,4 @@
--- `write_last` meets its contract: what was held back and the end right behind it, where both fit.
+-- `write_last` meets its contract: what was held back and the end right after it, where both fit.
 use Prim.Native.Nat.{_≤_}
 use mathlib.Core.List.{_++_}
 use mathlib.Core.Path.{_≡_, sym}
@@ -16,11 +16,11 @@ use Rattle.lister.proofs.Writes.{held-length, wrote-same, wrote-then}
 use Rattle.lister.proofs.closing.write_last.Statement.{statement}
 use Rattle.lister.proofs.closing.write_last.Tie as tie
 
--- so many bytes stand behind the text
+-- so many bytes stand after the text
 long : (e : tie.After-verdict-on) → e .verdict-on .result .size ≡ length (verdictOf (keptOf (e .before .before .args .ended)))
 long e = size-of (keptOf (e .before .before .args .ended)) (e .verdict-on .result) (e .verdict-on .ensures)
 
--- .. no more than there are places for them
+-- the bytes after the text are no more than there are places for them
 within : (e : tie.After-verdict-on) → e .verdict-on .result .size ≤ length (e .verdict-on .result .end)
 within e =
     let text = keptOf (e .before .before .args .ended) in
@@ -50,10 +50,14 @@ show-held-requires : tie.Need-show-held-requires
 show-held-requires c κs = search needs
 
 array-share-prefix-end : tie.Need-array-share-prefix-end
-array-share-prefix-end c = within (c .before .before .before .before .before .before .before)
+array-share-prefix-end c =
+    let judged = c .before .before .before .before .before .before .before in
+    within judged
 
 slice-aggregate-copy : tie.Need-slice-aggregate-copy
-slice-aggregate-copy c = sym (length-take-le _ _ (within (c .before .before .before .before .before .before .before .before)))
+slice-aggregate-copy c =
+    let judged = c .before .before .before .before .before .before .before .before in
+    sym (length-take-le _ _ (within judged))
 
 copy-requires : tie.Need-copy-requires
 copy-requires c κs =

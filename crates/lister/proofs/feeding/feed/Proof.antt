@@ -28,7 +28,9 @@ sub-if2 c =
     omega (arith, p .fits, p .same)
 
 slice-aggregate-feed-some : tie.Need-slice-aggregate-feed-some Inv-loop μ-loop
-slice-aggregate-feed-some c = sym (c .before .before .before .before .before .loop .inv .sixteen)
+slice-aggregate-feed-some c =
+    let turn = c .before .before .before .before .before in
+    sym (turn .loop .inv .sixteen)
 
 feed-some-requires : tie.Need-feed-some-requires Inv-loop μ-loop
 feed-some-requires c κs =
@@ -54,7 +56,9 @@ returns : tie.Need-returns Inv-loop μ-loop
 returns c = progress-end _ _ _ _ _ _ (c .before .before .loop .inv) (inl (c .if1 .left))
 
 same-length-2 : tie.Need-same-length-2 Inv-loop μ-loop
-same-length-2 c = c .before .before .before .before .loop .inv .same
+same-length-2 c =
+    let turn = c .before .before .before .before in
+    turn .loop .inv .same
 
 returns-2 : tie.Need-returns-2 Inv-loop μ-loop
 returns-2 c =

@@ -7,7 +7,10 @@ is-shown-as-it-is-requires : tie.Need-is-shown-as-it-is-requires
 is-shown-as-it-is-requires c κs = search needs
 
 feed-as-it-is-requires : tie.Need-feed-as-it-is-requires
-feed-as-it-is-requires c κs = (search needs, (search needs, (search needs, rw (← c .before .before .before .before .is-shown-as-it-is .ensures) (c .before .before .if1 .taken))))
+feed-as-it-is-requires c κs =
+    let short-way = c .before .before in
+    let looked = short-way .before .before in
+    (search needs, (search needs, (search needs, rw (← looked .is-shown-as-it-is .ensures) (short-way .if1 .taken))))
 
 same-length : tie.Need-same-length
 same-length c = search needs

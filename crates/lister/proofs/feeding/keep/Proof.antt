@@ -1,4 +1,4 @@
--- `keep` meets its contract: the byte stands behind those that are kept, or the line is full.
+-- `keep` meets its contract: the byte stands after those that are kept, or the line is full.
 use borrow.Author.Needs.{needs}
 use Rattle.lister.proofs.Keeping.{keep-full, keep-more}
 use Rattle.lister.proofs.feeding.keep.Statement.{statement}

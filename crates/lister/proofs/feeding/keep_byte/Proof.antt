@@ -25,7 +25,9 @@ same-length-2 c = search needs
 returns-3 : tie.Need-returns-3
 returns-3 c =
     let b = c .before .before .before .before in
-    next-kept _ _ _ _ _ (b .before .before .before .before .before .if1 .left) (b .if2 .left) (b .before .before .before .keep-held .ensures) (c .before .before .keep .ensures)
+    let held = b .before .before .before in
+    let no-feed = held .before .before in
+    next-kept _ _ _ _ _ (no-feed .if1 .left) (b .if2 .left) (held .keep-held .ensures) (c .before .before .keep .ensures)
 
 pub keep-byte-spec : {M : Type 1} → statement M
 keep-byte-spec =

@@ -11,7 +11,9 @@ same-length : tie.Need-same-length
 same-length c = search needs
 
 returns : tie.Need-returns
-returns c = rw (c .before .before .before .before .if1 .taken) (c .before .before .keep .ensures)
+returns c =
+    let is-held = c .before .before .before .before in
+    rw (is-held .if1 .taken) (c .before .before .keep .ensures)
 
 returns-2 : tie.Need-returns-2
 returns-2 c = rw (c .if1 .left) (keep-none (c .before .before .args .line .now) (c .before .before .args .count) (c .before .before .pre))

@@ -17,7 +17,9 @@ returns c =
     wrote-same _ _ _ _ _ _ (writes-line _ _ _ (k .before .before .if1 .taken)) (k .write-end .ensures)
 
 show-held-requires : tie.Need-show-held-requires
-show-held-requires c κs = omega (arith, held-length (c .before .before .before .before .args .course .held))
+show-held-requires c κs =
+    let start = c .before .before .before .before in
+    omega (arith, held-length (start .args .course .held))
 
 same-length-2 : tie.Need-same-length-2
 same-length-2 c = search needs
@@ -30,7 +32,8 @@ returns-2 c =
 show-requires : tie.Need-show-requires
 show-requires c κs =
     let k = c .before .before .before .before in
-    omega (arith, k .show-held .ensures .ends, held-length (k .before .before .before .before .before .args .course .held), k .show-held .kept)
+    let start = k .before .before .before .before .before in
+    omega (arith, k .show-held .ensures .ends, held-length (start .args .course .held), k .show-held .kept)
 
 same-length-3 : tie.Need-same-length-3
 same-length-3 c = search needs

@@ -9,7 +9,9 @@ use Rattle.lister.proofs.feeding.write_end.Statement.{statement}
 use Rattle.lister.proofs.feeding.write_end.Tie as tie
 
 slice-aggregate-write-verdict : tie.Need-slice-aggregate-write-verdict
-slice-aggregate-write-verdict c = sym (length-take-le (c .before .before .before .before .args .count) (c .before .before .before .before .args .line .now) (omega arith))
+slice-aggregate-write-verdict c =
+    let start = c .before .before .before .before in
+    sym (length-take-le (start .args .count) (start .args .line .now) (omega arith))
 
 write-verdict-requires : tie.Need-write-verdict-requires
 write-verdict-requires c κs = search needs

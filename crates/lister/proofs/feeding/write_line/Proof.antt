@@ -1,4 +1,4 @@
--- `write_line` meets its contract: the text as it is, and its end right behind it.
+-- `write_line` meets its contract: the text as it is, and its end right after it.
 use native.Mathlib.Omega.{arith}
 use borrow.Author.Needs.{needs}
 use borrow.Author.Tests.{not-false}

@@ -14,13 +14,13 @@ use Rattle.lister.proofs.feeding.write_verdict.Tie as tie
 judge-requires : tie.Need-judge-requires
 judge-requires c κs = search needs
 
--- an end is no longer than its places
+-- the end of a line has at most 23 bytes
 within : (k : tie.After-judge) → k .judge .result .size ≤ 23
 within k =
     let text = k .before .before .before .args .text .now in
     omega (arith, size-of text (k .judge .result) (k .judge .ensures), verdict-short text)
 
--- .. of which there are 23
+-- the end of a line is no longer than the places for it
 places : (k : tie.After-judge) → k .judge .result .size ≤ length (k .judge .result .end)
 places k =
     let text = k .before .before .before .args .text .now in

@@ -56,8 +56,9 @@ add-result-2 c = search needs
 
 returns-3 : tie.Need-returns-3
 returns-3 c =
-    let args = c .before .before .before .before .args in
-    let asked = c .before .before .before .before .pre in
+    let start = c .before .before .before .before in
+    let args = start .args in
+    let asked = start .pre in
     sym (code-over (args .words .now) (args .at) (args .place) (asked .0) (asked .1 .0) (asked .1 .1) (omega arith))
 
 pub code-in-spec : {M : Type 1} → statement M

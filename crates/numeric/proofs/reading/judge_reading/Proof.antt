@@ -12,17 +12,20 @@ use borrow.Author.Needs.{needs}
 use Rattle.numeric.proofs.reading.judge_reading.Statement.{statement}
 use Rattle.numeric.proofs.reading.judge_reading.Tie as tie
 
--- what each question leaves behind it
+-- what is known after each question
 fits : (c : tie.Else1) → vectorFits (c .before .before .before .args .kind) (c .before .before .before .args .check) ≡ true
 fits c = sym (c .before .vector-fits .ensures) ∙ not-false _ (c .if1 .left)
 
-sized : (c : tie.Else2) → isSize (length (c .before .before .before .before .before .args .words .now)) ≡ true
+sized : (c : tie.Else2) → let start = c .before .before .before .before .before in
+    isSize (length (start .args .words .now)) ≡ true
 sized c = sym (c .before .is-size .ensures) ∙ not-false _ (c .if2 .left)
 
-whole : (c : tie.Else3) → undamaged (c .before .before .before .before .before .before .before .args .words .now) ≡ true
+whole : (c : tie.Else3) → let start = c .before .before .before .before .before .before .before in
+    undamaged (start .args .words .now) ≡ true
 whole c = sym (c .before .undamaged .ensures) ∙ not-false _ (c .if3 .left)
 
-right : (c : tie.Else4) → checked (c .before .before .before .before .before .before .before .before .before .args .check) (c .before .before .before .before .before .before .before .before .before .args .words .now) ≡ true
+right : (c : tie.Else4) → let start = c .before .before .before .before .before .before .before .before .before in
+    checked (start .args .check) (start .args .words .now) ≡ true
 right c = sym (c .before .checked .ensures) ∙ not-false _ (c .if4 .left)
 
 vector-fits-requires : tie.Need-vector-fits-requires
@@ -56,13 +59,16 @@ number-requires-3 c κs = search needs
 returns-3 : tie.Need-returns-3
 unfolding readOf
 returns-3 c =
+    let sized-at = c .before .before .before in
     c .number3 .ensures
-    ∙ simp (fits (c .before .before .before .before .before), sized (c .before .before .before), sym (c .before .before .undamaged .ensures) ∙ not-true _ (c .before .if3 .taken))
+    ∙ simp (fits (sized-at .before .before), sized sized-at, sym (c .before .before .undamaged .ensures) ∙ not-true _ (c .before .if3 .taken))
 
 checked-requires : tie.Need-checked-requires
 checked-requires c κs =
-    let args = c .before .before .before .before .before .before .before .args in
-    (check-limit (args .kind) (args .check) (fits (c .before .before .before .before)), size-limits (length (args .words .now)) (sized (c .before .before)) .0)
+    let sized-at = c .before .before in
+    let fits-at = sized-at .before .before in
+    let args = fits-at .before .before .before .args in
+    (check-limit (args .kind) (args .check) (fits fits-at), size-limits (length (args .words .now)) (sized sized-at) .0)
 
 number-requires-4 : tie.Need-number-requires-4
 number-requires-4 c κs = search needs
@@ -71,13 +77,15 @@ returns-4 : tie.Need-returns-4
 unfolding readOf
 returns-4 c =
     let past = c .before .before .before in
+    let sized-at = past .before .before in
     c .number4 .ensures
-    ∙ simp (fits (past .before .before .before .before), sized (past .before .before), whole past, sym (c .before .before .checked .ensures) ∙ not-true _ (c .before .if4 .taken))
+    ∙ simp (fits (sized-at .before .before), sized sized-at, whole past, sym (c .before .before .checked .ensures) ∙ not-true _ (c .before .if4 .taken))
 
 room-of-requires : tie.Need-room-of-requires
 room-of-requires c κs =
-    let args = c .before .before .before .before .before .before .before .before .before .args in
-    size-limits (length (args .words .now)) (sized (c .before .before .before .before))
+    let sized-at = c .before .before .before .before in
+    let start = sized-at .before .before .before .before .before in
+    size-limits (length (start .args .words .now)) (sized sized-at)
 
 number-requires-5 : tie.Need-number-requires-5
 number-requires-5 c κs = search needs
@@ -86,18 +94,24 @@ returns-5 : tie.Need-returns-5
 unfolding readOf
 returns-5 c =
     let past = c .before .before .before in
-    let args = past .before .before .before .before .before .before .before .before .before .args in
+    let whole-at = past .before .before in
+    let sized-at = whole-at .before .before in
+    let start = sized-at .before .before .before .before .before in
+    let args = start .args in
     let short = c .before .before .room-of .ensures in
     c .number5 .ensures
-    ∙ simp (fits (past .before .before .before .before .before .before), sized (past .before .before .before .before), whole (past .before .before), right past, lt-ltb (args .lent) (roomOf (isNumbered (args .kind)) (length (args .words .now))) (omega (arith, short, c .before .if5 .taken)))
+    ∙ simp (fits (sized-at .before .before), sized sized-at, whole whole-at, right past, lt-ltb (args .lent) (roomOf (isNumbered (args .kind)) (length (args .words .now))) (omega (arith, short, c .before .if5 .taken)))
 
 returns-6 : tie.Need-returns-6
 unfolding readOf
 returns-6 c =
     let past = c .before .before in
-    let args = past .before .before .before .before .before .before .before .before .before .args in
+    let whole-at = past .before .before in
+    let sized-at = whole-at .before .before in
+    let start = sized-at .before .before .before .before .before in
+    let args = start .args in
     let short = c .before .room-of .ensures in
-    simp (fits (past .before .before .before .before .before .before), sized (past .before .before .before .before), whole (past .before .before), right past, le-ltb (args .lent) (roomOf (isNumbered (args .kind)) (length (args .words .now))) (omega (arith, short, c .if5 .left)))
+    simp (fits (sized-at .before .before), sized sized-at, whole whole-at, right past, le-ltb (args .lent) (roomOf (isNumbered (args .kind)) (length (args .words .now))) (omega (arith, short, c .if5 .left)))
 
 pub judge-reading-spec : {M : Type 1} → statement M
 judge-reading-spec =

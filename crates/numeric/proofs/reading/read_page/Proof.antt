@@ -39,13 +39,15 @@ same-length c = search needs
 
 returns : tie.Need-returns
 returns c =
-    let entry = c .before .before .before .before .before .before .before .before .before in
+    let wrote = c .before .before .before .before in
+    let at-room = wrote .before .before in
+    let entry = at-room .before .before .before in
     let args = entry .args in
     let known = readable standardSet (length (args .text .now)) (args .kind) (args .check) (args .words .now) (entry .pre) in
-    let room = c .before .before .before .before .before .before .room-of .ensures in
+    let room = at-room .room-of .ensures in
     let answer = readOf standardSet (length (args .text .now)) (args .kind) (args .check) (args .words .now) in
     let text = textIn standardSet (isNumbered (args .kind)) (args .words .now) in
-    (rw (known .1, c .numbering-in .ensures, room), c .before .before .before .before .write-characters .ensures ∙ sym (given-writes answer (args .text .now) text (entry .pre)))
+    (rw (known .1, c .numbering-in .ensures, room), wrote .write-characters .ensures ∙ sym (given-writes answer (args .text .now) text (entry .pre)))
 
 pub read-page-spec : {M : Type 1} → statement M
 read-page-spec =

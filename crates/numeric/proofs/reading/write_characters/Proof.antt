@@ -1,4 +1,4 @@
--- `write_characters` meets its contract: the characters so far are stored, the others still to come; the bit reached is that behind them.
+-- `write_characters` meets its contract: the characters so far are stored, the others still to come; the bit reached is that after them.
 use Prim.Native.Nat.{ℕ, _+_, _-_, _*_, _/_, _%_, _^_, _≤_, _<_}
 use mathlib.Core.Path.{_≡_, refl, sym, ap, _∙_}
 use mathlib.Core.List.{map}
@@ -12,7 +12,7 @@ use Rattle.laws.specs.Numerals.{number, digits}
 use Rattle.laws.proofs.Writing.{put-nothing}
 use Rattle.numeric.specs.Pages.{standardSet, headOf, textIn}
 use Rattle.numeric.proofs.Heads.{head-small}
-use Rattle.numeric.proofs.reading.Characters.{behind-characters, spelled-turn}
+use Rattle.numeric.proofs.reading.Characters.{after-characters, spelled-turn}
 use borrow.Author.Needs.{needs}
 use Rattle.numeric.proofs.reading.write_characters.Statement.{statement}
 use Rattle.numeric.proofs.reading.write_characters.Tie as tie
@@ -58,8 +58,9 @@ loop-less c = search needs
 loop-again : tie.Need-loop-again Inv-loop μ-loop
 loop-again c =
     let turn = c .before .before .before .before in
-    let args = turn .before .before .before .before .args in
-    let lent = turn .before .before .before .before .pre .1 .1 .1 .1 in
+    let start = turn .before .before .before .before in
+    let args = start .args in
+    let lent = start .pre .1 .1 .1 .1 in
     let l = turn .loop in
     let row = number (2 ^ 21) (args .words .now) in
     let head = size (headOf (args .numbered)) in
@@ -67,7 +68,7 @@ loop-again c =
     ⊎-elim (λ w. (omega arith, omega arith)) (λ w. (omega (arith, l .inv .1), omega arith)) (c .if1 .came) in
     let code : c .before .character-of .result ≡ getD standardSet (row / 2 ^ head / 16 ^ (l .i) % 16) 0 =
     c .before .character-of .ensures
-    ∙ ap (λ (n : ℕ). getD standardSet n 0) (c .before .before .code-in .ensures ∙ ap (λ (n : ℕ). n % 16) (behind-characters row head (l .i) (21 * l .at + l .place) (l .inv .2))) in
+    ∙ ap (λ (n : ℕ). getD standardSet n 0) (c .before .before .code-in .ensures ∙ ap (λ (n : ℕ). n % 16) (after-characters row head (l .i) (21 * l .at + l .place) (l .inv .2))) in
     (omega arith, next .0, omega (arith, next .1, l .inv .2), simp length-set (l .inv .3), rw code (spelled-turn (λ n. getD standardSet n 0) (l .text) (args .room) (l .i) (row / 2 ^ head) (omega arith) (omega (arith, l .inv .3, lent))) ∙ l .inv .4)
 
 same-length : tie.Need-same-length Inv-loop μ-loop
@@ -77,8 +78,9 @@ returns : tie.Need-returns Inv-loop μ-loop
 unfolding textIn digits
 returns c =
     let turn = c .before in
-    let args = turn .before .before .before .before .args in
-    let room = turn .before .before .before .before .pre .1 .1 .1 .0 in
+    let start = turn .before .before .before .before in
+    let args = start .args in
+    let room = start .pre .1 .1 .1 .0 in
     let done : args .room - turn .loop .i ≡ 0 = omega arith in
     sym (put-nothing (turn .loop .text) (turn .loop .i)) ∙ rw (done, room) at (turn .loop .inv .4)
 

@@ -1,4 +1,4 @@
--- `code_at` meets its contract: the text, the spaces behind it, and no more.
+-- `code_at` meets its contract: the text, the spaces after it, and no more.
 use mathlib.Core.Path.{_∙_}
 use native.Mathlib.Omega.{arith}
 use Rattle.numeric.proofs.Codes.{code-most, text-code, space-code, no-more}

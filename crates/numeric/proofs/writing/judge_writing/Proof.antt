@@ -13,14 +13,16 @@ use borrow.Author.Needs.{needs}
 use Rattle.numeric.proofs.writing.judge_writing.Statement.{statement}
 use Rattle.numeric.proofs.writing.judge_writing.Tie as tie
 
--- what each question leaves behind it
+-- what is known after each question
 fits : (c : tie.Else1) → headed (c .before .before .before .args .kind) (flagsOf (c .before .before .before .args .numbering)) ≡ true
 fits c = sym (c .before .headed .ensures) ∙ not-false _ (c .if1 .left)
 
-short : (c : tie.Else2) → length (c .before .before .before .before .before .args .text .now) ≤ roomOf (isNumbered (c .before .before .before .before .before .args .kind)) mostWords
+short : (c : tie.Else2) → let start = c .before .before .before .before .before in
+    length (start .args .text .now) ≤ roomOf (isNumbered (start .args .kind)) mostWords
 short c = omega (arith, c .before .room-of .ensures, c .if2 .left)
 
-known : (c : tie.Else3) → inSet standardSet (c .before .before .before .before .before .before .before .args .text .now) ≡ true
+known : (c : tie.Else3) → let start = c .before .before .before .before .before .before .before in
+    inSet standardSet (start .args .text .now) ≡ true
 known c = sym (c .before .in-set .ensures) ∙ not-false _ (c .if3 .left)
 
 headed-requires : tie.Need-headed-requires
@@ -63,7 +65,8 @@ returns-3 c =
 words-for-requires : tie.Need-words-for-requires
 words-for-requires c κs =
     let past = c .before .before in
-    omega (arith, short past, most-characters (isNumbered (past .before .before .before .before .before .args .kind)))
+    let start = past .before .before .before .before .before in
+    omega (arith, short past, most-characters (isNumbered (start .args .kind)))
 
 number-requires-4 : tie.Need-number-requires-4
 number-requires-4 c κs = search needs
@@ -72,20 +75,24 @@ returns-4 : tie.Need-returns-4
 unfolding writtenOf
 returns-4 c =
     let past = c .before .before .before in
-    let args = past .before .before .before .before .before .before .before .args in
+    let short-at = past .before .before in
+    let fits-at = short-at .before .before in
+    let args = fits-at .before .before .before .args in
     let page = pageOf standardSet (isNumbered (args .kind)) (flagsOf (args .numbering)) (args .text .now) in
     let words = page-length standardSet (isNumbered (args .kind)) (flagsOf (args .numbering)) (args .text .now) in
     c .number4 .ensures
-    ∙ simp (fits (past .before .before .before .before), le-ltb _ _ (short (past .before .before)), known past, lt-ltb (args .lent) (length page) (omega (arith, words, c .before .before .words-for .ensures, c .before .if4 .taken)))
+    ∙ simp (fits fits-at, le-ltb _ _ (short short-at), known past, lt-ltb (args .lent) (length page) (omega (arith, words, c .before .before .words-for .ensures, c .before .if4 .taken)))
 
 returns-5 : tie.Need-returns-5
 unfolding writtenOf
 returns-5 c =
     let past = c .before .before in
-    let args = past .before .before .before .before .before .before .before .args in
+    let short-at = past .before .before in
+    let fits-at = short-at .before .before in
+    let args = fits-at .before .before .before .args in
     let page = pageOf standardSet (isNumbered (args .kind)) (flagsOf (args .numbering)) (args .text .now) in
     let words = page-length standardSet (isNumbered (args .kind)) (flagsOf (args .numbering)) (args .text .now) in
-    simp (fits (past .before .before .before .before), le-ltb _ _ (short (past .before .before)), known past, le-ltb (args .lent) (length page) (omega (arith, words, c .before .words-for .ensures, c .if4 .left)))
+    simp (fits fits-at, le-ltb _ _ (short short-at), known past, le-ltb (args .lent) (length page) (omega (arith, words, c .before .words-for .ensures, c .if4 .left)))
 
 pub judge-writing-spec : {M : Type 1} → statement M
 judge-writing-spec =

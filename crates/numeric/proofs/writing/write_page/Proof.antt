@@ -57,7 +57,7 @@ zeroes : (c : tie.After-write-words) → c .write-words .last .1 .1 .1 .1 .0 ≡
 unfolding wordsWith
 zeroes c = rw (c .before .before .before .words-for .ensures, c .before .before .head-of .ensures) at (c .write-words .ensures)
 
--- .. are as many as were lent, which is enough
+-- the words with K as 0 are as many as were lent, which is enough
 as-many : (c : tie.After-write-words) → (length (c .write-words .last .1 .1 .1 .1 .0) ≡ length (start c .args .words .now)) × (c .before .before .before .words-for .result ≤ length (start c .args .words .now)) × (1 ≤ c .before .before .before .words-for .result)
 as-many c =
     let args = start c .args in
@@ -69,8 +69,9 @@ as-many c =
     let count = c .before .before .before .words-for .ensures in
     (ap length (zeroes c) ∙ zeroed-fits numbered flags text (args .words .now) (omega (arith, sizes, a .enough)), omega (arith, count, sizes, a .enough), omega (arith, count, sizes))
 
--- .. and K is taken of them
-taken : (c : tie.After-six-bit) → c .six-bit .result ≡ checkOf standardSet (isNumbered (start (c .before .before .before .before) .args .kind)) (flagsOf (start (c .before .before .before .before) .args .numbering)) (start (c .before .before .before .before) .args .text .now)
+-- K is taken of the words with K as 0
+taken : (c : tie.After-six-bit) → let entry = start (c .before .before .before .before) in
+    c .six-bit .result ≡ checkOf standardSet (isNumbered (entry .args .kind)) (flagsOf (entry .args .numbering)) (entry .args .text .now)
 taken c =
     let at = c .before .before .before .before in
     let args = start at .args in
@@ -88,7 +89,9 @@ six-bit-requires : tie.Need-six-bit-requires
 six-bit-requires c κs = search needs
 
 slice-read-words : tie.Need-slice-read-words
-slice-read-words c = omega (arith, as-many (c .before .before .before .before .before))
+slice-read-words c =
+    let written = c .before .before .before .before .before in
+    omega (arith, as-many written)
 
 add-words : tie.Need-add-words
 add-words c =
@@ -98,10 +101,14 @@ add-words c =
     omega (arith, rw (← zeroes at) at (added .0), c .before .six-bit .ensures .1)
 
 slice-write-words : tie.Need-slice-write-words
-slice-write-words c = omega (arith, as-many (c .before .before .before .before .before))
+slice-write-words c =
+    let written = c .before .before .before .before .before in
+    omega (arith, as-many written)
 
 same-length : tie.Need-same-length
-same-length c = simp length-set (as-many (c .before .before .before .before .before) .0)
+same-length c =
+    let written = c .before .before .before .before .before in
+    simp length-set (as-many written .0)
 
 returns : tie.Need-returns
 returns c =

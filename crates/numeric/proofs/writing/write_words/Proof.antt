@@ -8,7 +8,7 @@ use Rattle.laws.specs.Lists.{put}
 use Rattle.laws.specs.Numerals.{digits}
 use Rattle.numeric.specs.Pages.{standardSet, headOf, spaced, codesOf}
 use Rattle.numeric.proofs.Heads.{head-small}
-use Rattle.numeric.proofs.writing.Words.{word-turn, first-turn, all-written, behind-head}
+use Rattle.numeric.proofs.writing.Words.{word-turn, first-turn, all-written, after-head}
 use Rattle.numeric.proofs.writing.write_words.Statement.{statement}
 use Rattle.numeric.proofs.writing.write_words.Tie as tie
 
@@ -31,13 +31,17 @@ first-word-requires c κs =
     (pre .0, (omega (arith, c .room-of .ensures, pre .1 .0), pre .1 .1 .0))
 
 slice-write-words : tie.Need-slice-write-words Inv-loop μ-loop
-slice-write-words c = omega (arith, c .before .before .before .before .pre .1 .1 .1)
+slice-write-words c =
+    let entry = c .before .before .before .before in
+    omega (arith, entry .pre .1 .1 .1)
 
 head-size-requires : tie.Need-head-size-requires Inv-loop μ-loop
 head-size-requires c κs = tt
 
 sub-start : tie.Need-sub-start Inv-loop μ-loop
-sub-start c = omega (arith, head-small (c .before .before .before .before .before .args .numbered), c .head-size .ensures)
+sub-start c =
+    let entry = c .before .before .before .before .before in
+    omega (arith, head-small (entry .args .numbered), c .head-size .ensures)
 
 loop-holds : tie.Need-loop-holds Inv-loop μ-loop
 loop-holds c =
@@ -55,7 +59,8 @@ later-word-requires c κs =
 mul-words : tie.Need-mul-words Inv-loop μ-loop
 mul-words c =
     let turn = c .before .before in
-    omega (arith, turn .loop .inv .0, turn .before .before .before .before .before .before .pre .1 .1 .1 .1 .0)
+    let entry = turn .before .before .before .before .before .before in
+    omega (arith, turn .loop .inv .0, entry .pre .1 .1 .1 .1 .0)
 
 slice-write-words-2 : tie.Need-slice-write-words-2 Inv-loop μ-loop
 slice-write-words-2 c = omega (arith, c .before .loop-test .taken, c .before .before .loop .inv .2)
@@ -63,12 +68,14 @@ slice-write-words-2 c = omega (arith, c .before .loop-test .taken, c .before .be
 add-start : tie.Need-add-start Inv-loop μ-loop
 add-start c =
     let turn = c .before .before in
-    omega (arith, turn .loop .inv .0, turn .loop .inv .1, turn .before .before .before .before .before .before .pre .1 .1 .1 .1 .0)
+    let entry = turn .before .before .before .before .before .before in
+    omega (arith, turn .loop .inv .0, turn .loop .inv .1, entry .pre .1 .1 .1 .1 .0)
 
 add-i : tie.Need-add-i Inv-loop μ-loop
 add-i c =
     let turn = c .before .before in
-    omega (arith, turn .loop .inv .0, turn .before .before .before .before .before .before .pre .1 .1 .1 .1 .0)
+    let entry = turn .before .before .before .before .before .before in
+    omega (arith, turn .loop .inv .0, entry .pre .1 .1 .1 .1 .0)
 
 loop-less : tie.Need-loop-less Inv-loop μ-loop
 loop-less c = omega (arith, c .before .loop-test .taken)
@@ -84,7 +91,7 @@ loop-again c =
     let more = c .before .loop-test .taken in
     let h = size (headOf (args .numbered)) in
     let codes = codesOf standardSet (spaced (turn .before .before .before .room-of .result) (args .text .now)) in
-    let word = c .later-word .ensures ∙ ap (λ (n : ℕ). n % 2 ^ 21) (sym (behind-head h (turn .loop .start) i (args .head) codes (entry .pre .1 .1 .0) (inv .1))) in
+    let word = c .later-word .ensures ∙ ap (λ (n : ℕ). n % 2 ^ 21) (sym (after-head h (turn .loop .start) i (args .head) codes (entry .pre .1 .1 .0) (inv .1))) in
     (omega (arith, more), omega (arith, inv .1), simp length-set (inv .2), simp length-set (simp length-set at (inv .3)), word-turn (2 ^ 21) (args .head + 2 ^ h * codes) (args .count) words i (c .later-word .result) more (omega (arith, more, inv .2)) word ∙ inv .4)
 
 same-length : tie.Need-same-length Inv-loop μ-loop

@@ -1,4 +1,4 @@
--- `sum_behind` meets its contract: the sum so far and what is still to come, modulo 1024.
+-- `sum_after` meets its contract: the sum so far and what is still to come, modulo 1024.
 use Prim.Native.Nat.{ℕ, _+_, _-_, _%_, _^_}
 use mathlib.Core.Path.{_≡_, refl, sym, ap, _∙_}
 use native.Mathlib.Omega.{arith}
@@ -7,8 +7,8 @@ use Rattle.laws.specs.Lists.{sumBy}
 use Rattle.sums.specs.Sums.{groupsOf}
 use Rattle.sums.proofs.Summing.{one-more, none-left}
 use borrow.Author.Needs.{needs}
-use Rattle.sums.proofs.sum_behind.Statement.{statement}
-use Rattle.sums.proofs.sum_behind.Tie as tie
+use Rattle.sums.proofs.sum_after.Statement.{statement}
+use Rattle.sums.proofs.sum_after.Tie as tie
 
 abbrev Inv-loop : tie.InvT-loop
 Inv-loop first words sum₀ i₀ sum i = (sum + sumBy groupsOf (drop i words)) % 1024 ≡ (sum₀ + sumBy groupsOf (drop 1 words)) % 1024
@@ -56,8 +56,8 @@ returns c =
     ∙ turn .loop .inv
     ∙ ap (λ (n : ℕ). (n + sumBy groupsOf (drop 1 (args .words .now))) % 1024) (turn .before .groups .ensures .0)
 
-pub sum-behind-spec : {M : Type 1} → statement M
-sum-behind-spec =
+pub sum-after-spec : {M : Type 1} → statement M
+sum-after-spec =
     tie.close
     (tie.spec
     Inv-loop
