@@ -21,7 +21,8 @@ use Rattle.sums.specs.Words.{undamaged}
 use Rattle.packet.specs.declared.heard.Message.{Message}
 use Rattle.call.specs.declared.Call.{Call}
 use Rattle.call.specs.Calls.{blank, hasVector, isLong, numbersOf, inLimits}
-use Rattle.call.specs.Words.{lacking, memorySize, placeOf, wordsOf, isComplete, position, holdsWord, wordPlace, lacks, offered, completes, givenTo, finished, isLacked}
+use Rattle.call.specs.Words.{lacking, memorySize, placeOf, wordsOf, isComplete, position, holdsWord, wordPlace}
+use Rattle.call.specs.Words.{lacks, offered, completes, givenTo, finished, isLacked}
 use Rattle.call.proofs.Invariants.{Placed}
 use Rattle.call.proofs.Spans.{fits-words, numbers-length, numbers-none, span-within, position-found, position-of}
 
@@ -59,7 +60,9 @@ module _ (m : Message) where
     given-from within = rw (add-one, drop-cons row i blank within)
 
     -- the calls that a word completes from a call on: itself, and those after it
-    pub finished-from : i < length row → finished (drop i row) m memory ≡ bitOf (completes (getD row i blank) m (givenTo (drop (i + 1) row) m memory)) + 2 * finished (drop (i + 1) row) m memory
+    pub finished-from : i < length row
+        → finished (drop i row) m memory
+        ≡ bitOf (completes (getD row i blank) m (givenTo (drop (i + 1) row) m memory)) + 2 * finished (drop (i + 1) row) m memory
     unfolding finished
     finished-from within = rw (add-one, drop-cons row i blank within)
 
@@ -94,7 +97,8 @@ holds-vector c m held =
     ⊎-elim
     (λ has. has)
     (λ none.
-    let inside = ltb-true (position c (m .word)) (length (numbersOf c)) (second-of (eqb (c .phase) (m .phase)) (ltb (position c (m .word)) (length (numbersOf c))) held) in
+    let inside =
+    ltb-true (position c (m .word)) (length (numbersOf c)) (second-of (eqb (c .phase) (m .phase)) (ltb (position c (m .word)) (length (numbersOf c))) held) in
     absurd (omega (arith, ap length (numbers-none c none))))
     (decided (hasVector c))
 
@@ -102,11 +106,13 @@ holds-vector c m held =
 pub holds-within : (c : Call) (m : Message) → holdsWord c m ≡ true → position c (m .word) < c .words
 holds-within c m held =
     let many = numbers-length c (holds-vector c m held) in
-    let inside = ltb-true (position c (m .word)) (length (numbersOf c)) (second-of (eqb (c .phase) (m .phase)) (ltb (position c (m .word)) (length (numbersOf c))) held) in
+    let inside =
+    ltb-true (position c (m .word)) (length (numbersOf c)) (second-of (eqb (c .phase) (m .phase)) (ltb (position c (m .word)) (length (numbersOf c))) held) in
     omega arith
 
 -- a store at a place, or none: what stands there then
-stored-here : (test : Bool) (memory : List ℕ) (p q a : ℕ) → p ≡ q → q < length memory → getD (pick test (set memory p a) memory) q 0 ≡ pick test a (getD memory q 0)
+stored-here : (test : Bool) (memory : List ℕ) (p q a : ℕ) → p ≡ q → q < length memory
+    → getD (pick test (set memory p a) memory) q 0 ≡ pick test a (getD memory q 0)
 stored-here true memory p q a same within = rw same (getD-set-same memory q a 0 within)
 stored-here false memory p q a same within = refl
 
@@ -127,7 +133,9 @@ module _ (c : Call) (m : Message) (memory : List ℕ) where
       → getD (offered c m memory) (placeOf c + k) 0 ≡ pick (goesTo c k m memory) (m .bits) (getD memory (placeOf c + k) 0)
   offered-own has good k within =
       ⊎-elim
-      (λ this. ⊎-elim (λ inside. here this (ltb-true (placeOf c + k) (length memory) inside)) (λ out. nowhere (ltb-false (placeOf c + k) (length memory) out)) (decided (ltb (placeOf c + k) (length memory))))
+      (λ this. ⊎-elim (λ inside. here this (ltb-true (placeOf c + k) (length memory) inside))
+      (λ out. nowhere (ltb-false (placeOf c + k) (length memory) out))
+      (decided (ltb (placeOf c + k) (length memory))))
       (λ other.
       offered-other (placeOf c + k) 0 (there (eqb-false number (m .word) other))
       ∙ rw (other, and-false))
@@ -136,7 +144,8 @@ module _ (c : Call) (m : Message) (memory : List ℕ) where
       number : ℕ
       number = getD (numbersOf c) k 0
 
-      here : eqb number (m .word) ≡ true → placeOf c + k < length memory → getD (offered c m memory) (placeOf c + k) 0 ≡ pick (goesTo c k m memory) (m .bits) (getD memory (placeOf c + k) 0)
+      here : eqb number (m .word) ≡ true → placeOf c + k < length memory
+          → getD (offered c m memory) (placeOf c + k) 0 ≡ pick (goesTo c k m memory) (m .bits) (getD memory (placeOf c + k) 0)
       here this inside =
           let is : number ≡ m .word = eqb-true number (m .word) this in
           let at : position c (m .word) ≡ k = ap (position c) (sym is) ∙ position-of c has (span-within c good has (omega arith)) k within in
@@ -148,7 +157,8 @@ module _ (c : Call) (m : Message) (memory : List ℕ) where
           stored-here (lacks c m memory) memory (wordPlace c m) (placeOf c + k) (m .bits) (ap (λ (n : ℕ). placeOf c + n) at) inside
           ∙ ap (λ (test : Bool). pick test (m .bits) (getD memory (placeOf c + k) 0)) same
 
-      nowhere : length memory ≤ placeOf c + k → getD (offered c m memory) (placeOf c + k) 0 ≡ pick (goesTo c k m memory) (m .bits) (getD memory (placeOf c + k) 0)
+      nowhere : length memory ≤ placeOf c + k
+          → getD (offered c m memory) (placeOf c + k) 0 ≡ pick (goesTo c k m memory) (m .bits) (getD memory (placeOf c + k) 0)
       nowhere out =
           let none : getD memory (placeOf c + k) 0 ≡ 0 = List·getD-eq-default memory 0 out in
           List·getD-eq-default (offered c m memory) 0 (rw (offered-length m c memory) out) ∙ rw (none, and-false)
@@ -168,7 +178,9 @@ Within row = (i : ℕ) → i < length row → inLimits (getD row i blank) ≡ tr
 
 -- no two calls that have their vector have their words at one place
 abbrev pub OwnPlaces : List Call → Type 0
-OwnPlaces row = (i j : ℕ) → i < length row → j < length row → hasVector (getD row i blank) ≡ true → hasVector (getD row j blank) ≡ true → placeOf (getD row i blank) ≡ placeOf (getD row j blank) → i ≡ j
+OwnPlaces row =
+    (i j : ℕ) → i < length row → j < length row → hasVector (getD row i blank) ≡ true
+    → hasVector (getD row j blank) ≡ true → placeOf (getD row i blank) ≡ placeOf (getD row j blank) → i ≡ j
 
 -- areas of their own are places of their own: there are as many as calls
 pub own-places : (row : List Call) → Placed row → length row ≤ 8 → OwnPlaces row
@@ -201,21 +213,25 @@ own-later c row own i j within-i within-j has-i has-j same =
     omega arith
 
 -- a word of one call in such a row is not where another has the word that came
-other-there : (row : List Call) (m : Message) → OwnPlaces row → Within row → (i j : ℕ) → i < length row → j < length row → (i ≡ j → ⊥) → hasVector (getD row i blank) ≡ true
+other-there : (row : List Call) (m : Message) → OwnPlaces row → Within row → (i j : ℕ) → i < length row
+    → j < length row → (i ≡ j → ⊥) → hasVector (getD row i blank) ≡ true
     → (k : ℕ) → k < getD row i blank .words → holdsWord (getD row j blank) m ≡ true → placeOf (getD row i blank) + k ≡ wordPlace (getD row j blank) m → ⊥
 other-there row m own good i j within-i within-j other has =
     not-there (getD row i blank) (getD row j blank) m (good i within-i) (good j within-j) has (λ has-j same. other (own i j within-i within-j has has-j same))
 
 module _ (m : Message) (memory : List ℕ) where
   -- what no call that holds the word has at its place for it stays as it was
-  pub given-other : (row : List Call) (q d : ℕ) → ((j : ℕ) → j < length row → holdsWord (getD row j blank) m ≡ true → q ≡ wordPlace (getD row j blank) m → ⊥) → getD (givenTo row m memory) q d ≡ getD memory q d
+  pub given-other : (row : List Call) (q d : ℕ)
+      → ((j : ℕ) → j < length row → holdsWord (getD row j blank) m ≡ true → q ≡ wordPlace (getD row j blank) m → ⊥)
+      → getD (givenTo row m memory) q d ≡ getD memory q d
   unfolding givenTo
   given-other [] q d other = refl
   given-other (c ∷ row) q d other =
       offered-other c m (givenTo row m memory) q d (other 0 (omega arith))
       ∙ given-other row q d (λ j within. other (suc j) (omega arith))
 
-  -- 01: "A word goes to the calls that still lack it": at the place of each word of a call stands the word that came, if it is that and the call lacked it, and else what stood there
+  -- 01: "A word goes to the calls that still lack it": at the place of each word of a call stands the word that came,
+  -- if it is that and the call lacked it, and else what stood there
   given-at : (row : List Call) → OwnPlaces row → Within row → (i k : ℕ) → i < length row → hasVector (getD row i blank) ≡ true → k < getD row i blank .words
       → let c = getD row i blank in
       getD (givenTo row m memory) (placeOf c + k) 0 ≡ pick (goesTo c k m memory) (m .bits) (getD memory (placeOf c + k) 0)
@@ -240,7 +256,8 @@ module _ (m : Message) (memory : List ℕ) where
       (λ held.
       ap (λ (w : ℕ). holdsWord c m && leb lacking w)
       (given-other row (wordPlace c m) lacking
-      (λ j near. other-there (c ∷ row) m own good 0 (suc j) (omega arith) (omega arith) (λ same. omega arith) (holds-vector c m held) (position c (m .word)) (holds-within c m held))))
+      (λ j near. other-there (c ∷ row) m own good 0 (suc j) (omega arith) (omega arith) (λ same. omega arith)
+      (holds-vector c m held) (position c (m .word)) (holds-within c m held))))
       (λ none. rw none)
       (decided (holdsWord c m))
 
@@ -265,8 +282,10 @@ module _ (m : Message) (memory : List ℕ) where
           ⊎-elim
           (λ has.
           ap (λ (words : List ℕ). hasVector (getD row i blank) && undamaged words)
-          (part-alike (offered d m (givenTo row m memory)) (givenTo row m memory) 0 (placeOf (getD row i blank)) (getD row i blank .words) (offered-length m d (givenTo row m memory))
-          (λ k near. offered-other d m (givenTo row m memory) (placeOf (getD row i blank) + k) 0 (other-there (d ∷ row) m own good (suc i) 0 within (omega arith) (λ same. omega arith) has k near))))
+          (part-alike (offered d m (givenTo row m memory)) (givenTo row m memory) 0 (placeOf (getD row i blank))
+          (getD row i blank .words) (offered-length m d (givenTo row m memory))
+          (λ k near. offered-other d m (givenTo row m memory) (placeOf (getD row i blank) + k) 0
+          (other-there (d ∷ row) m own good (suc i) 0 within (omega arith) (λ same. omega arith) has k near))))
           (λ none. rw none)
           (decided (hasVector (getD row i blank)))
 
@@ -275,7 +294,10 @@ module _ (m : Message) (memory : List ℕ) where
   unfolding givenTo anyOf
   not-lacked [] none = refl
   not-lacked (c ∷ row) none =
-      rw (not-lacked row (neither (lacks c m memory) (isLacked row m memory) none), neither (isLacked row m memory) (lacks c m memory) (or-comm (isLacked row m memory) (lacks c m memory) ∙ none))
+      rw (
+        not-lacked row (neither (lacks c m memory) (isLacked row m memory) none),
+        neither (isLacked row m memory) (lacks c m memory) (or-comm (isLacked row m memory) (lacks c m memory) ∙ none),
+      )
 
   -- ---- what 01 promises of a word, in a row that the host's own runs keep
 
@@ -287,7 +309,8 @@ module _ (m : Message) (memory : List ℕ) where
     finished-bit = finished-at row (own-places row placed few) good
 
     module _ (i k : ℕ) (within : i < length row) (has : hasVector (getD row i blank) ≡ true) (inside : k < getD row i blank .words) where
-      -- 01: "A word goes to the calls that still lack it": at the place of each word of a call stands the word that came, if it is that word and the call lacked it, and else what stood there
+      -- 01: "A word goes to the calls that still lack it": at the place of each word of a call stands the word that
+      -- came, if it is that word and the call lacked it, and else what stood there
       pub word-given : let c = getD row i blank in
           getD (givenTo row m memory) (placeOf c + k) 0 ≡ pick (goesTo c k m memory) (m .bits) (getD memory (placeOf c + k) 0)
       word-given = given-at row (own-places row placed few) good i k within has inside
@@ -318,7 +341,8 @@ module _ (memory : List ℕ) (c : Call) (few : c .words ≤ 85) (enough : memory
       ∙ put-there memory lacked (placeOf c) (omega arith)
 
   -- a call with its words at another place keeps them
-  pub vector-keeps : (d : Call) → d .words ≤ 85 → (placeOf d ≡ placeOf c → ⊥) → wordsOf d (put memory (placeOf c) (replicate (c .words) lacking)) ≡ wordsOf d memory
+  pub vector-keeps : (d : Call) → d .words ≤ 85 → (placeOf d ≡ placeOf c → ⊥)
+      → wordsOf d (put memory (placeOf c) (replicate (c .words) lacking)) ≡ wordsOf d memory
   vector-keeps d less other =
       let long = length-replicate (c .words) lacking in
       ⊎-elim

@@ -57,10 +57,12 @@ module _ (row : List Chain) (address : ℕ) (words buffer : List ℕ) where
         textAt (bufferAfter row address words buffer) slot (charactersAfter c (headingIn words)) ≡ textAt buffer slot (c .characters) ++ textIn words
     text-grows =
         rw writes-at-end
-        (put-grows buffer (textIn words) (slotFor row address (headingIn words) * 1008) (chainBefore row address (headingIn words) .characters) (omega (arith, within-slot, slot-within)))
+        (put-grows buffer (textIn words) (slotFor row address (headingIn words) * 1008)
+        (chainBefore row address (headingIn words) .characters) (omega (arith, within-slot, slot-within)))
 
     -- the text of a first fragment's chain is the fragment's alone
-    pub text-begins : isFirst (headingIn words) ≡ true → textAt (bufferAfter row address words buffer) (slotFor row address (headingIn words)) (length (textIn words)) ≡ textIn words
+    pub text-begins : isFirst (headingIn words) ≡ true
+        → textAt (bufferAfter row address words buffer) (slotFor row address (headingIn words)) (length (textIn words)) ≡ textIn words
     text-begins first =
         let none : chainBefore row address (headingIn words) .characters ≡ 0 = rw first in
         rw (none, zero-add) at text-grows
@@ -88,14 +90,17 @@ module _ (row : List Chain) (address : ℕ) (words buffer : List ℕ) where
       taken none = accepted (length buffer) row address words .0 (eqb-true (numberTold (stepOf (length buffer) row address words)) 0 none)
 
       apart : Accepted (length buffer) row address words
-          → take (getD row i blank .characters) (drop (i * 1008) (put buffer (endPlace row address (headingIn words)) (textIn words))) ≡ take (getD row i blank .characters) (drop (i * 1008) buffer)
+          → take (getD row i blank .characters) (drop (i * 1008) (put buffer (endPlace row address (headingIn words)) (textIn words)))
+          ≡ take (getD row i blank .characters) (drop (i * 1008) buffer)
       apart a =
           let most = open-limits row (a .heard .right) i (is-of whose n (getD row i blank) .0 is .opened) .of-characters in
           let not-here = slot-other row address (headingIn words) whose n i other is in
           let ends = within-slot a in
           let inside = slot-within a in
           ⊎-elim
-          (λ lower. let before = ltb-true i (slotFor row address (headingIn words)) lower in put-keeps-before buffer (textIn words) (endPlace row address (headingIn words)) (getD row i blank .characters) (i * 1008) (omega arith) (omega arith))
+          (λ lower. let before = ltb-true i (slotFor row address (headingIn words)) lower in put-keeps-before buffer
+          (textIn words) (endPlace row address (headingIn words)) (getD row i blank .characters) (i * 1008)
+          (omega arith) (omega arith))
           (λ higher.
           let above = ltb-false i (slotFor row address (headingIn words)) higher in
           ap (take (getD row i blank .characters))
@@ -105,12 +110,17 @@ module _ (row : List Chain) (address : ℕ) (words buffer : List ℕ) where
   -- ---- a text handed out
 
   -- what is told as whole is accepted, and is a last fragment
-  pub whole-accepted : asAnswer (stepOf (length buffer) row address words) .complete ≡ 1 → Accepted (length buffer) row address words × (goesOn (headingIn words) ≡ false)
+  pub whole-accepted : asAnswer (stepOf (length buffer) row address words) .complete ≡ 1
+      → Accepted (length buffer) row address words × (goesOn (headingIn words) ≡ false)
   unfolding stepOf
   whole-accepted e =
       let none = ⊎-elim (λ none. none) (λ zero. absurd (omega arith)) plain in
-      let a = accepted (length buffer) row address words .0 none in
-      (a, ⊎-elim (λ on. absurd (omega (arith, ap (λ (t : Told). valueTold t 4) (told-on (length buffer) row address words a on)))) (λ ends. ends) (decided (goesOn (headingIn words))))
+      let a = accepted (length buffer) row address words .0 none in (
+        a,
+        ⊎-elim
+            (λ on. absurd (omega (arith, ap (λ (t : Told). valueTold t 4) (told-on (length buffer) row address words a on))))
+            (λ ends. ends) (decided (goesOn (headingIn words))),
+      )
     where
       h : FragmentRead
       h = headingIn words
@@ -120,7 +130,8 @@ module _ (row : List Chain) (address : ℕ) (words buffer : List ℕ) where
 
       plain : let t = stepOf (length buffer) row address words in (numberTold t ≡ 0) ⊎ (valueTold t 4 ≡ 0)
       plain =
-          when-each (length buffer) row address words (λ t. (numberTold t ≡ 0) ⊎ (valueTold t 4 ≡ 0)) _ (inr refl) (inr refl) (inr refl) (inr refl) (inr refl) (inr refl) (inr refl)
+          when-each (length buffer) row address words (λ t. (numberTold t ≡ 0) ⊎ (valueTold t 4 ≡ 0)) _ (inr refl)
+          (inr refl) (inr refl) (inr refl) (inr refl) (inr refl) (inr refl)
           (fate-by (chainBefore row address h) h (λ f. (numberTold (toldOf row address h f) ≡ 0) ⊎ (valueTold (toldOf row address h f) 4 ≡ 0))
           (λ late. inr refl) (λ turn over. inr refl) (λ turn fits ends wrong. inr refl)
           (λ t on. asked _)
@@ -129,7 +140,8 @@ module _ (row : List Chain) (address : ℕ) (words buffer : List ℕ) where
   -- 01: "The last one hands out the text as a part of the lent buffer": the part that is told is the chain's text and the fragment's
   pub handed-out : let answer = asAnswer (stepOf (length buffer) row address words) in
       answer .complete ≡ 1
-      → take (answer .characters) (drop (answer .place) (bufferAfter row address words buffer)) ≡ textAt buffer (answer .slot) (chainBefore row address (headingIn words) .characters) ++ textIn words
+      → take (answer .characters) (drop (answer .place) (bufferAfter row address words buffer))
+      ≡ textAt buffer (answer .slot) (chainBefore row address (headingIn words) .characters) ++ textIn words
   handed-out e =
       let last = whole-accepted e in
       rw (told-whole (length buffer) row address words (last .0) (last .1)) (text-grows (last .0))

@@ -52,7 +52,8 @@ words-first row place n within =
 
 -- cells below 128, so many, make a number with seven bits for each
 word-small : (cells : List ℕ) → length cells ≤ 3 → areDigits 128 cells ≡ true → ltb (number 128 cells) (2 ^ wordBits) ≡ true
-word-small cells few good = lt-ltb (number 128 cells) (2 ^ wordBits) (lt-of-lt-of-le (number-below 128 cells good) (pow-le-pow-right {n = 128} (omega arith) few))
+word-small cells few good =
+    lt-ltb (number 128 cells) (2 ^ wordBits) (lt-of-lt-of-le (number-below 128 cells good) (pow-le-pow-right {n = 128} (omega arith) few))
 
 -- the cells of the words that cells make are those cells
 pub there : (cells : List ℕ) → length cells % 3 ≡ 0 → areDigits 128 cells ≡ true → cellsOf (wordsOf cells) ≡ cells

@@ -69,7 +69,8 @@ module _ (marks : Marks) (largest : ℕ) (text : List ℕ) where
   count = count-from 0 (fragmentsFor largest (length text))
 
   -- the words of so many fragments from a place on
-  total-from : (place left : ℕ) → length (flatten (fragmentsFrom marks largest text place left)) ≡ left + min ((largest - 1) * left) (wordsFor (length text) - (largest - 1) * place)
+  total-from : (place left : ℕ)
+      → length (flatten (fragmentsFrom marks largest text place left)) ≡ left + min ((largest - 1) * left) (wordsFor (length text) - (largest - 1) * place)
   unfolding fragmentsFrom flatten
   total-from place zero = omega arith
   total-from place (suc left) =

@@ -24,12 +24,14 @@ numbers n r m = record { «message_number» = n; retrieval = r; «mail_drop» = 
 -- ---- texts cut
 
 -- "HI", N 5: 72 and 73 make 145, whose low seven bits are 17, so that S is 110. S and the text are a word of three cells, and no fill is needed.
--- The first word is 3 at i11 and 5 at i13, 00B800; the second 110, 72 at i7 and 73 at i14, 12646E. The groups B8H, and 6EH, 64H, 12H make 412; K is 1023 - 412, 263H
+-- The first word is 3 at i11 and 5 at i13, 00B800; the second 110, 72 at i7 and 73 at i14, 12646E. The groups B8H,
+-- and 6EH, 64H, 12H make 412; K is 1023 - 412, 263H
 pub one-fragment : cut (numbers 5 0 0) 85 (bytesOf "HI") ≡ (0x00BA63 ∷ 0x12646E ∷ []) ∷ []
 unfolding cut fragmentsFrom fragmentAt fragmentOf messageOf wordsOf number sumBy
 one-fragment = refl
 
--- the empty text, N 63, R and M set: two fills make 6, so that S is 121. 121, 3 at i7 and 3 at i14 are 00C1F9; all bits of the first word above C are set, 1FF800.
+-- the empty text, N 63, R and M set: two fills make 6, so that S is 121. 121, 3 at i7 and 3 at i14 are 00C1F9; all
+-- bits of the first word above C are set, 1FF800.
 -- The groups F8H, 1FH, and F9H, C1H make 721; K is 1023 - 721, 12EH
 pub empty-fragment : cut (numbers 63 1 1) 2 [] ≡ (0x1FF92E ∷ 0x00C1F9 ∷ []) ∷ []
 unfolding cut fragmentsFrom fragmentAt fragmentOf messageOf wordsOf number sumBy
@@ -43,7 +45,8 @@ unfolding cut fragmentsFrom fragmentAt fragmentOf messageOf wordsOf number sumBy
 two-fragments = refl
 
 -- what is told of the two fragments of "HELLO": 11, 72 and 69 make 152, of which 24 is left; 76, 76 and 79 make 231, of which 103 is left; both make 127
-pub two-told : map headingOf (cut (numbers 5 0 0) 2 (bytesOf "HELLO")) ≡ given (1 ∷ 3 ∷ 5 ∷ 0 ∷ 0 ∷ 11 ∷ 24 ∷ 2 ∷ []) ∷ given (0 ∷ 0 ∷ 5 ∷ 0 ∷ 0 ∷ 0 ∷ 103 ∷ 3 ∷ []) ∷ []
+pub two-told : map headingOf (cut (numbers 5 0 0) 2 (bytesOf "HELLO"))
+    ≡ given (1 ∷ 3 ∷ 5 ∷ 0 ∷ 0 ∷ 11 ∷ 24 ∷ 2 ∷ []) ∷ given (0 ∷ 0 ∷ 5 ∷ 0 ∷ 0 ∷ 0 ∷ 103 ∷ 3 ∷ []) ∷ []
 unfolding cut fragmentsFrom fragmentAt fragmentOf messageOf headingOf cellsOf wordsOf withoutFill number digits sumBy all
 two-told = refl
 
@@ -128,7 +131,8 @@ long-refuted w =
 -- the longest text: 1,009 cells and two fills are 337 words, four fragments of 84 and one of one, with a first word each
 pub longest : cutOf 342 (numbers 63 1 1) 85 (replicate 1008 65) ≡ given (5 ∷ 342 ∷ [])
 unfolding sendable all
-longest = accepted-told 342 (numbers 63 1 1) 85 (replicate 1008 65) (record { numbers = refl; size = refl; short = omega arith; characters = refl }) (omega arith)
+longest =
+    accepted-told 342 (numbers 63 1 1) 85 (replicate 1008 65) (record { numbers = refl; size = refl; short = omega arith; characters = refl }) (omega arith)
 
 -- ---- what is refused
 

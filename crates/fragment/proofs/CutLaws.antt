@@ -26,7 +26,9 @@ use Rattle.fragment.specs.Answers.{headingOf}
 use Rattle.fragment.proofs.Cells.{all-fill}
 use Rattle.fragment.proofs.Laws.{size-limits, Good, Held, heading-told, built-good, cells-read, reads}
 use Rattle.fragment.specs.declared.Marks.{Marks}
-use Rattle.fragment.specs.Cutting.{isText, sendable, filled, messageOf, wordsFor, fragmentNumber, continued, marked, cellsFor, roomFor, fragmentsFor, cellsAt, fragmentAt, fragmentsFrom, cut}
+use Rattle.fragment.specs.Cutting.{isText, sendable, filled, messageOf, wordsFor, fragmentNumber, continued}
+use Rattle.fragment.specs.Cutting.{marked, cellsFor, roomFor, fragmentsFor, cellsAt, fragmentAt, fragmentsFrom}
+use Rattle.fragment.specs.Cutting.{cut}
 use Rattle.fragment.specs.CutAnswers.{cutOf, wordsAfter, asCut}
 use Rattle.fragment.proofs.CutCounts.{enough, not-too-many, some-fragment, cells-at-length, fragment-length, message-length, count, total}
 use Rattle.fragment.proofs.CutHeads.{head-fits}
@@ -58,11 +60,13 @@ module _ (lent : ℕ) (marks : Marks) (largest : ℕ) (text : List ℕ) where
       )
 
   -- nothing is refused exactly if the text can be cut and words enough are lent
-  pub accepted : (numberTold (cutOf lent marks largest text) ≡ 0) ↔ (Cuttable marks largest text × (fragmentsFor largest (length text) + wordsFor (length text) ≤ lent))
+  pub accepted : (numberTold (cutOf lent marks largest text) ≡ 0) ↔
+      (Cuttable marks largest text × (fragmentsFor largest (length text) + wordsFor (length text) ≤ lent))
   unfolding cutOf
   accepted = (not-refused, λ a. ap numberTold (accepted-told (a .0) (a .1)))
     where
-      not-refused : numberTold (cutOf lent marks largest text) ≡ 0 → Cuttable marks largest text × (fragmentsFor largest (length text) + wordsFor (length text) ≤ lent)
+      not-refused : numberTold (cutOf lent marks largest text) ≡ 0
+          → Cuttable marks largest text × (fragmentsFor largest (length text) + wordsFor (length text) ≤ lent)
       not-refused e =
           let packet = passed (not (marked marks)) refusals.Packet _ e in
           let size = passed (not (isSize largest)) refusals.Size _ (packet .1) in
@@ -102,7 +106,8 @@ module _ (marks : Marks) (largest : ℕ) (text : List ℕ) where
   unfolding fragmentsFrom
   from-take place left zero within = refl
   from-take place zero (suc k) within = absurd (omega arith)
-  from-take place (suc left) (suc k) within = ap (λ (row : List (List ℕ)). fragmentAt marks largest text place ∷ row) (from-take (suc place) left k (omega arith))
+  from-take place (suc left) (suc k) within =
+      ap (λ (row : List (List ℕ)). fragmentAt marks largest text place ∷ row) (from-take (suc place) left k (omega arith))
 
   -- as many fragments as there are, taken from the cut, are all of them
   all-taken : take (fragmentsFor largest (length text)) (cut marks largest text) ≡ cut marks largest text
@@ -119,7 +124,8 @@ module _ (marks : Marks) (largest : ℕ) (text : List ℕ) where
 
 module _ (marks : Marks) (largest : ℕ) (text : List ℕ) (two : 2 ≤ largest) where
   -- each ends where the largest size does, or where all end
-  pub ends : (place : ℕ) → place < fragmentsFor largest (length text) → length (fragmentAt marks largest text place) ≡ min largest (fragmentsFor largest (length text) + wordsFor (length text) - largest * place)
+  pub ends : (place : ℕ) → place < fragmentsFor largest (length text)
+      → length (fragmentAt marks largest text place) ≡ min largest (fragmentsFor largest (length text) + wordsFor (length text) - largest * place)
   ends place within = fragment-length largest text place marks ∙ sym (part-size largest text place two within)
 
   -- each but the last has the largest size
@@ -136,7 +142,8 @@ module _ (marks : Marks) (largest : ℕ) (text : List ℕ) (two : 2 ≤ largest)
       rw (fragment-length largest text last marks) (omega arith)
 
 -- an empty text is one fragment of two words
-pub empty-text : (marks : Marks) (largest : ℕ) → 2 ≤ largest → (cut marks largest [] ≡ fragmentAt marks largest [] 0 ∷ []) × (length (fragmentAt marks largest [] 0) ≡ 2)
+pub empty-text : (marks : Marks) (largest : ℕ) → 2 ≤ largest
+    → (cut marks largest [] ≡ fragmentAt marks largest [] 0 ∷ []) × (length (fragmentAt marks largest [] 0) ≡ 2)
 unfolding cut fragmentsFrom
 empty-text marks largest two =
     let all : 1 + (largest - 2) ≡ largest - 1 = omega arith in
@@ -164,7 +171,8 @@ first-number place = by-test (eqb place 0)
     by-test false = ne-eqb ((place - 1) % 3) firstNumber (λ e. omega arith)
 
 -- the first cell of the message is its signature
-signature-first : (largest : ℕ) (text : List ℕ) (place : ℕ) → 2 ≤ largest → pick (eqb place 0) (getD (cellsAt largest text place) 0 0) 0 ≡ pick (eqb place 0) (signatureOf (filled text)) 0
+signature-first : (largest : ℕ) (text : List ℕ) (place : ℕ) → 2 ≤ largest
+    → pick (eqb place 0) (getD (cellsAt largest text place) 0 0) 0 ≡ pick (eqb place 0) (signatureOf (filled text)) 0
 unfolding messageOf
 signature-first largest text place two = by-test (eqb place 0) refl
   where
@@ -178,9 +186,13 @@ signature-first largest text place two = by-test (eqb place 0) refl
 abbrev pub headingWith : Marks → ℕ → List ℕ → ℕ → ℕ → Told
 headingWith marks largest text place characters =
     let first = eqb place 0 in
-    given (continued (fragmentsFor largest (length text) - 1 - place) ∷ fragmentNumber place ∷ marks .«message_number» ∷ pick first (marks .retrieval) 0 ∷ pick first (marks .«mail_drop») 0 ∷ pick first (signatureOf (filled text)) 0 ∷ sumBy whole (cellsAt largest text place) % 128 ∷ characters ∷ [])
+    given
+    (continued (fragmentsFor largest (length text) - 1 - place) ∷ fragmentNumber place ∷ marks .«message_number»
+    ∷ pick first (marks .retrieval) 0 ∷ pick first (marks .«mail_drop») 0 ∷ pick first (signatureOf (filled text)) 0
+    ∷ sumBy whole (cellsAt largest text place) % 128 ∷ characters ∷ [])
 
-module _ {marks : Marks} {largest : ℕ} {text : List ℕ} (a : Cuttable marks largest text) (place : ℕ) (within : place < fragmentsFor largest (length text)) where
+module _ {marks : Marks} {largest : ℕ} {text : List ℕ} (a : Cuttable marks largest text) (place : ℕ)
+    (within : place < fragmentsFor largest (length text)) where
   -- the cells of the fragment at a place are such as a fragment can hold
   pub cells-held : Held (cellsAt largest text place)
   cells-held =
@@ -202,7 +214,9 @@ module _ {marks : Marks} {largest : ℕ} {text : List ℕ} (a : Cuttable marks l
   fragment-reads =
       let left = fragmentsFor largest (length text) - 1 - place in
       rw (← signature-first largest text place (size-limits largest (a .size) .0))
-      (reads (eqb place 0) (marks .«mail_drop») (marks .retrieval) (marks .«message_number») (fragmentNumber place) (continued left) (cellsAt largest text place) (first-number place) (head-fits marks (a .numbers) place left) cells-held)
+      (reads (eqb place 0) (marks .«mail_drop») (marks .retrieval) (marks .«message_number») (fragmentNumber place)
+      (continued left) (cellsAt largest text place) (first-number place)
+      (head-fits marks (a .numbers) place left) cells-held)
 
   -- each fragment of a text is good, and tells its own numbers
   pub good : headingOf (fragmentAt marks largest text place) ≡ headingWith marks largest text place (length (textIn (fragmentAt marks largest text place)))
@@ -229,11 +243,13 @@ module _ {marks : Marks} {largest : ℕ} {text : List ℕ} (a : Cuttable marks l
 -- ---- the text
 
 -- characters of a text, and fill after it: fill is dropped, and no character is
-text-part : (text : List ℕ) (fill n place : ℕ) → sendable text ≡ true → withoutFill (take n (drop place (text ++ replicate fill etx))) ≡ take n (drop place text)
+text-part : (text : List ℕ) (fill n place : ℕ) → sendable text ≡ true
+    → withoutFill (take n (drop place (text ++ replicate fill etx))) ≡ take n (drop place text)
 unfolding sendable withoutFill all
 text-part [] fill n place good =
     let isFill : ℕ → Bool = λ c. eqb c etx in
-    rw (drop-nil place, take-nil n) (all-fill (take n (drop place (replicate fill etx))) (all-part isFill (replicate fill etx) n place (all-replicate isFill fill etx refl)))
+    rw (drop-nil place, take-nil n)
+    (all-fill (take n (drop place (replicate fill etx))) (all-part isFill (replicate fill etx) n place (all-replicate isFill fill etx refl)))
 text-part (c ∷ text) fill n (suc place) good = text-part text fill n place (and-eq-true-iff (isText c) (sendable text) .0 good .1)
 text-part (c ∷ text) fill zero zero good = refl
 text-part (c ∷ text) fill (suc n) zero good =
@@ -247,7 +263,8 @@ partAt largest text place = take (cellsFor largest - bitOf (eqb place 0)) (drop 
 
 -- what is read of the fragment at a place is its part of the text
 part-is : (size : ℕ) (text : List ℕ) (place : ℕ) → 1 ≤ size → sendable text ≡ true
-    → withoutFill (drop (bitOf (eqb place 0)) (take size (drop (size * place) (messageOf text)))) ≡ take (size - bitOf (eqb place 0)) (drop (size * place - 1) text)
+    → withoutFill (drop (bitOf (eqb place 0)) (take size (drop (size * place) (messageOf text))))
+    ≡ take (size - bitOf (eqb place 0)) (drop (size * place - 1) text)
 unfolding messageOf
 part-is zero text place some good = absurd (omega arith)
 part-is (suc size) text zero some good =
@@ -256,7 +273,8 @@ part-is (suc size) text zero some good =
 part-is (suc size) text (suc place) some good =
     let cells : suc size * suc place ≡ suc (size + suc size * place) = omega arith in
     let fewer : suc (size + suc size * place) - 1 ≡ size + suc size * place = omega arith in
-    rw (cells, fewer, ne-eqb (suc place) 0 (λ e. omega arith), sub-zero (suc size)) (text-part text (2 - length text % 3) (suc size) (size + suc size * place) good)
+    rw (cells, fewer, ne-eqb (suc place) 0 (λ e. omega arith), sub-zero (suc size))
+    (text-part text (2 - length text % 3) (suc size) (size + suc size * place) good)
 
 -- the characters of a text in its first fragments, so many of them
 abbrev pub textSoFar : ℕ → List ℕ → ℕ → List ℕ
@@ -277,7 +295,8 @@ module _ {marks : Marks} {largest : ℕ} {text : List ℕ} (a : Cuttable marks l
 
   -- the texts of so many fragments from a place on
   texts-from : (place left : ℕ) → place + left ≤ fragmentsFor largest (length text)
-      → flatten (map textIn (fragmentsFrom marks largest text place left)) ≡ take (cellsFor largest * left - bitOf (eqb place 0)) (drop (cellsFor largest * place - 1) text)
+      → flatten (map textIn (fragmentsFrom marks largest text place left))
+      ≡ take (cellsFor largest * left - bitOf (eqb place 0)) (drop (cellsFor largest * place - 1) text)
   unfolding fragmentsFrom flatten
   texts-from place zero within = rw (mul-zero (cellsFor largest), zero-sub)
   texts-from place (suc left) within =
@@ -286,7 +305,14 @@ module _ {marks : Marks} {largest : ℕ} {text : List ℕ} (a : Cuttable marks l
       let parts = parts-short size place left (omega (arith, size-limits largest (a .size) .0)) in
       let rest : flatten (map textIn (fragmentsFrom marks largest text (suc place) left)) ≡ take (size * left) (drop (size * suc place - 1) text) =
       rw (ne-eqb (suc place) 0 (λ e. omega arith), sub-zero (size * left)) at (texts-from (suc place) left (omega arith)) in
-      rw (text-at place (omega arith), rest, ← parts .0, take-add (size - short) (size * left) (drop (size * place - 1) text), drop-drop (size - short) (size * place - 1) text, parts .1)
+      rw (
+        text-at place (omega arith),
+        rest,
+        ← parts .0,
+        take-add (size - short) (size * left) (drop (size * place - 1) text),
+        drop-drop (size - short) (size * place - 1) text,
+        parts .1,
+      )
 
   -- the texts of the first fragments, so many of them, joined
   pub text-so-far : (so : ℕ) → so ≤ fragmentsFor largest (length text) → flatten (map textIn (take so (cut marks largest text))) ≡ textSoFar largest text so
@@ -295,7 +321,8 @@ module _ {marks : Marks} {largest : ℕ} {text : List ℕ} (a : Cuttable marks l
       rw (from-take marks largest text 0 (fragmentsFor largest (length text)) so within) (texts-from 0 so (omega arith) ∙ rw (mul-zero (cellsFor largest)))
 
   -- the text of the first fragments with that of the next joined to it
-  pub text-step : (so : ℕ) → so < fragmentsFor largest (length text) → textSoFar largest text so ++ textIn (fragmentAt marks largest text so) ≡ textSoFar largest text (suc so)
+  pub text-step : (so : ℕ) → so < fragmentsFor largest (length text)
+      → textSoFar largest text so ++ textIn (fragmentAt marks largest text so) ≡ textSoFar largest text (suc so)
   text-step so within =
       let size = cellsFor largest in
       let parts = parts-short size so 0 (omega (arith, size-limits largest (a .size) .0)) in
@@ -303,7 +330,9 @@ module _ {marks : Marks} {largest : ℕ} {text : List ℕ} (a : Cuttable marks l
 
   -- the text of all fragments is the whole text
   pub text-ends : textSoFar largest text (fragmentsFor largest (length text)) ≡ text
-  text-ends = take-all (cellsFor largest * fragmentsFor largest (length text) - 1) text (omega (arith, enough largest (length text) (size-limits largest (a .size) .0)))
+  text-ends =
+      take-all (cellsFor largest * fragmentsFor largest (length text) - 1) text
+      (omega (arith, enough largest (length text) (size-limits largest (a .size) .0)))
 
   -- the texts of all fragments joined are the text
   pub texts : flatten (map textIn (cut marks largest text)) ≡ text
@@ -441,21 +470,28 @@ sum-reduced here rest all same = omega arith
 module _ {marks : Marks} {largest : ℕ} {text : List ℕ} (a : Cuttable marks largest text) where
   -- the sums of so many fragments from a place on
   sums-from : (place left : ℕ) → place + left ≤ fragmentsFor largest (length text)
-      → sumBy whole (map sumIn (fragmentsFrom marks largest text place left)) % 128 ≡ sumBy whole (take (cellsFor largest * left) (drop (cellsFor largest * place) (messageOf text))) % 128
+      → sumBy whole (map sumIn (fragmentsFrom marks largest text place left)) % 128
+      ≡ sumBy whole (take (cellsFor largest * left) (drop (cellsFor largest * place) (messageOf text))) % 128
   unfolding fragmentsFrom sumBy
   sums-from place zero within = rw (mul-zero (cellsFor largest))
   sums-from place (suc left) within =
-      rw (sum-at a place (omega arith), parts-next (cellsFor largest) (messageOf text) place left, sum-join whole (cellsAt largest text place) (take (cellsFor largest * left) (drop (cellsFor largest * suc place) (messageOf text))))
+      rw (
+        sum-at a place (omega arith),
+        parts-next (cellsFor largest) (messageOf text) place left,
+        sum-join whole (cellsAt largest text place) (take (cellsFor largest * left) (drop (cellsFor largest * suc place) (messageOf text))),
+      )
       (sum-reduced (sumBy whole (cellsAt largest text place)) _ _ (sums-from (suc place) left (omega arith)))
 
   -- the sums of the first fragments, so many of them, added
-  pub sum-so-far : (so : ℕ) → so ≤ fragmentsFor largest (length text) → sumBy whole (map sumIn (take so (cut marks largest text))) % 128 ≡ sumSoFar largest text so
+  pub sum-so-far : (so : ℕ) → so ≤ fragmentsFor largest (length text)
+      → sumBy whole (map sumIn (take so (cut marks largest text))) % 128 ≡ sumSoFar largest text so
   unfolding cut
   sum-so-far so within =
       rw (from-take marks largest text 0 (fragmentsFor largest (length text)) so within) (sums-from 0 so (omega arith) ∙ rw (mul-zero (cellsFor largest)))
 
   -- the sum of the first fragments with that of the next added to it
-  pub sum-step : (so : ℕ) → so < fragmentsFor largest (length text) → (sumSoFar largest text so + sumIn (fragmentAt marks largest text so)) % 128 ≡ sumSoFar largest text (suc so)
+  pub sum-step : (so : ℕ) → so < fragmentsFor largest (length text)
+      → (sumSoFar largest text so + sumIn (fragmentAt marks largest text so)) % 128 ≡ sumSoFar largest text (suc so)
   sum-step so within =
       let size = cellsFor largest in
       let more : size * suc so ≡ size * so + size = omega arith in
@@ -479,7 +515,9 @@ module _ {marks : Marks} {largest : ℕ} {text : List ℕ} (a : Cuttable marks l
 module _ (marks : Marks) (largest : ℕ) (text : List ℕ) (two : 2 ≤ largest) where
   -- from a place on, one of them begins at a multiple of the largest size
   part-from : (place left k : ℕ) → place + left ≡ fragmentsFor largest (length text) → k < left
-      → let words = fragmentAt marks largest text (place + k) in take (length words) (drop (largest * k) (flatten (fragmentsFrom marks largest text place left))) ≡ words
+      → let words = fragmentAt marks largest text (place + k) in take (length words)
+      (drop (largest * k) (flatten (fragmentsFrom marks largest text place left)))
+      ≡ words
   unfolding fragmentsFrom flatten
   part-from place zero k all within = absurd (omega arith)
   part-from place (suc left) zero all within =
@@ -506,12 +544,15 @@ module _ (marks : Marks) (largest : ℕ) (text : List ℕ) (two : 2 ≤ largest)
 abbrev pub lentPart : ℕ → ℕ → List ℕ → ℕ → List ℕ
 lentPart largest words row place = take (min largest (words - largest * place)) (drop (largest * place) row)
 
--- what was cut into lent words stands there fragment by fragment: each begins at so many times the largest size, ends where the next begins or where all end, and is read
+-- what was cut into lent words stands there fragment by fragment: each begins at so many times the largest size, ends
+-- where the next begins or where all end, and is read
 pub there-and-back : (marks : Marks) (largest : ℕ) (text lent : List ℕ) (place : ℕ)
     → let answer = asCut (cutOf (length lent) marks largest text) in
     let part = lentPart largest (answer .words) (wordsAfter marks largest text lent) place in
     answer .number ≡ 0 → place < answer .fragments
-    → (part ≡ fragmentAt marks largest text place) × (headingOf part ≡ headingWith marks largest text place (length (partAt largest text place))) × (textIn part ≡ partAt largest text place)
+    → (part ≡ fragmentAt marks largest text place)
+    × (headingOf part ≡ headingWith marks largest text place (length (partAt largest text place)))
+    × (textIn part ≡ partAt largest text place)
 there-and-back marks largest text lent place e within =
     let fragment = fragmentAt marks largest text place in
     let fragments = flatten (cut marks largest text) in
@@ -522,6 +563,8 @@ there-and-back marks largest text lent place e within =
     let inside : place < fragmentsFor largest (length text) = rw told at within in
     let stands = part-at marks largest text two place inside in
     let ended : largest * place + length fragment ≤ length fragments = rw (total marks largest text two) (ends-within marks largest text two place inside) in
-    let part : lentPart largest (fragmentsFor largest (length text) + wordsFor (length text)) (fragments ++ drop (0 + length fragments) lent) place ≡ fragment =
-    rw (← ends marks largest text two place inside) (part-joined (length fragment) (largest * place) fragments (drop (0 + length fragments) lent) ended ∙ stands) in
+    let part : lentPart largest (fragmentsFor largest (length text) + wordsFor (length text)) (fragments ++ drop (0 + length fragments) lent) place
+    ≡ fragment =
+    rw (← ends marks largest text two place inside)
+    (part-joined (length fragment) (largest * place) fragments (drop (0 + length fragments) lent) ended ∙ stands) in
     rw (told, part) (refl, rw (← text-at a place inside) (good a place inside), text-at a place inside)

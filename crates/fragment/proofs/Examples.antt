@@ -15,7 +15,8 @@ use Rattle.fragment.proofs.Laws.{fragmentTold, first-reads, built-again
 
 -- ---- fragments with their K
 
--- "HI", N 5, in a first fragment, the only one: 3 at i11 and 5 at i13 make 00B800. Its cells are 110, which is S, 72 and 73: 6EH, 72 at i7 and 73 at i14 make 12646E.
+-- "HI", N 5, in a first fragment, the only one: 3 at i11 and 5 at i13 make 00B800. Its cells are 110, which is S, 72
+-- and 73: 6EH, 72 at i7 and 73 at i14 make 12646E.
 -- The groups B8H, and 6EH, 64H, 12H make 184 and 228; 1023 - 412 is 611, 263H
 abbrev hi : List ℕ
 hi = 0x00BA63 ∷ 0x12646E ∷ []
@@ -84,7 +85,8 @@ pub empty-told : headingOf empty ≡ given (0 ∷ 3 ∷ 63 ∷ 1 ∷ 1 ∷ 121 �
 unfolding headingOf cellsOf withoutFill digits sumBy all
 empty-told = refl
 
--- a signature of 3 is no fill: ">>" is 124, and 127 - 124 is 3. 3, 62 at i7 and 62 at i14 make 0F9F03; the groups 18H, and 03H, 9FH, 0FH make 24 and 177; 1023 - 201 is 822, 336H
+-- a signature of 3 is no fill: ">>" is 124, and 127 - 124 is 3. 3, 62 at i7 and 62 at i14 make 0F9F03; the groups
+-- 18H, and 03H, 9FH, 0FH make 24 and 177; 1023 - 201 is 822, 336H
 abbrev signed : List ℕ
 signed = 0x001B36 ∷ 0x0F9F03 ∷ []
 
@@ -169,7 +171,9 @@ unfolding cellsOf wordsOf number digits
 intact-needed = refl
 
 -- no cell, and 255: one word, and 86
-pub held-needed : map numberTold (headingOf (fragmentOf true (0 ∷ 0 ∷ 5 ∷ 3 ∷ 0 ∷ []) []) ∷ headingOf (fragmentOf true (0 ∷ 0 ∷ 5 ∷ 3 ∷ 0 ∷ []) (replicate 255 65)) ∷ []) ≡ 9 ∷ 9 ∷ []
+pub held-needed :
+    map numberTold (headingOf (fragmentOf true (0 ∷ 0 ∷ 5 ∷ 3 ∷ 0 ∷ []) []) ∷ headingOf (fragmentOf true (0 ∷ 0 ∷ 5 ∷ 3 ∷ 0 ∷ []) (replicate 255 65)) ∷ [])
+    ≡ 9 ∷ 9 ∷ []
 unfolding headingOf fragmentOf wordsOf number sumBy
 held-needed = refl
 

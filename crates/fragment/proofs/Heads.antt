@@ -44,7 +44,8 @@ above-fits : (first : Bool) (head : List ℕ) (k : ℕ) → fit (headOf first) (
 above-fits first head k fits = fit-before (aboveK first) head 10 k (rw (head-parts first) at fits)
 
 -- numbers that fit a head with one K fit it with any other
-pub fit-with : (first : Bool) (head : List ℕ) (k other : ℕ) → fit (headOf first) (head ++ k ∷ []) ≡ true → other < 1024 → fit (headOf first) (head ++ other ∷ []) ≡ true
+pub fit-with : (first : Bool) (head : List ℕ) (k other : ℕ) → fit (headOf first) (head ++ k ∷ []) ≡ true
+    → other < 1024 → fit (headOf first) (head ++ other ∷ []) ≡ true
 fit-with first head k other fits small = rw (head-parts first) (fit-other (aboveK first) head 10 k other (rw (head-parts first) at fits) small)
 
 module _ (first : Bool) (head : List ℕ) (fits : fit (headOf first) (head ++ 0 ∷ []) ≡ true) where

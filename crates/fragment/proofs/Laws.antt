@@ -21,7 +21,10 @@ use Rattle.sums.specs.Words.{wordBits, undamaged}
 use Rattle.refusal.specs.declared.Refusal.the-variants as refusals
 use Rattle.refusal.specs.Told.{Told, told, given, ask, numberTold, valueTold}
 use Rattle.refusal.proofs.Laws.{passed, plain-ask, Plain}
-use Rattle.fragment.specs.Fragments.{isSize, firstNumber, headOf, headFor, fragmentWith, fragmentOf, headIn, numbersIn, messageNumberIn, fragmentNumberIn, continuedIn, checkIn, isFirst, mailDropIn, retrievalIn, cellsAfterHead, withoutFill, textIn, checked}
+use Rattle.fragment.specs.Fragments.{isSize, firstNumber, headOf, headFor, fragmentWith, fragmentOf, headIn}
+use Rattle.fragment.specs.Fragments.{numbersIn, messageNumberIn, fragmentNumberIn, continuedIn, checkIn}
+use Rattle.fragment.specs.Fragments.{isFirst, mailDropIn, retrievalIn, cellsAfterHead, withoutFill, textIn}
+use Rattle.fragment.specs.Fragments.{checked}
 use Rattle.fragment.specs.Answers.{headingTold, whenGood, headingOf, readOf, textOf}
 use Rattle.fragment.proofs.Cells.{there, back, words-length, words-small}
 use Rattle.fragment.proofs.Heads.{packed-small, packed-reads, fit-with, k-read, k-unsummed, k-small}
@@ -177,7 +180,9 @@ module _ (first : Bool) (head cells : List ℕ) where
     numbers-read = packed-reads first head fits (tenBits (fragmentWith first head 0 cells)) (k-small (fragmentWith first head 0 cells))
 
 -- N, F, C and K stand at the same places in either head
-same-places : (first : Bool) (m r n f c k word : ℕ) → fieldsOf (headOf first) word ≡ headFor first m r n f c ++ k ∷ [] → fieldsOf (headOf false) word ≡ n ∷ f ∷ c ∷ k ∷ []
+same-places : (first : Bool) (m r n f c k word : ℕ)
+    → fieldsOf (headOf first) word ≡ headFor first m r n f c ++ k ∷ []
+    → fieldsOf (headOf false) word ≡ n ∷ f ∷ c ∷ k ∷ []
 same-places true m r n f c k word e = ap (drop 2) e
 same-places false m r n f c k word e = e
 
@@ -188,19 +193,24 @@ first-alone true m r n f c k word e = (ap (λ (row : List ℕ). getD row 0 0) e,
 first-alone false m r n f c k word e = (refl, refl)
 
 -- what is read of a fragment that is built: its own numbers, the signature of a first one, the sum of its cells, and its text
-pub reads : (first : Bool) (m r n f c : ℕ) (cells : List ℕ) → eqb f firstNumber ≡ first → fit (headOf first) (headFor first m r n f c ++ 0 ∷ []) ≡ true → Held cells
+pub reads : (first : Bool) (m r n f c : ℕ) (cells : List ℕ) → eqb f firstNumber ≡ first
+    → fit (headOf first) (headFor first m r n f c ++ 0 ∷ []) ≡ true → Held cells
     → let words = fragmentOf first (headFor first m r n f c) cells in
     let text = withoutFill (drop (bitOf first) cells) in
-    (headingOf words ≡ given (c ∷ f ∷ n ∷ pick first r 0 ∷ pick first m 0 ∷ pick first (getD cells 0 0) 0 ∷ sumBy whole cells % 128 ∷ length text ∷ [])) × (textIn words ≡ text)
+    (headingOf words ≡ given (c ∷ f ∷ n ∷ pick first r 0 ∷ pick first m 0 ∷ pick first (getD cells 0 0) 0 ∷ sumBy whole cells % 128 ∷ length text ∷ []))
+    × (textIn words ≡ text)
 reads first m r n f c cells is fits held =
     let head = headFor first m r n f c in
     let k = tenBits (fragmentWith first head 0 cells) in
     let read = numbers-read first head cells fits in
     let row = same-places first m r n f c k _ read in
     let alone = first-alone first m r n f c k _ read in
-    let number : (place : ℕ) → getD (numbersIn (fragmentOf first head cells)) place 0 ≡ getD (n ∷ f ∷ c ∷ k ∷ []) place 0 = λ place. ap (λ (row : List ℕ). getD row place 0) row in
+    let number : (place : ℕ) → getD (numbersIn (fragmentOf first head cells)) place 0 ≡ getD (n ∷ f ∷ c ∷ k ∷ []) place 0 =
+    λ place. ap (λ (row : List ℕ). getD row place 0) row in
     let kind : isFirst (fragmentOf first head cells) ≡ first = ap (λ (number : ℕ). eqb number firstNumber) (number 1) ∙ is in
-    rw (heading-told _ (built-good first head cells fits held), kind, alone .0, alone .1, number 0, number 1, number 2, cells-read first head cells held) (refl, refl)
+    rw
+    (heading-told _ (built-good first head cells fits held), kind, alone .0, alone .1, number 0, number 1, number 2, cells-read first head cells held)
+    (refl, refl)
 
 -- what is read of a first fragment that is built
 pub first-reads : (m r n c : ℕ) (cells : List ℕ) → fit (headOf true) (m ∷ r ∷ n ∷ 3 ∷ c ∷ 0 ∷ []) ≡ true → Held cells
@@ -259,10 +269,16 @@ read-again (word ∷ rest) g without =
     let each = and-eq-true-iff (ltb word (2 ^ wordBits)) (undamaged rest) .0 (g .intact) in
     let read = all-read words (isFirst words) refl in
     let own : fragmentWith (isFirst words) (headRead words) (checkIn words) (cellsAfterHead words) ≡ words =
-    ap₂ _∷_ (ap (packed (headOf (isFirst words))) (sym read) ∙ word-again word (isFirst words) (ltb-true word (2 ^ wordBits) (each .0)) without) (back rest (each .1)) in
-    let fits : fit (headOf (isFirst words)) (headRead words ++ checkIn words ∷ []) ≡ true = ap (fit (headOf (isFirst words))) (sym read) ∙ fit-read (headOf (isFirst words)) word in
+    ap₂ _∷_
+    (ap (packed (headOf (isFirst words))) (sym read) ∙ word-again word (isFirst words) (ltb-true word (2 ^ wordBits) (each .0)) without)
+    (back rest (each .1)) in
+    let fits : fit (headOf (isFirst words)) (headRead words ++ checkIn words ∷ []) ≡ true =
+    ap (fit (headOf (isFirst words))) (sym read) ∙ fit-read (headOf (isFirst words)) word in
     let k : tenBits (fragmentWith (isFirst words) (headRead words) 0 (cellsAfterHead words)) ≡ checkIn words =
-    sym (k-unsummed (isFirst words) (headRead words) (fit-with (isFirst words) (headRead words) (checkIn words) 0 fits (omega arith)) (checkIn words) (cellsAfterHead words) (omega arith))
+    sym
+    (k-unsummed (isFirst words) (headRead words)
+    (fit-with (isFirst words) (headRead words) (checkIn words) 0 fits (omega arith)) (checkIn words)
+    (cellsAfterHead words) (omega arith))
     ∙ ap tenBits own ∙ eqb-true (tenBits words) (checkIn words) (g .sum) in
     ap (λ (k : ℕ). fragmentWith (isFirst words) (headRead words) k (cellsAfterHead words)) k ∙ own
 
@@ -277,5 +293,6 @@ pub built-again : (words : List ℕ) → Good words → WithoutUV words → frag
 built-again words g without = ap (λ (t : Told). fragmentTold t (cellsAfterHead words)) (heading-told words g) ∙ read-again words g without
 
 -- no two good fragments with U and V 0 tell the same and have the same cells
-pub told-apart : (words other : List ℕ) → Good words → Good other → WithoutUV words → WithoutUV other → headingOf words ≡ headingOf other → cellsAfterHead words ≡ cellsAfterHead other → words ≡ other
+pub told-apart : (words other : List ℕ) → Good words → Good other → WithoutUV words → WithoutUV other
+    → headingOf words ≡ headingOf other → cellsAfterHead words ≡ cellsAfterHead other → words ≡ other
 told-apart words other g h without too same cells = sym (built-again words g without) ∙ ap₂ fragmentTold same cells ∙ built-again other h too

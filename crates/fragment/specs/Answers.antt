@@ -7,12 +7,15 @@ use lib.ListN.{length}
 use Rattle.refusal.specs.declared.Refusal.the-variants.{Room, Size, Damaged, Checksum}
 use Rattle.refusal.specs.Told.{Told, given, ask, writtenBy}
 use Rattle.sums.specs.Words.{undamaged}
-use Rattle.fragment.specs.Fragments.{isSize, messageNumberIn, fragmentNumberIn, continuedIn, mailDropIn, retrievalIn, signatureIn, textIn, sumIn, checked}
+use Rattle.fragment.specs.Fragments.{isSize, messageNumberIn, fragmentNumberIn, continuedIn, mailDropIn}
+use Rattle.fragment.specs.Fragments.{retrievalIn, signatureIn, textIn, sumIn, checked}
 
 -- what is told of a fragment: C, F, N, R, M, S, the sum of its cells, and how many characters its text has
 abbrev pub headingTold : List ℕ → Told
 headingTold words =
-    given (continuedIn words ∷ fragmentNumberIn words ∷ messageNumberIn words ∷ retrievalIn words ∷ mailDropIn words ∷ signatureIn words ∷ sumIn words ∷ length (textIn words) ∷ [])
+    given
+    (continuedIn words ∷ fragmentNumberIn words ∷ messageNumberIn words ∷ retrievalIn words ∷ mailDropIn words
+    ∷ signatureIn words ∷ sumIn words ∷ length (textIn words) ∷ [])
 
 -- what is asked of every fragment: 9, 10, 11
 abbrev pub whenGood : List ℕ → Told → Told

@@ -30,7 +30,8 @@ cellBits = 7
 abbrev pub firstNumber : ℕ
 firstNumber = 3
 
--- Tables 44 and 45, the first word, its highest bit first: M and R of a first fragment, where another has V and U ("written 0 and not looked at"); N, F, C and K
+-- Tables 44 and 45, the first word, its highest bit first: M and R of a first fragment, where another has V and U
+-- ("written 0 and not looked at"); N, F, C and K
 abbrev pub headOf : Bool → Layout
 headOf true = field 1 ∷ field 1 ∷ field 6 ∷ field 2 ∷ field 1 ∷ field 10 ∷ []
 headOf false = unused 2 ∷ field 6 ∷ field 2 ∷ field 1 ∷ field 10 ∷ []

@@ -12,7 +12,8 @@ ghost use Rattle.laws.specs.Numerals.{number};
 ghost use Rattle.sums.specs.Sums.{signatureOf};
 ghost use Rattle.refusal.specs.Told.{numberTold};
 ghost use Rattle.fragment.specs.Fragments.{isSize, etx, headOf, wordsOf, fragmentOf};
-ghost use Rattle.fragment.specs.Cutting.{isText, sendable, filled, messageOf, wordsFor, fragmentNumber, continued, headAt, marked, fragmentsFor, fragmentAt, cut};
+ghost use Rattle.fragment.specs.Cutting.{isText, sendable, filled, messageOf, wordsFor, fragmentNumber, continued};
+ghost use Rattle.fragment.specs.Cutting.{headAt, marked, fragmentsFor, fragmentAt, cut};
 ghost use Rattle.fragment.specs.CutAnswers.{cutOf, wordsAfter, asCut};
 use crate::CELL_LIMIT;
 use crate::ETX;
@@ -169,7 +170,8 @@ fn write_cells(text: &[u8], signature: u32, place: usize, words: &mut [u32])
     requires { ⌜ signature ≡ signatureOf (filled (now text)) ⌝ }
     requires { ⌜ 1 ≤ length (now words) ⌝ }
     requires { ⌜ place + 3 * (length (now words) - 1) ≤ length (messageOf (now text)) ⌝ }
-    ensures { λ r. ⌜ now (words .exit) ≡ getD (now (words .entry)) 0 0 ∷ wordsOf (take (3 * (length (now (words .entry)) - 1)) (drop place (messageOf (now (text .entry))))) ⌝ }
+    ensures { λ r. ⌜ now (words .exit)
+        ≡ getD (now (words .entry)) 0 0 ∷ wordsOf (take (3 * (length (now (words .entry)) - 1)) (drop place (messageOf (now (text .entry))))) ⌝ }
 {
     let mut at = place;
     let mut i: usize = 1;
@@ -195,7 +197,8 @@ fn write_fragment(
     requires { ⌜ marked marks ≡ true ⌝ }
     requires { ⌜ 1 ≤ length (now words) ⌝ }
     requires { ⌜ cell + 3 * (length (now words) - 1) ≤ length (messageOf (now text)) ⌝ }
-    ensures { λ r. ⌜ now (words .exit) ≡ fragmentOf (eqb place 0) (headAt marks place left) (take (3 * (length (now (words .entry)) - 1)) (drop cell (messageOf (now (text .entry))))) ⌝ }
+    ensures { λ r. ⌜ now (words .exit)
+        ≡ fragmentOf (eqb place 0) (headAt marks place left) (take (3 * (length (now (words .entry)) - 1)) (drop cell (messageOf (now (text .entry))))) ⌝ }
 {
     words[0] = head_of(marks, place, left);
     write_cells(text, signature, cell, words);

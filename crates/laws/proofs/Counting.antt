@@ -35,6 +35,7 @@ pub rounded-up : (things size : ℕ) → 1 ≤ things → 1 ≤ size
     → let parts = (things + (size - 1)) / size in (things ≤ size * parts) × (size * (parts - 1) < things) × (1 ≤ parts)
 rounded-up things size some large = by-parts ((things + (size - 1)) / size) (div-add-mod (things + (size - 1)) size) (mod-lt (things + (size - 1)) large)
   where
-    by-parts : (parts : ℕ) → size * parts + (things + (size - 1)) % size ≡ things + (size - 1) → (things + (size - 1)) % size < size → (things ≤ size * parts) × (size * (parts - 1) < things) × (1 ≤ parts)
+    by-parts : (parts : ℕ) → size * parts + (things + (size - 1)) % size ≡ things + (size - 1)
+        → (things + (size - 1)) % size < size → (things ≤ size * parts) × (size * (parts - 1) < things) × (1 ≤ parts)
     by-parts zero whole less = absurd (omega arith)
     by-parts (suc parts) whole less = let fewer : suc parts - 1 ≡ parts = omega arith in rw fewer (omega arith)

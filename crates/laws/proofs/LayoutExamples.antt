@@ -39,12 +39,14 @@ builtCases =
 
 -- read-packed: what is read back is not what was given wherever a premise fails
 pub built-examples :
-    map {A = BuiltCase} {B = Bool × Bool × ℕ × List ℕ} (λ c. (laid (c .0), fit (c .0) (c .1), packed (c .0) (c .1), fieldsOf (c .0) (packed (c .0) (c .1)))) builtCases
+    map {A = BuiltCase} {B = Bool × Bool × ℕ × List ℕ}
+    (λ c. (laid (c .0), fit (c .0) (c .1), packed (c .0) (c .1), fieldsOf (c .0) (packed (c .0) (c .1)))) builtCases
     ≡ map {A = BuiltCase} {B = Bool × Bool × ℕ × List ℕ} (λ c. (c .2, c .3, c .4, c .5)) builtCases
 unfolding builtCases
 built-examples = refl
 
--- one thing read: the row and the packet; whether the row is laid out right, whether the packet has no more bits than the row, whether it has those that the table prints, whether every bit is looked at; the packet built again
+-- one thing read: the row and the packet; whether the row is laid out right, whether the packet has no more bits than
+-- the row, whether it has those that the table prints, whether every bit is looked at; the packet built again
 abbrev ReadCase : Type 0
 ReadCase = Layout × ℕ × Bool × Bool × Bool × Bool × ℕ
 
@@ -66,7 +68,14 @@ readCases =
 
 -- packed-read-whole: the packet built again is another wherever a premise fails
 pub read-examples :
-    map {A = ReadCase} {B = Bool × Bool × Bool × Bool × ℕ} (λ c. (laid (c .0), ltb (c .1) (2 ^ size (c .0)), shows (c .0) (c .1), eqb (maskOf isRead (c .0)) (2 ^ size (c .0) - 1), packed (c .0) (fieldsOf (c .0) (c .1)))) readCases
+    map {A = ReadCase} {B = Bool × Bool × Bool × Bool × ℕ}
+    (λ c. (
+      laid (c .0),
+      ltb (c .1) (2 ^ size (c .0)),
+      shows (c .0) (c .1),
+      eqb (maskOf isRead (c .0)) (2 ^ size (c .0) - 1),
+      packed (c .0) (fieldsOf (c .0) (c .1)),
+    )) readCases
     ≡ map {A = ReadCase} {B = Bool × Bool × Bool × Bool × ℕ} (λ c. (c .2, c .3, c .4, c .5, c .6)) readCases
 unfolding readCases
 read-examples = refl

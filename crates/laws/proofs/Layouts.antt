@@ -12,7 +12,9 @@ use lib.Dec.{T, leb, ltb, eqb, leb→le, ltb→lt}
 use lib.Pow.{pow-add, pow-pos, shl-exact, shl-lt, shr-shr, split, ones-lt}
 use mir.Facts.{and-yes}
 use Rattle.laws.specs.Choice.{pick}
-use Rattle.laws.specs.Layouts.{Part, printed, zeros, field, unused, Layout, width, size, above, bitsAt, moved, fieldsOf, onesAt, maskOf, isPrinted, isRead, printedBits, shows, fitAfter, fit, packedAfter, packed}
+use Rattle.laws.specs.Layouts.{Part, printed, zeros, field, unused, Layout, width, size, above, bitsAt, moved}
+use Rattle.laws.specs.Layouts.{fieldsOf, onesAt, maskOf, isPrinted, isRead, printedBits, shows, fitAfter, fit}
+use Rattle.laws.specs.Layouts.{packedAfter, packed}
 
 -- whether each number that a row prints fits its bits
 abbrev pub printedFit : Layout → Bool
@@ -118,12 +120,15 @@ not-joined : (w s q : ℕ) → q * 2 ^ (w + s) ≡ (q * 2 ^ w + 0) * 2 ^ s
 not-joined w s q = rw (add-zero, pow-add 2 w s, mul-assoc q (2 ^ w) (2 ^ s))
 
 -- what is known of the rest is known of the part and the rest
-one-more : (w v q so : ℕ) (row : Layout) (values : List ℕ) → so ≡ (q * 2 ^ w + v) * 2 ^ size row → packedAfter ((q * 2 ^ w + v) * 2 ^ size row) row values ≡ (q * 2 ^ w + v) * 2 ^ size row + sumOf row values → packedAfter so row values ≡ q * 2 ^ (w + size row) + (v * 2 ^ size row + sumOf row values)
+one-more : (w v q so : ℕ) (row : Layout) (values : List ℕ) → so ≡ (q * 2 ^ w + v) * 2 ^ size row
+    → packedAfter ((q * 2 ^ w + v) * 2 ^ size row) row values ≡ (q * 2 ^ w + v) * 2 ^ size row + sumOf row values
+    → packedAfter so row values ≡ q * 2 ^ (w + size row) + (v * 2 ^ size row + sumOf row values)
 one-more w v q so row values e rest =
     ap (λ (x : ℕ). packedAfter x row values) e ∙ rest ∙ sym (regroup w (size row) v (sumOf row values) q)
 
 -- each part's number is added to the parts so far
-packed-after : (row : Layout) (values : List ℕ) (q : ℕ) → Fits row values → size row ≤ 32 → packedAfter (q * 2 ^ size row) row values ≡ q * 2 ^ size row + sumOf row values
+packed-after : (row : Layout) (values : List ℕ) (q : ℕ) → Fits row values → size row ≤ 32
+    → packedAfter (q * 2 ^ size row) row values ≡ q * 2 ^ size row + sumOf row values
 packed-after [] values q f l = sym (add-zero (q * 2 ^ 0))
 packed-after (printed w p ∷ row) values q f l =
     one-more w p q _ row values (joined w (size row) p q (f .0) l) (packed-after row values (q * 2 ^ w + p) (f .1) (omega arith))
@@ -156,7 +161,8 @@ none-fit so (field u ∷ row) w = refl
 none-fit so (unused u ∷ row) w = none-fit so row w
 
 -- of a row with a field after it the last number is asked last
-fit-last-after : (so : Bool) (row : Layout) (values : List ℕ) (w k : ℕ) → fitAfter so (row ++ field w ∷ []) (values ++ k ∷ []) ≡ (fitAfter so row values && ltb k (2 ^ w))
+fit-last-after : (so : Bool) (row : Layout) (values : List ℕ) (w k : ℕ)
+    → fitAfter so (row ++ field w ∷ []) (values ++ k ∷ []) ≡ (fitAfter so row values && ltb k (2 ^ w))
 fit-last-after so [] [] w k = refl
 fit-last-after so [] (v ∷ []) w k = refl
 fit-last-after so [] (v ∷ u ∷ values) w k = refl
@@ -175,7 +181,9 @@ pub fit-before : (row : Layout) (values : List ℕ) (w k : ℕ) → fit (row ++ 
 fit-before row values w k e = and-eq-true-iff (fit row values) (ltb k (2 ^ w)) .0 (sym (fit-last row values w k) ∙ e) .0
 
 -- numbers that fit with one last number fit with any other that fits the field
-pub fit-other : (row : Layout) (values : List ℕ) (w k other : ℕ) → fit (row ++ field w ∷ []) (values ++ k ∷ []) ≡ true → other < 2 ^ w → fit (row ++ field w ∷ []) (values ++ other ∷ []) ≡ true
+pub fit-other : (row : Layout) (values : List ℕ) (w k other : ℕ)
+    → fit (row ++ field w ∷ []) (values ++ k ∷ []) ≡ true → other < 2 ^ w
+    → fit (row ++ field w ∷ []) (values ++ other ∷ []) ≡ true
 fit-other row values w k other e small = fit-last row values w other ∙ rw (fit-before row values w k e, lt-ltb other (2 ^ w) small)
 
 -- the sum of the row stands above the last number
@@ -209,7 +217,8 @@ at-place w s v rest q n h k e =
     ∙ digits-mod q h
 
 -- in a number that ends in a row's sum each part has its number
-found : (row : Layout) (values : List ℕ) (n q : ℕ) → Fits row values → n ≡ q * 2 ^ size row + sumOf row values → (fieldsOf row n ≡ values) × (shownEach row n ≡ true)
+found : (row : Layout) (values : List ℕ) (n q : ℕ) → Fits row values → n ≡ q * 2 ^ size row + sumOf row values
+    → (fieldsOf row n ≡ values) × (shownEach row n ≡ true)
 found [] values n q f e = (sym f, refl)
 found (printed w p ∷ row) values n q f e =
     let rest = found row values n (q * 2 ^ w + p) (f .1) (e ∙ regroup w (size row) p (sumOf row values) q) in
@@ -252,7 +261,8 @@ mask-lt : (chosen : Part → Bool) (row : Layout) → maskOf chosen row < 2 ^ si
 mask-lt chosen [] = omega arith
 mask-lt chosen (part ∷ row) =
     rw (mask-times (chosen part) (size row) (width part))
-    (number-lt (width part) (size row) (pick (chosen part) (2 ^ width part - 1) 0) (maskOf chosen row) (mask-number-lt (chosen part) (width part)) (mask-lt chosen row))
+    (number-lt (width part) (size row) (pick (chosen part) (2 ^ width part - 1) 0) (maskOf chosen row)
+    (mask-number-lt (chosen part) (width part)) (mask-lt chosen row))
 
 -- a mask's own bits are enough to look at
 and-low : (n m s : ℕ) → m < 2 ^ s → bitAnd (n % 2 ^ s) m ≡ bitAnd n m
@@ -374,20 +384,24 @@ pub packed-lt : (row : Layout) (values : List ℕ) → T (laid row) → fit row 
 packed-lt row values t e = rw (packed-is row values t e) (sum-lt row values (each-fits row values t e))
 
 -- what was built with one field more is the rest above that field's number
-pub packed-last : (row : Layout) (values : List ℕ) (w k : ℕ) → T (laid row) → T (laid (row ++ field w ∷ [])) → fit row values ≡ true → k < 2 ^ w → packed (row ++ field w ∷ []) (values ++ k ∷ []) ≡ packed row values * 2 ^ w + k
+pub packed-last : (row : Layout) (values : List ℕ) (w k : ℕ) → T (laid row) → T (laid (row ++ field w ∷ []))
+    → fit row values ≡ true → k < 2 ^ w
+    → packed (row ++ field w ∷ []) (values ++ k ∷ []) ≡ packed row values * 2 ^ w + k
 packed-last row values w k t u e h =
     packed-is (row ++ field w ∷ []) (values ++ k ∷ []) u (fit-last row values w k ∙ rw (e, lt-ltb k (2 ^ w) h))
     ∙ sum-last row values w k (each-fits row values t e)
     ∙ rw (packed-is row values t e)
 
 -- a number that ends in what was built has the numbers of its fields and all that its table prints
-found-packed : (row : Layout) (values : List ℕ) (n : ℕ) → T (laid row) → fit row values ≡ true → n % 2 ^ size row ≡ packed row values → (fieldsOf row n ≡ values) × (shownEach row n ≡ true)
+found-packed : (row : Layout) (values : List ℕ) (n : ℕ) → T (laid row) → fit row values ≡ true
+    → n % 2 ^ size row ≡ packed row values → (fieldsOf row n ≡ values) × (shownEach row n ≡ true)
 found-packed row values n t e low =
     found row values n (n / 2 ^ size row) (each-fits row values t e)
     (sym (split n (size row)) ∙ ap (λ (x : ℕ). n / 2 ^ size row * 2 ^ size row + x) (low ∙ packed-is row values t e))
 
 -- reading a number that ends in what was built gives the numbers it was built from
-pub read-ending : (row : Layout) (values : List ℕ) (n : ℕ) → T (laid row) → fit row values ≡ true → n % 2 ^ size row ≡ packed row values → fieldsOf row n ≡ values
+pub read-ending : (row : Layout) (values : List ℕ) (n : ℕ) → T (laid row) → fit row values ≡ true
+    → n % 2 ^ size row ≡ packed row values → fieldsOf row n ≡ values
 read-ending row values n t e low = found-packed row values n t e low .0
 
 -- what was built is all of its own bits
@@ -410,5 +424,6 @@ packed-read row n t e =
     ∙ sym (masked isRead row n)
 
 -- building what was read gives the very bits where every one is looked at
-pub packed-read-whole : (row : Layout) (n : ℕ) → T (laid row) → n < 2 ^ size row → shows row n ≡ true → maskOf isRead row ≡ 2 ^ size row - 1 → packed row (fieldsOf row n) ≡ n
+pub packed-read-whole : (row : Layout) (n : ℕ) → T (laid row) → n < 2 ^ size row → shows row n ≡ true
+    → maskOf isRead row ≡ 2 ^ size row - 1 → packed row (fieldsOf row n) ≡ n
 packed-read-whole row n t h e whole = packed-read row n t e ∙ ap (bitAnd n) whole ∙ and-mask n (size row) ∙ mod-eq-of-lt h

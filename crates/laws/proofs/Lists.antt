@@ -28,7 +28,9 @@ module _ {ℓ} {A : Type ℓ} where
   at-within (x ∷ row) (suc k) d e within = at-within row k d e (omega arith)
 
   -- a part of two rows, as long, that hold the same there is the same
-  pub part-alike : (row other : List A) (d : A) (from n : ℕ) → length row ≡ length other → ((k : ℕ) → k < n → getD row (from + k) d ≡ getD other (from + k) d) → take n (drop from row) ≡ take n (drop from other)
+  pub part-alike : (row other : List A) (d : A) (from n : ℕ) → length row ≡ length other
+      → ((k : ℕ) → k < n → getD row (from + k) d ≡ getD other (from + k) d)
+      → take n (drop from row) ≡ take n (drop from other)
   part-alike row other d from n long alike =
       ext-getD d (take n (drop from row)) (take n (drop from other)) (simp (length-take, length-drop) (rw long))
       (λ k within.
@@ -116,7 +118,8 @@ module _ {ℓ} {A : Type ℓ} (test : A → Bool) where
   those-append [] ys = refl
   those-append (x ∷ xs) ys = rw (those-append xs ys) (by-test (test x))
     where
-      by-test : (good : Bool) → pick good (x ∷ those test xs ++ those test ys) (those test xs ++ those test ys) ≡ pick good (x ∷ those test xs) (those test xs) ++ those test ys
+      by-test : (good : Bool)
+          → pick good (x ∷ those test xs ++ those test ys) (those test xs ++ those test ys) ≡ pick good (x ∷ those test xs) (those test xs) ++ those test ys
       by-test true = refl
       by-test false = refl
 

@@ -3,7 +3,9 @@ use Prim.Native.Nat.{ℕ, zero, suc, _+_, _-_, _*_, _/_, _%_, _^_, _≤_, _<_}
 use mathlib.Core.Bool.{true}
 use mathlib.Core.List.{List, [], _∷_}
 use mathlib.Core.Path.{_≡_, refl, sym, ap, ap₂, _∙_}
-use native.Mathlib.Nat.{add-comm, add-mul-div-left, add-mul-mod-self-left, div-div-eq-div-mul, div-eq-of-lt, div-one, mod-eq-of-lt, mod-lt, mod-one, mul-comm, mul-suc, mul-zero, one-le-pow, pow-suc, pow-succ', pow-zero, zero-add, zero-div, zero-mod}
+use native.Mathlib.Nat.{add-comm, add-mul-div-left, add-mul-mod-self-left, div-div-eq-div-mul, div-eq-of-lt, div-one}
+use native.Mathlib.Nat.{mod-eq-of-lt, mod-lt, mod-one, mul-comm, mul-suc, mul-zero, one-le-pow, pow-suc, pow-succ'}
+use native.Mathlib.Nat.{pow-zero, zero-add, zero-div, zero-mod}
 use native.Mathlib.Numerals.{add-one, towards-suc}
 use native.Mathlib.Omega.{arith}
 use borrow.Author.Tests.{lt-ltb, ltb-true}

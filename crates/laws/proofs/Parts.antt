@@ -32,10 +32,13 @@ module _ {A : Type 0} (buffer : List A) (start end : ℕ) (before : start ≤ en
   pub part-put : (part : List A) → length part ≡ end - start → putMid start (end - start) buffer part ≡ put buffer start part
   part-put part same =
       let ends : start + length part ≡ end = omega arith in
-      rw ends (ap (λ (rest : List A). take start buffer ++ (part ++ rest)) (post-is start end buffer before) ∙ sym (append-assoc (take start buffer) part (drop end buffer)))
+      rw ends
+      (ap (λ (rest : List A). take start buffer ++ (part ++ rest)) (post-is start end buffer before)
+      ∙ sym (append-assoc (take start buffer) part (drop end buffer)))
 
   -- a text that is put at the start of a part is put at the part's place
-  pub part-written : (text : List A) → length text ≤ end - start → putMid start (end - start) buffer (put (midOf start (end - start) buffer) 0 text) ≡ put buffer start text
+  pub part-written : (text : List A) → length text ≤ end - start
+      → putMid start (end - start) buffer (put (midOf start (end - start) buffer) 0 text) ≡ put buffer start text
   part-written text fits =
       let part = midOf start (end - start) buffer in
       let size : length part ≡ end - start = mid-len start end buffer within in
@@ -44,4 +47,5 @@ module _ {A : Type 0} (buffer : List A) (start end : ℕ) (before : start ≤ en
       ∙ ap (drop (length text)) (take-append-drop (end - start) (drop start buffer))
       ∙ drop-drop (length text) start buffer in
       let later = drop (end - start) (drop start buffer) in
-      rw (zero-add (length text), append-assoc text (drop (length text) part) later, rest) (sym (append-assoc (take start buffer) text (drop (start + length text) buffer)))
+      rw (zero-add (length text), append-assoc text (drop (length text) part) later, rest)
+      (sym (append-assoc (take start buffer) text (drop (start + length text) buffer)))

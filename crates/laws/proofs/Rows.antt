@@ -111,7 +111,8 @@ sum-join rule [] ys = sym (zero-add (sumBy rule ys))
 sum-join rule (x ∷ xs) ys = rw (sum-join rule xs ys) (sym (add-assoc (rule x) (sumBy rule xs) (sumBy rule ys)))
 
 -- of a row in parts of a size, so many parts from one on: that part, and those after it
-pub parts-next : (size : ℕ) (row : List ℕ) (part count : ℕ) → take (size * suc count) (drop (size * part) row) ≡ take size (drop (size * part) row) ++ take (size * count) (drop (size * suc part) row)
+pub parts-next : (size : ℕ) (row : List ℕ) (part count : ℕ)
+    → take (size * suc count) (drop (size * part) row) ≡ take size (drop (size * part) row) ++ take (size * count) (drop (size * suc part) row)
 parts-next size row part count =
     let many : size * suc count ≡ size + size * count = omega arith in
     let next : size * part + size ≡ size * suc part = omega arith in

@@ -79,7 +79,8 @@ module _ {ℓ} {A : Type ℓ} (test : A → Bool) where
 
     -- where none is found, none of the row passes
     pub none-passes : ltb (firstThat test row) (length row) ≡ false → (k : ℕ) → k < length row → test (getD row k d) ≡ false
-    none-passes none k within = ⊎-elim (λ good. absurd (not-both (ltb (firstThat test row) (length row)) (is-found k within good) none)) (λ bad. bad) (decided (test (getD row k d)))
+    none-passes none k within =
+        ⊎-elim (λ good. absurd (not-both (ltb (firstThat test row) (length row)) (is-found k within good) none)) (λ bad. bad) (decided (test (getD row k d)))
 
     -- where none of the row passes, a test says that none is found
     pub is-none : ((k : ℕ) → k < length row → test (getD row k d) ≡ false) → ltb (firstThat test row) (length row) ≡ false
@@ -90,7 +91,9 @@ module _ {ℓ} {A : Type ℓ} (test : A → Bool) where
   none-at row none = omega (arith, first-most row, ltb-false (firstThat test row) (length row) none)
 
   -- in two rows, as long, that pass it at the same places, the same is found
-  pub found-alike : (row other : List A) (d : A) → length row ≡ length other → ((k : ℕ) → k < length row → test (getD row k d) ≡ test (getD other k d)) → firstThat test row ≡ firstThat test other
+  pub found-alike : (row other : List A) (d : A) → length row ≡ length other
+      → ((k : ℕ) → k < length row → test (getD row k d) ≡ test (getD other k d))
+      → firstThat test row ≡ firstThat test other
   unfolding firstThat
   found-alike [] [] d long alike = refl
   found-alike [] (y ∷ other) d long alike = absurd (omega arith)
@@ -118,10 +121,13 @@ module _ {ℓ} {A : Type ℓ} (test : A → Bool) where
     found-none done = rw (drop-of-length-le row done) (omega arith)
 
   -- none is found from a place on exactly if the search ends at the row's end
-  pub none-after : (row : List A) (i : ℕ) → i ≤ length row → eqb (i + firstThat test (drop i row)) (length row) ≡ not (ltb (firstThat test (drop i row)) (length (drop i row)))
+  pub none-after : (row : List A) (i : ℕ) → i ≤ length row
+      → eqb (i + firstThat test (drop i row)) (length row) ≡ not (ltb (firstThat test (drop i row)) (length (drop i row)))
   none-after row i within =
       let left : length (drop i row) ≡ length row - i = length-drop i row in
       ⊎-elim
-      (λ same. eq-eqb (i + firstThat test (drop i row)) (length row) (omega arith) ∙ sym (ap not (le-ltb (firstThat test (drop i row)) (length (drop i row)) (omega arith))))
-      (λ less. ne-eqb (i + firstThat test (drop i row)) (length row) (λ e. omega arith) ∙ sym (ap not (lt-ltb (firstThat test (drop i row)) (length (drop i row)) less)))
+      (λ same. eq-eqb (i + firstThat test (drop i row)) (length row) (omega arith)
+      ∙ sym (ap not (le-ltb (firstThat test (drop i row)) (length (drop i row)) (omega arith))))
+      (λ less. ne-eqb (i + firstThat test (drop i row)) (length row) (λ e. omega arith)
+      ∙ sym (ap not (lt-ltb (firstThat test (drop i row)) (length (drop i row)) less)))
       (eq-or-lt-of-le (first-most (drop i row)))

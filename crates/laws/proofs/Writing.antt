@@ -6,7 +6,8 @@ use native.Mathlib.Nat.{add-zero, add-assoc, zero-add}
 use native.Mathlib.Numerals.{add-one}
 use native.Mathlib.Omega.{arith}
 use lib.ListN.{length, take, drop, set, length-append, take-append-drop, length-drop}
-use lib.Seq.{length-take-le, take-all, take-add, take-at, drop-at, take-take, drop-drop, take-append-le, drop-append-le, drop-append-add, set-split, append-snoc}
+use lib.Seq.{length-take-le, take-all, take-add, take-at, drop-at, take-take, drop-drop, take-append-le}
+use lib.Seq.{drop-append-le, drop-append-add, set-split, append-snoc}
 use Rattle.laws.specs.Lists.{put}
 
 module _ {ℓ} {A : Type ℓ} where
@@ -26,11 +27,13 @@ module _ {ℓ} {A : Type ℓ} where
       let here : length front ≡ place + length xs =
       length-append (take place buffer) xs ∙ ap (λ (n : ℕ). n + length xs) (length-take-le place buffer within) in
       let rest : drop (place + length xs + length ys) (front ++ back) ≡ drop (place + length xs + length ys) buffer =
-      ap (λ (n : ℕ). drop (n + length ys) (front ++ back)) (sym here) ∙ drop-append-add front back (length ys) ∙ drop-drop (length ys) (place + length xs) buffer in
+      ap (λ (n : ℕ). drop (n + length ys) (front ++ back)) (sym here) ∙ drop-append-add front back (length ys)
+      ∙ drop-drop (length ys) (place + length xs) buffer in
       rw (take-at front back (place + length xs) here, rest, length-append xs ys, ← add-assoc place (length xs) (length ys)) (simp append-assoc)
 
   -- a text goes on after what was put, where what was put, and where it ends, is known by name
-  pub put-on : (buffer after xs ys : List A) (place next : ℕ) → place ≤ length buffer → after ≡ put buffer place xs → next ≡ place + length xs → put after next ys ≡ put buffer place (xs ++ ys)
+  pub put-on : (buffer after xs ys : List A) (place next : ℕ) → place ≤ length buffer
+      → after ≡ put buffer place xs → next ≡ place + length xs → put after next ys ≡ put buffer place (xs ++ ys)
   put-on buffer after xs ys place next within is there = rw (is, there) (put-after buffer xs ys place within)
 
   -- a store, and a text after it
@@ -39,14 +42,17 @@ module _ {ℓ} {A : Type ℓ} where
       rw (put-one buffer place a within, ← add-one place) (put-after buffer (a ∷ []) text place (omega arith))
 
   -- a text is put in front of what was put
-  pub put-before : (buffer xs ys : List A) (place : ℕ) → place + length xs + length ys ≤ length buffer → put (put buffer (place + length xs) ys) place xs ≡ put buffer place (xs ++ ys)
+  pub put-before : (buffer xs ys : List A) (place : ℕ) → place + length xs + length ys ≤ length buffer
+      → put (put buffer (place + length xs) ys) place xs ≡ put buffer place (xs ++ ys)
   put-before buffer xs ys place within =
       let front = take (place + length xs) buffer in
       let back = ys ++ drop (place + length xs + length ys) buffer in
       let here : length front ≡ place + length xs = length-take-le (place + length xs) buffer (omega arith) in
       let first : take place (front ++ back) ≡ take place buffer =
       take-append-le place front back (omega arith) ∙ take-take place (place + length xs) buffer (omega arith) in
-      rw (append-assoc front ys _, first, drop-at front back (place + length xs) here, length-append xs ys, ← add-assoc place (length xs) (length ys)) (simp append-assoc)
+      rw
+      (append-assoc front ys _, first, drop-at front back (place + length xs) here, length-append xs ys, ← add-assoc place (length xs) (length ys))
+      (simp append-assoc)
 
   -- a buffer keeps its length
   pub length-put : (buffer xs : List A) (place : ℕ) → place + length xs ≤ length buffer → length (put buffer place xs) ≡ length buffer
@@ -55,11 +61,14 @@ module _ {ℓ} {A : Type ℓ} where
       simp (length-append, length-drop) (omega arith)
 
   -- a text, one element more, and a text after it
-  pub put-joined : (buffer xs ys : List A) (place : ℕ) (a : A) → place + length xs + 1 ≤ length buffer → put (set (put buffer place xs) (place + length xs) a) (place + length xs + 1) ys ≡ put buffer place (xs ++ a ∷ ys)
+  pub put-joined : (buffer xs ys : List A) (place : ℕ) (a : A) → place + length xs + 1 ≤ length buffer
+      → put (set (put buffer place xs) (place + length xs) a) (place + length xs + 1) ys ≡ put buffer place (xs ++ a ∷ ys)
   put-joined buffer xs ys place a within =
       let kept : length (put buffer place xs) ≡ length buffer = length-put buffer xs place (omega arith) in
-      let longer : place + length (xs ++ a ∷ []) ≡ place + length xs + 1 = ap (λ (n : ℕ). place + n) (length-append xs (a ∷ [])) ∙ sym (add-assoc place (length xs) 1) in
-      ap (λ (b : List A). put b (place + length xs + 1) ys) (put-one (put buffer place xs) (place + length xs) a (omega arith) ∙ put-after buffer xs (a ∷ []) place (omega arith))
+      let longer : place + length (xs ++ a ∷ []) ≡ place + length xs + 1 =
+      ap (λ (n : ℕ). place + n) (length-append xs (a ∷ [])) ∙ sym (add-assoc place (length xs) 1) in
+      ap (λ (b : List A). put b (place + length xs + 1) ys)
+      (put-one (put buffer place xs) (place + length xs) a (omega arith) ∙ put-after buffer xs (a ∷ []) place (omega arith))
       ∙ ap (λ (n : ℕ). put (put buffer place (xs ++ a ∷ [])) n ys) (sym longer)
       ∙ put-after buffer (xs ++ a ∷ []) ys place (omega arith)
       ∙ ap (put buffer place) (append-snoc xs a ys)
@@ -76,7 +85,8 @@ module _ {ℓ} {A : Type ℓ} where
       rw (drop-append-le place xs ys (omega arith)) (take-append-le n (drop place xs) ys (simp length-drop (omega arith)))
 
   -- what was put leaves what stands before it
-  pub put-keeps-before : (buffer xs : List A) (place n from : ℕ) → from + n ≤ place → place ≤ length buffer → take n (drop from (put buffer place xs)) ≡ take n (drop from buffer)
+  pub put-keeps-before : (buffer xs : List A) (place n from : ℕ) → from + n ≤ place → place ≤ length buffer
+      → take n (drop from (put buffer place xs)) ≡ take n (drop from buffer)
   put-keeps-before buffer xs place n from before within =
       let here : length (take place buffer) ≡ place = length-take-le place buffer within in
       let back = drop (place + length xs) buffer in
@@ -86,7 +96,8 @@ module _ {ℓ} {A : Type ℓ} where
       ∙ rw (take-append-drop place buffer))
 
   -- what was put leaves all that stands after it
-  pub put-keeps-after : (buffer xs : List A) (place from : ℕ) → place + length xs ≤ from → place ≤ length buffer → drop from (put buffer place xs) ≡ drop from buffer
+  pub put-keeps-after : (buffer xs : List A) (place from : ℕ) → place + length xs ≤ from → place ≤ length buffer
+      → drop from (put buffer place xs) ≡ drop from buffer
   put-keeps-after buffer xs place from past within =
       let front = take place buffer ++ xs in
       let here : length front ≡ place + length xs =
@@ -104,10 +115,12 @@ module _ {ℓ} {A : Type ℓ} where
       rw (take-add place n buffer) (drop-at (take place buffer) (take n (drop place buffer)) place (length-take-le place buffer within))
 
   -- a text put after what stands from a place on: from there on it is what stood there, then the text
-  pub put-grows : (buffer xs : List A) (place n : ℕ) → place + n ≤ length buffer → take (n + length xs) (drop place (put buffer (place + n) xs)) ≡ take n (drop place buffer) ++ xs
+  pub put-grows : (buffer xs : List A) (place n : ℕ) → place + n ≤ length buffer
+      → take (n + length xs) (drop place (put buffer (place + n) xs)) ≡ take n (drop place buffer) ++ xs
   put-grows buffer xs place n within =
       let front : length (take (place + n) buffer) ≡ place + n = length-take-le (place + n) buffer within in
-      let long : length (take (place + n) buffer ++ xs) ≡ place + n + length xs = length-append (take (place + n) buffer) xs ∙ ap (λ (k : ℕ). k + length xs) front in
+      let long : length (take (place + n) buffer ++ xs) ≡ place + n + length xs =
+      length-append (take (place + n) buffer) xs ∙ ap (λ (k : ℕ). k + length xs) front in
       let some : length (take n (drop place buffer)) ≡ n = length-take-le n (drop place buffer) (simp length-drop (omega arith)) in
       part-joined (n + length xs) place (take (place + n) buffer ++ xs) (drop (place + n + length xs) buffer) (omega arith)
       ∙ rw (drop-append-le place (take (place + n) buffer) xs (omega arith), take-from buffer place n (omega arith))

@@ -50,8 +50,14 @@ module _ (byte : ℕ) (e : asItIs byte ≡ true) where
 
 -- the whole of what it does
 pub fed-as-it-is : (line : List ℕ) (before : Course) (buffer : List ℕ) (byte count : ℕ) (after : List ℕ)
-    → length line ≡ 16 → before .written < length buffer → (asItIs byte && not (before .held)) ≡ true → take count after ≡ kept (take (before .count) line ++ byte ∷ [])
-    → FedByte line before buffer byte after (record { count = count; held = before .held; taken = before .taken + 1; written = before .written + 1 }) (set buffer (before .written) byte)
+    → length line ≡ 16 → before .written < length buffer → (asItIs byte && not (before .held)) ≡ true
+    → take count after ≡ kept (take (before .count) line ++ byte ∷ [])
+    → FedByte line before buffer byte after (record {
+      count = count;
+      held = before .held;
+      taken = before .taken + 1;
+      written = before .written + 1;
+    }) (set buffer (before .written) byte)
 fed-as-it-is line before buffer byte count after sixteen within plain more =
     let e : asItIs byte ≡ true = first-of (asItIs byte) (not (before .held)) plain in
     let none : before .held ≡ false = is-not (before .held) (second-of (asItIs byte) (not (before .held)) plain) in

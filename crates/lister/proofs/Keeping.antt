@@ -26,7 +26,8 @@ module _ (line : List ℕ) (count : ℕ) (sixteen : length line ≡ 16) where
   unfolding kept
   keep-more byte room =
       let within : count < length line = omega arith in
-      let few : length (take count line ++ byte ∷ []) ≤ 16 = omega (arith, length-append (take count line) (byte ∷ []), length-take-le count line (omega arith)) in
+      let few : length (take count line ++ byte ∷ []) ≤ 16 =
+      omega (arith, length-append (take count line) (byte ∷ []), length-take-le count line (omega arith)) in
       rw add-one (take-suc-set line count byte within ∙ sym (take-all 16 (take count line ++ byte ∷ []) few))
 
   -- what is kept is kept
@@ -46,7 +47,9 @@ module _ (text : List ℕ) (held : Bool) (byte : ℕ) where
   next-held before return e = rw (return, e)
 
   -- where the listing stands after any other byte
-  pub next-kept : (before after : List ℕ) → (byte ≡ 10 → ⊥) → (byte ≡ 13 → ⊥) → before ≡ kept (text ++ heldBytes held) → after ≡ kept (before ++ byte ∷ []) → stand after (eqb byte 13) ≡ next (stand text held) byte
+  pub next-kept : (before after : List ℕ) → (byte ≡ 10 → ⊥) → (byte ≡ 13 → ⊥)
+      → before ≡ kept (text ++ heldBytes held) → after ≡ kept (before ++ byte ∷ [])
+      → stand after (eqb byte 13) ≡ next (stand text held) byte
   unfolding next kept
   next-kept before after no-feed no-return e f =
       let joined : after ≡ kept (text ++ heldBytes held ++ byte ∷ []) = f ∙ rw e (take-joined 16 (text ++ heldBytes held) (byte ∷ [])) in

@@ -78,9 +78,13 @@ some-taken s room (byte ∷ input) enough some = rw (le-leb mostWritten room eno
 pub written-within : (s : Stand) (room : ℕ) (input : List ℕ) → length (writesAll s (take (takenOf s room input) input)) ≤ room
 unfolding takenOf writesAll
 written-within s room [] = omega arith
-written-within s room (byte ∷ input) = by-test (leb mostWritten room) (takenOf (next s byte) (room - length (writes s byte)) input) refl (written-within (next s byte) (room - length (writes s byte)) input)
+written-within s room (byte ∷ input) =
+    by-test (leb mostWritten room) (takenOf (next s byte) (room - length (writes s byte)) input) refl
+    (written-within (next s byte) (room - length (writes s byte)) input)
   where
-    by-test : (b : Bool) (n : ℕ) → leb mostWritten room ≡ b → length (writesAll (next s byte) (take n input)) ≤ room - length (writes s byte) → length (writesAll s (take (pick b (suc n) 0) (byte ∷ input))) ≤ room
+    by-test : (b : Bool) (n : ℕ) → leb mostWritten room ≡ b
+        → length (writesAll (next s byte) (take n input)) ≤ room - length (writes s byte)
+        → length (writesAll s (take (pick b (suc n) 0) (byte ∷ input))) ≤ room
     by-test true n e less =
         omega (arith, length-append (writes s byte) (writesAll (next s byte) (take n input)), writes-short s byte, leb-true mostWritten room e)
     by-test false n e less = omega arith
@@ -92,7 +96,8 @@ fed-within s input buffer fed after f =
     (rw (f .taken) (taken-within s (length buffer) input), omega (arith, f .wrote .ends, written-within s (length buffer) input))
 
 -- `feed` takes and writes so much and no other, leaves one buffer, and stands at one place
-pub fed-one : (s : Stand) (input buffer : List ℕ) (n : ℕ) (a b : Fed) (after other : List ℕ) → FedAll s input buffer n a after → FedAll s input buffer n b other
+pub fed-one : (s : Stand) (input buffer : List ℕ) (n : ℕ) (a b : Fed) (after other : List ℕ)
+    → FedAll s input buffer n a after → FedAll s input buffer n b other
     → (a .taken ≡ b .taken) × (a .written ≡ b .written) × (standOf (a .lister) ≡ standOf (b .lister)) × (after ≡ other)
 fed-one s input buffer n a b after other p q =
     (p .taken ∙ sym (q .taken), p .wrote .ends ∙ sym (q .wrote .ends), p .stands ∙ sym (q .stands), p .wrote .holds ∙ sym (q .wrote .holds))

@@ -24,4 +24,9 @@ pub writes-short : (s : Stand) (byte : ℕ) → length (writes s byte) ≤ mostW
 unfolding writes
 writes-short (stand text held) byte =
     pick-short (eqb byte lineFeed) (verdictOf text) _ mostWritten (omega (arith, verdict-short text))
-    (omega (arith, length-append (heldShown held) (pick (eqb byte 13) [] (shownByte byte)), held-length held, pick-short (eqb byte 13) [] (shownByte byte) 4 (omega arith) (shown-short byte)))
+    (omega (
+      arith,
+      length-append (heldShown held) (pick (eqb byte 13) [] (shownByte byte)),
+      held-length held,
+      pick-short (eqb byte 13) [] (shownByte byte) 4 (omega arith) (shown-short byte),
+    ))

@@ -171,8 +171,11 @@ listed (byte ∷ input) body line held is-line ends =
     (λ longer more after e f. listed input longer more after e f)
   where
     by-byte : (feed return : Bool) → eqb byte lineFeed ≡ feed → eqb byte carriageReturn ≡ return
-        → ((longer more : List ℕ) (after : Bool) → more ≡ longer ++ heldBytes after → withoutReturn more ≡ longer → shown longer ++ Rest (stand (kept longer) after) input ≡ listedFrom more input)
+        → ((longer more : List ℕ) (after : Bool) → more ≡ longer ++ heldBytes after → withoutReturn more ≡ longer
+        → shown longer ++ Rest (stand (kept longer) after) input ≡ listedFrom more input)
         → shown body ++ Rest (stand (kept body) held) (byte ∷ input) ≡ listedFrom line (byte ∷ input)
     by-byte true return e f rest = list-line body line held byte input e ends (list-fresh input (rest [] [] false refl none-dropped))
     by-byte false true e f rest = list-return body line held is-line byte input e f (rest line (line ++ carriageReturn ∷ []) true refl (return-dropped line))
-    by-byte false false e f rest = list-other body line held is-line byte input e f (rest (line ++ byte ∷ []) (line ++ byte ∷ []) false (sym (append-nil (line ++ byte ∷ []))) (other-stays line byte f))
+    by-byte false false e f rest =
+        list-other body line held is-line byte input e f
+        (rest (line ++ byte ∷ []) (line ++ byte ∷ []) false (sym (append-nil (line ++ byte ∷ []))) (other-stays line byte f))

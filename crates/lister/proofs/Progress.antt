@@ -26,10 +26,13 @@ next-joined s (byte ∷ input) more = next-joined (next s byte) input more
 pub writes-joined : (s : Stand) (input more : List ℕ) → writesAll s (input ++ more) ≡ writesAll s input ++ writesAll (nextAll s input) more
 unfolding nextAll writesAll
 writes-joined s [] more = refl
-writes-joined s (byte ∷ input) more = rw (writes-joined (next s byte) input more) (sym (append-assoc (writes s byte) (writesAll (next s byte) input) (writesAll (nextAll (next s byte) input) more)))
+writes-joined s (byte ∷ input) more =
+    rw (writes-joined (next s byte) input more)
+    (sym (append-assoc (writes s byte) (writesAll (next s byte) input) (writesAll (nextAll (next s byte) input) more)))
 
 -- a byte is taken where there is room for whatever it may write
-taken-byte : (s : Stand) (room byte : ℕ) (input : List ℕ) → mostWritten ≤ room → takenOf s room (byte ∷ input) ≡ suc (takenOf (next s byte) (room - length (writes s byte)) input)
+taken-byte : (s : Stand) (room byte : ℕ) (input : List ℕ) → mostWritten ≤ room
+    → takenOf s room (byte ∷ input) ≡ suc (takenOf (next s byte) (room - length (writes s byte)) input)
 unfolding takenOf
 taken-byte s room byte input enough = rw (le-leb mostWritten room enough)
 
@@ -53,7 +56,8 @@ taken-run s room [] rest enough =
     rw all (omega arith)
 taken-run s room (byte ∷ bytes) rest enough =
     let joined = length-append (writes s byte) (writesAll (next s byte) bytes) in
-    let less : room - length (writes s byte) - length (writesAll (next s byte) bytes) ≡ room - length (writes s byte ++ writesAll (next s byte) bytes) = omega (arith, joined) in
+    let less : room - length (writes s byte) - length (writesAll (next s byte) bytes) ≡ room - length (writes s byte ++ writesAll (next s byte) bytes) =
+    omega (arith, joined) in
     taken-byte s room byte (bytes ++ rest) (omega arith)
     ∙ ap suc (taken-run (next s byte) (room - length (writes s byte)) bytes rest (omega (arith, joined)))
     ∙ rw less (omega arith)
@@ -73,7 +77,8 @@ byte-on line before input buffer kept course after some room f =
     rw (single, drop-cons input i 0 some) in
     let short = writes-short here byte in
     let less : length buffer - before .written - length (writes here byte) ≡ length buffer - course .written = omega (arith, f .wrote .ends) in
-    let step : takenOf here (length buffer - before .written) (drop i input) ≡ suc (takenOf (standAt kept course) (length buffer - course .written) (drop (course .taken) input)) =
+    let step : takenOf here (length buffer - before .written) (drop i input)
+    ≡ suc (takenOf (standAt kept course) (length buffer - course .written) (drop (course .taken) input)) =
     rw (drop-cons input i 0 some)
     (taken-byte here (length buffer - before .written) byte (drop (suc i) input) (omega arith)
     ∙ rw (less, f .stands, one)) in
@@ -138,12 +143,18 @@ module _ (s : Stand) (input buffer line : List ℕ) (course : Course) (out : Lis
 
   -- where no byte is left, or no room, what was taken is all that is taken
   pub progress-end : (length input ≤ course .taken) ⊎ (length buffer - course .written < 32)
-      → FedAll s input buffer (takenOf s (length buffer) input) (record { lister = record { line = line; count = course .count; held = course .held }; taken = course .taken; written = course .written }) out
+      → FedAll s input buffer (takenOf s (length buffer) input) (record {
+        lister = record { line = line; count = course .count; held = course .held };
+        taken = course .taken;
+        written = course .written;
+      }) out
   progress-end ends =
       let all : takenOf s (length buffer) input ≡ course .taken =
       ⊎-elim
-      (λ (past : length input ≤ course .taken). omega (arith, p .rest, taken-end (standAt line course) (length buffer - course .written) input (course .taken) past))
-      (λ (short : length buffer - course .written < 32). omega (arith, p .rest, taken-none (standAt line course) (length buffer - course .written) (drop (course .taken) input) short))
+      (λ (past : length input ≤ course .taken). omega
+      (arith, p .rest, taken-end (standAt line course) (length buffer - course .written) input (course .taken) past))
+      (λ (short : length buffer - course .written < 32). omega
+      (arith, p .rest, taken-none (standAt line course) (length buffer - course .written) (drop (course .taken) input) short))
       ends in
       record {
         taken = sym all;

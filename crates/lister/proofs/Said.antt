@@ -64,9 +64,11 @@ letter-shown : (c : Capcode) → Sayable c → shownByte (c .letter) ≡ c .lett
 letter-shown c sayable =
     ⊎-elim
     (λ (s : standard (c .letter) ≡ true).
-    plain-shown (c .letter) (omega (arith, leb-true 65 (c .letter) (first-of _ _ s))) (omega (arith, leb-true (c .letter) 76 (second-of (leb 65 (c .letter)) _ s))))
+    plain-shown (c .letter) (omega (arith, leb-true 65 (c .letter) (first-of _ _ s)))
+    (omega (arith, leb-true (c .letter) 76 (second-of (leb 65 (c .letter)) _ s))))
     (λ (f : framed (c .letter) ≡ true).
-    plain-shown (c .letter) (omega (arith, leb-true 85 (c .letter) (first-of _ _ f))) (omega (arith, leb-true (c .letter) 90 (second-of (leb 85 (c .letter)) _ f))))
+    plain-shown (c .letter) (omega (arith, leb-true 85 (c .letter) (first-of _ _ f)))
+    (omega (arith, leb-true (c .letter) 90 (second-of (leb 85 (c .letter)) _ f))))
     (either-of _ _ (sayable .letter))
 
 -- the text of a CAPCODE is shown as it is

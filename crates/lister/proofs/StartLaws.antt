@@ -21,7 +21,8 @@ written-tells (Written.Refused r) (Written.Length m) e = absurd (given-not-refus
 written-tells (Written.Refused r) (Written.Refused q) e = ap Written.Refused (refused-tells r q e)
 
 -- a length that is told lies within the buffer
-pub told-within : (buffer text : List ℕ) (written : Written) (after : List ℕ) (n : ℕ) → Answered buffer text written after → written ≡ Written.Length n → n ≤ length buffer
+pub told-within : (buffer text : List ℕ) (written : Written) (after : List ℕ) (n : ℕ)
+    → Answered buffer text written after → written ≡ Written.Length n → n ≤ length buffer
 told-within buffer text written after n a e = by-test (ltb (length buffer) (length text)) refl (ap toldWritten (sym e) ∙ a .tells)
   where
     by-test : (b : Bool) → ltb (length buffer) (length text) ≡ b → given (n ∷ []) ≡ ask b Room (given (length text ∷ [])) → n ≤ length buffer
@@ -31,5 +32,6 @@ told-within buffer text written after n a e = by-test (ltb (length buffer) (leng
         omega (arith, ltb-false (length buffer) (length text) h)
 
 -- `close` and `title` have one answer, and leave one buffer
-pub answered-one : (buffer text : List ℕ) (a b : Written) (after other : List ℕ) → Answered buffer text a after → Answered buffer text b other → (a ≡ b) × (after ≡ other)
+pub answered-one : (buffer text : List ℕ) (a b : Written) (after other : List ℕ) → Answered buffer text a after
+    → Answered buffer text b other → (a ≡ b) × (after ≡ other)
 answered-one buffer text a b after other p q = (written-tells a b (p .tells ∙ sym (q .tells)), p .holds ∙ sym (q .holds))

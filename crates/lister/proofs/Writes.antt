@@ -16,7 +16,8 @@ use Rattle.lister.specs.declared.Written.{Written}
 use Rattle.lister.specs.Portions.{kept, heldBytes, heldShown, writes, closedText, closes}
 
 -- the same text by another name
-pub wrote-same : (buffer : List ℕ) (place : ℕ) (text other : List ℕ) (end : ℕ) (after : List ℕ) → text ≡ other → Wrote buffer place text end after → Wrote buffer place other end after
+pub wrote-same : (buffer : List ℕ) (place : ℕ) (text other : List ℕ) (end : ℕ) (after : List ℕ) → text ≡ other
+    → Wrote buffer place text end after → Wrote buffer place other end after
 wrote-same buffer place text other end after e w = rw e at w
 
 -- nothing written
@@ -83,5 +84,6 @@ module _ (text : List ℕ) (held : Bool) (whole : List ℕ) (is-whole : whole �
       by-bytes (b ∷ whole) some = refl
 
 -- the same text, answered by another name
-pub answered-same : (buffer text other : List ℕ) (written : Written) (after : List ℕ) → text ≡ other → Answered buffer text written after → Answered buffer other written after
+pub answered-same : (buffer text other : List ℕ) (written : Written) (after : List ℕ) → text ≡ other
+    → Answered buffer text written after → Answered buffer other written after
 answered-same buffer text other written after e a = rw e at a

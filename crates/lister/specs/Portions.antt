@@ -85,7 +85,8 @@ pub record FedByte (line : List ℕ) (before : Course) (buffer : List ℕ) (byte
   pub stands : standAt kept course ≡ next (standAt line before) byte
   pub wrote : Wrote buffer (before .written) (writes (standAt line before) byte) (course .written) after
 
--- the line of a text that is ahead, n bytes long: it begins here, ends with a line feed, and there is room for 15 bytes of text, 23 of its end, and whatever one byte more may write
+-- the line of a text that is ahead, n bytes long: it begins here, ends with a line feed, and there is room for 15
+-- bytes of text, 23 of its end, and whatever one byte more may write
 pub record Ahead (course : Course) (input : List ℕ) (room n : ℕ) : Type 0 where
   pub begins : (course .count ≡ 0) × (course .held ≡ false)
   pub roomy : 70 ≤ room

@@ -10,7 +10,8 @@ ghost use Rattle.lister.specs.Stands.{stand, standOf};
 ghost use Rattle.lister.specs.Texts.{Wrote};
 ghost use Rattle.lister.specs.Verdicts.{lineFeed, hexDigit, verdictOf};
 ghost use Rattle.lister.specs.Lines.{shownByte};
-ghost use Rattle.lister.specs.Portions.{standAt, kept, heldBytes, heldShown, writes, next, mostWritten, takenOf, asItIs, FedByte, Ahead, LineWritten, FedOn, FedAll};
+ghost use Rattle.lister.specs.Portions.{standAt, kept, heldBytes, heldShown, writes, next, mostWritten, takenOf};
+ghost use Rattle.lister.specs.Portions.{asItIs, FedByte, Ahead, LineWritten, FedOn, FedAll};
 use crate::Fed;
 use crate::Lister;
 use crate::Written;
@@ -248,7 +249,8 @@ fn feed_some(line: &mut [u8], course: Course, input: &[u8], out: &mut [u8]) -> C
 // Takes the bytes of a portion while the buffer has room for whatever one byte may write, and writes the
 // listing of what was taken at the buffer's start. With room for 32 bytes at least one byte is taken.
 pub fn feed(lister: Lister, input: &[u8], out: &mut [u8]) -> Fed
-    ensures { λ r. ⌜ FedAll (standOf lister) (now (input .entry)) (now (out .entry)) (takenOf (standOf lister) (length (now (out .entry))) (now (input .entry))) r (now (out .exit)) ⌝ }
+    ensures { λ r. ⌜ FedAll (standOf lister) (now (input .entry)) (now (out .entry))
+        (takenOf (standOf lister) (length (now (out .entry))) (now (input .entry))) r (now (out .exit)) ⌝ }
 {
     let mut line = lister.line;
     let mut course = Course {

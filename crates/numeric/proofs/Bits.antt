@@ -77,7 +77,9 @@ abbrev pub aboveOf : Set → Bool → List ℕ → List ℕ → ℕ
 aboveOf set numbered flags text = packed (aboveK numbered) flags + 2 ^ size (aboveK numbered) * codesOf set (filled numbered text)
 
 -- K5 and K4 are the lowest bits
-pub row-with : (set : Set) (numbered : Bool) (flags text : List ℕ) (k : ℕ) → fit (headOf numbered) (flags ++ 0 ∷ []) ≡ true → k < 4 → rowOf set numbered (flags ++ k ∷ []) text ≡ aboveOf set numbered flags text * 4 + k
+pub row-with : (set : Set) (numbered : Bool) (flags text : List ℕ) (k : ℕ)
+    → fit (headOf numbered) (flags ++ 0 ∷ []) ≡ true → k < 4
+    → rowOf set numbered (flags ++ k ∷ []) text ≡ aboveOf set numbered flags text * 4 + k
 row-with set true flags text k e h = omega (arith, packed-last (aboveK true) flags 2 k tt tt (flags-fit true flags e) h)
 row-with set false flags text k e h = omega (arith, packed-last (aboveK false) flags 2 k tt tt (flags-fit false flags e) h)
 
@@ -123,7 +125,11 @@ module _ (set : Set) (numbered : Bool) (flags text : List ℕ) (e : fit (headOf 
   head-read =
       let head = headSent set numbered flags text in
       read-ending (headOf numbered) head _ (laid-head numbered) head-fits
-      (rw (first-word numbered (length text) (rowOf set numbered head text), in-first numbered (rowOf set numbered head text), add-mul-mod-self-left (packed (headOf numbered) head) (2 ^ size (headOf numbered)) (codesOf set (filled numbered text)))
+      (rw (
+        first-word numbered (length text) (rowOf set numbered head text),
+        in-first numbered (rowOf set numbered head text),
+        add-mul-mod-self-left (packed (headOf numbered) head) (2 ^ size (headOf numbered)) (codesOf set (filled numbered text)),
+      )
       (mod-eq-of-lt head-lt))
 
   -- the words with K as 0, whatever K5 and K4 are
@@ -166,7 +172,8 @@ known-back set (c ∷ text) known =
     (place-found set c (ltb-true (placeIn set c) (length set) (first-of test (inSet set text) known)))
     (known-back set text (second-of test (inSet set text) known))
 
-module _ (set : Set) (numbered : Bool) (flags text : List ℕ) (e : fit (headOf numbered) (flags ++ 0 ∷ []) ≡ true) (sixteen : length set ≡ 16) (known : inSet set (filled numbered text) ≡ true) where
+module _ (set : Set) (numbered : Bool) (flags text : List ℕ) (e : fit (headOf numbered) (flags ++ 0 ∷ []) ≡ true)
+    (sixteen : length set ≡ 16) (known : inSet set (filled numbered text) ≡ true) where
   -- the codes of the text and its spaces are digits
   pub codes-digits : areDigits 16 (map (placeIn set) (filled numbered text)) ≡ true
   codes-digits = codes-are set (filled numbered text) sixteen known
@@ -182,9 +189,14 @@ module _ (set : Set) (numbered : Bool) (flags text : List ℕ) (e : fit (headOf 
       (rw codes-length at (number-below 16 (map (placeIn set) (filled numbered text)) codes-digits))
 
   -- the page's bits are those of the head and the room
-  pub row-below : rowOf set numbered (headSent set numbered flags text) text < 2 ^ (4 * roomOf numbered (wordsFor numbered (length text)) + size (headOf numbered))
+  pub row-below : rowOf set numbered (headSent set numbered flags text) text < 2 ^
+      (4 * roomOf numbered (wordsFor numbered (length text)) + size (headOf numbered))
   row-below =
-      rw (pow-add 2 (4 * roomOf numbered (wordsFor numbered (length text))) (size (headOf numbered)), add-comm (packed (headOf numbered) (headSent set numbered flags text)) _, mul-comm (2 ^ size (headOf numbered)) _)
+      rw (
+        pow-add 2 (4 * roomOf numbered (wordsFor numbered (length text))) (size (headOf numbered)),
+        add-comm (packed (headOf numbered) (headSent set numbered flags text)) _,
+        mul-comm (2 ^ size (headOf numbered)) _,
+      )
       (digits-lt codes-lt (head-lt set numbered flags text e))
 
   -- the page's bits are no more than those of the words

@@ -88,5 +88,6 @@ module _ (text : List ℕ) (room i : ℕ) where
   -- after the room there are no codes
   pub no-more : length text ≤ room → room ≤ i → 0 ≡ getD (map (placeIn standardSet) (spaced room text)) i 0
   no-more fits past =
-      let done : length (map (placeIn standardSet) (spaced room text)) ≤ i = rw (length-map (spaced room text) (placeIn standardSet), length-spaced fits) past in
+      let done : length (map (placeIn standardSet) (spaced room text)) ≤ i =
+      rw (length-map (spaced room text) (placeIn standardSet), length-spaced fits) past in
       sym (List·getD-eq-default (map (placeIn standardSet) (spaced room text)) 0 done)

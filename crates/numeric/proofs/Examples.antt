@@ -65,7 +65,8 @@ pub standard-read : readOf standardSet 4 3 6 (0x01C503 ∷ []) ≡ given (0 ∷ 
 unfolding readOf sumBy all
 standard-read = refl
 
--- what is read of the word with all bits after the characters set: the groups 00H, C5H and 1DH make 226; 3 and 34 make 37; K is 26, 10 in the vector and 1 in the word
+-- what is read of the word with all bits after the characters set: the groups 00H, C5H and 1DH make 226; 3 and 34
+-- make 37; K is 26, 10 in the vector and 1 in the word
 pub left-over-example : readOf standardSet 4 3 10 (0x1DC501 ∷ []) ≡ given (0 ∷ 0 ∷ 0 ∷ 4 ∷ [])
 unfolding readOf sumBy all
 left-over-example = refl
@@ -75,7 +76,8 @@ pub left-over-text : textIn standardSet false (0x1DC501 ∷ []) ≡ bytesOf "041
 unfolding standardSet textIn number digits
 left-over-text = refl
 
--- "0417" numbered, S and R set, N 5: two words, of which the first has N at i2, R at i8, S at i9 and the characters from i10 on, and the second begins with the highest bit of "1";
+-- "0417" numbered, S and R set, N 5: two words, of which the first has N at i2, R at i8, S at i9 and the characters
+-- from i10 on, and the second begins with the highest bit of "1";
 -- the groups 14H, 03H, 05H and 8EH, 99H, 19H make 348, of which 92 is taken; 1 and 28 make 29; K is 34, 2 in the vector and 2 in the word
 pub numbered-example : writtenOf standardSet 2 7 (numbers 1 1 5) (bytesOf "0417") ≡ given (2 ∷ 2 ∷ [])
 unfolding standardSet writtenOf pageOf checkOf wordsWith placeIn number digits sumBy inSet all
@@ -98,7 +100,8 @@ numbered-text = refl
 
 -- the text and its spaces are read back as the law says, whose premises hold here
 pub numbered-back : textIn standardSet true (pageFor standardSet 7 (numbers 1 1 5) (bytesOf "0417")) ≡ filled true (bytesOf "0417")
-numbered-back = read-written standardSet 2 8 7 (numbers 1 1 5) (bytesOf "0417") usable-standard (ap numberTold numbered-example) (rw numbered-words (omega arith)) .1
+numbered-back =
+    read-written standardSet 2 8 7 (numbers 1 1 5) (bytesOf "0417") usable-standard (ap numberTold numbered-example) (rw numbered-words (omega arith)) .1
 
 -- lent words after the page stay as they were
 pub words-after : wordsAfter standardSet 3 none (bytesOf "0417") (7 ∷ 8 ∷ []) ≡ 0x01C503 ∷ 8 ∷ []
@@ -232,7 +235,8 @@ unfolding textIn number digits
 character-misread = refl
 
 -- a number too large for its bits runs over into the first character: "0" with S 24 has the word of the empty text
-pub head-needed : pageOf standardSet true (24 ∷ 0 ∷ 0 ∷ []) (bytesOf "0") ∷ pageOf standardSet true (0 ∷ 0 ∷ 0 ∷ []) [] ∷ [] ≡ (0x033000 ∷ []) ∷ (0x033000 ∷ []) ∷ []
+pub head-needed : pageOf standardSet true (24 ∷ 0 ∷ 0 ∷ []) (bytesOf "0") ∷ pageOf standardSet true (0 ∷ 0 ∷ 0 ∷ []) [] ∷ []
+    ≡ (0x033000 ∷ []) ∷ (0x033000 ∷ []) ∷ []
 unfolding standardSet pageOf checkOf wordsWith placeIn number digits sumBy
 head-needed = refl
 
@@ -247,6 +251,7 @@ unfolding standardSet textIn number digits
 zero-misread = refl
 
 -- a text too long has nine words, which are not read
-pub short-needed : readOf standardSet 46 3 (checkFor standardSet 3 none (replicate 42 (code "1"))) (pageFor standardSet 3 none (replicate 42 (code "1"))) ≡ refused refusals.Size
+pub short-needed : readOf standardSet 46 3 (checkFor standardSet 3 none (replicate 42 (code "1"))) (pageFor standardSet 3 none (replicate 42 (code "1")))
+    ≡ refused refusals.Size
 unfolding standardSet readOf pageOf checkOf wordsWith placeIn number digits sumBy
 short-needed = refl

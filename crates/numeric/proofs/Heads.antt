@@ -41,7 +41,8 @@ module _ (s r n : ℕ) where
   flags-small false e = let below = flags-below 0 0 e in omega arith
 
   -- a head is its numbers, each times the weight of its place
-  pub head-is : (numbered : Bool) → fit (headOf numbered) (s ∷ r ∷ n ∷ 0 ∷ []) ≡ true → packed (headOf numbered) (s ∷ r ∷ n ∷ 0 ∷ []) ≡ s * 512 + r * 256 + n * 4
+  pub head-is : (numbered : Bool) → fit (headOf numbered) (s ∷ r ∷ n ∷ 0 ∷ []) ≡ true
+      → packed (headOf numbered) (s ∷ r ∷ n ∷ 0 ∷ []) ≡ s * 512 + r * 256 + n * 4
   head-is true e =
       let three = first-of (ltb s 2 && ltb r 2 && ltb n 64) true e in
       let two = first-of (ltb s 2 && ltb r 2) (ltb n 64) three in

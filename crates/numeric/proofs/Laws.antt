@@ -1,4 +1,5 @@
--- What document 01 promises of numeric pages, for any set of characters: what is accepted, how many words are used, K, that what was written is read, and that no zero is lost.
+-- What document 01 promises of numeric pages, for any set of characters: what is accepted, how many words are used,
+-- K, that what was written is read, and that no zero is lost.
 use Prim.Native.Nat.{ℕ, zero, suc, _+_, _-_, _*_, _/_, _%_, _^_, _≤_, _<_}
 use Prim.Native.Char.{code}
 use mathlib.Core.Bool.{Bool, true, false}
@@ -26,9 +27,12 @@ use Rattle.refusal.specs.Told.{refused, given, numberTold}
 use Rattle.refusal.proofs.Laws.{passed}
 use Rattle.numeric.specs.declared.Numbering.{Numbering}
 use Rattle.sums.specs.Words.{wordBits, undamaged}
-use Rattle.numeric.specs.Pages.{Set, standardSet, mostWords, headOf, roomOf, wordsFor, filled, rowOf, wordsWith, checkOf, inVector, pageOf, textIn, isNumbered, inSet, headed, checked}
+use Rattle.numeric.specs.Pages.{Set, standardSet, mostWords, headOf, roomOf, wordsFor, filled, rowOf, wordsWith}
+use Rattle.numeric.specs.Pages.{checkOf, inVector, pageOf, textIn, isNumbered, inSet, headed, checked}
 use Rattle.numeric.specs.Answers.{flagsOf, writtenOf, wordsAfter, asWritten, readOf, textAfter, asRead}
-use Rattle.numeric.proofs.Bits.{some-word, room-enough, page-length, filled-length, head-read, k-of-page, k-in-word, headSent, codes-digits, row-below, number-page, above-head, text-read}
+use Rattle.numeric.proofs.Bits.{some-word, room-enough, page-length, filled-length, head-read, k-of-page}
+use Rattle.numeric.proofs.Bits.{k-in-word, headSent, codes-digits, row-below, number-page, above-head}
+use Rattle.numeric.proofs.Bits.{text-read}
 
 -- a set of sixteen characters, the space among them
 pub record Usable (set : Set) : Type 0 where
@@ -59,7 +63,8 @@ eight-words false n short = omega arith
 
 -- a page has as many words as its text needs, at least one, and at most eight for a text within their room
 pub page-size : (set : Set) (numbered : Bool) (flags text : List ℕ) → length text ≤ roomOf numbered mostWords
-    → (length (pageOf set numbered flags text) ≡ wordsFor numbered (length text)) × (1 ≤ length (pageOf set numbered flags text)) × (length (pageOf set numbered flags text) ≤ mostWords)
+    → (length (pageOf set numbered flags text) ≡ wordsFor numbered (length text))
+    × (1 ≤ length (pageOf set numbered flags text)) × (length (pageOf set numbered flags text) ≤ mostWords)
 page-size set numbered flags text short =
     let words = page-length set numbered flags text in
     (words, rw words (some-word numbered (length text)), rw words (eight-words numbered (length text) short))
@@ -77,7 +82,8 @@ fewest numbered n = (room-enough numbered n, fewer-short numbered n)
 
 -- K as it is sent, in the vector and in the first word, is that of the words, and was taken with K as 0
 pub k-right : (set : Set) (numbered : Bool) (flags text : List ℕ) → fit (headOf numbered) (flags ++ 0 ∷ []) ≡ true
-    → (checked (inVector (checkOf set numbered flags text)) (pageOf set numbered flags text) ≡ true) × (sixBits (pageOf set numbered flags text) ≡ checkOf set numbered flags text)
+    → (checked (inVector (checkOf set numbered flags text)) (pageOf set numbered flags text) ≡ true)
+    × (sixBits (pageOf set numbered flags text) ≡ checkOf set numbered flags text)
 k-right set numbered flags text e =
     let k = k-of-page set numbered flags text e in
     (eq-eqb _ _ (k ∙ rw (k-in-word set numbered flags text e) (omega arith)), k)
@@ -101,7 +107,8 @@ pub record Accepted (set : Set) (lent kind : ℕ) (numbering : Numbering) (text 
 
 module _ (set : Set) (lent kind : ℕ) (numbering : Numbering) (text : List ℕ) where
   -- what is accepted is told with K for the vector and the number of words
-  pub accepted-told : Accepted set lent kind numbering text → writtenOf set lent kind numbering text ≡ given (checkFor set kind numbering text ∷ length (pageFor set kind numbering text) ∷ [])
+  pub accepted-told : Accepted set lent kind numbering text
+      → writtenOf set lent kind numbering text ≡ given (checkFor set kind numbering text ∷ length (pageFor set kind numbering text) ∷ [])
   unfolding writtenOf
   accepted-told a =
       rw (
@@ -132,7 +139,9 @@ module _ (set : Set) (lent kind : ℕ) (numbering : Numbering) (text : List ℕ)
           }
 
   -- a text of the set within the room of eight words is accepted where eight words are lent
-  pub room-kept : headed kind (flagsOf numbering) ≡ true → inSet set text ≡ true → length text ≤ roomOf (isNumbered kind) mostWords → mostWords ≤ lent → numberTold (writtenOf set lent kind numbering text) ≡ 0
+  pub room-kept : headed kind (flagsOf numbering) ≡ true → inSet set text ≡ true
+      → length text ≤ roomOf (isNumbered kind) mostWords → mostWords ≤ lent
+      → numberTold (writtenOf set lent kind numbering text) ≡ 0
   room-kept head known short eight =
       accepted .1
       (record {
@@ -143,7 +152,8 @@ module _ (set : Set) (lent kind : ℕ) (numbering : Numbering) (text : List ℕ)
       })
 
   -- a text over the room of eight words is too long, whatever its characters and however many words are lent
-  pub one-more : headed kind (flagsOf numbering) ≡ true → roomOf (isNumbered kind) mostWords < length text → writtenOf set lent kind numbering text ≡ refused refusals.TooLong
+  pub one-more : headed kind (flagsOf numbering) ≡ true → roomOf (isNumbered kind) mostWords < length text
+      → writtenOf set lent kind numbering text ≡ refused refusals.TooLong
   unfolding writtenOf
   one-more head long = rw (head, lt-ltb (roomOf (isNumbered kind) mostWords) (length text) long)
 
@@ -158,13 +168,16 @@ filled-known {set} {numbered} {text} usable fits =
     all-append test text _ ∙ rw (fits .known, all-replicate test (roomOf numbered (wordsFor numbered (length text)) - length text) (code " ") space)
 
 -- the text in a page's words is the text and its spaces
-pub text-back : {set : Set} {numbered : Bool} {flags text : List ℕ} → Usable set → Fits set numbered flags text → textIn set numbered (pageOf set numbered flags text) ≡ filled numbered text
+pub text-back : {set : Set} {numbered : Bool} {flags text : List ℕ} → Usable set → Fits set numbered flags text
+    → textIn set numbered (pageOf set numbered flags text) ≡ filled numbered text
 text-back {set} {numbered} {flags} {text} usable fits = text-read set numbered flags text (fits .head) (usable .sixteen) (filled-known usable fits)
 
 -- reading what was written gives the writer's own S, R and N, and the text and its spaces
-pub read-written : (set : Set) (lent room kind : ℕ) (numbering : Numbering) (text : List ℕ) → Usable set → numberTold (writtenOf set lent kind numbering text) ≡ 0
+pub read-written : (set : Set) (lent room kind : ℕ) (numbering : Numbering) (text : List ℕ) → Usable set
+    → numberTold (writtenOf set lent kind numbering text) ≡ 0
     → roomOf (isNumbered kind) (length (pageFor set kind numbering text)) ≤ room
-    → (readOf set room kind (checkFor set kind numbering text) (pageFor set kind numbering text) ≡ given (numbering .«special_format» ∷ numbering .retrieval ∷ numbering .«message_number» ∷ length (filled (isNumbered kind) text) ∷ []))
+    → (readOf set room kind (checkFor set kind numbering text) (pageFor set kind numbering text)
+    ≡ given (numbering .«special_format» ∷ numbering .retrieval ∷ numbering .«message_number» ∷ length (filled (isNumbered kind) text) ∷ []))
     × (textIn set (isNumbered kind) (pageFor set kind numbering text) ≡ filled (isNumbered kind) text)
 unfolding readOf
 read-written set lent room kind numbering text usable e enough =
@@ -193,7 +206,11 @@ pub there-and-back : (set : Set) (kind : ℕ) (numbering : Numbering) (text word
     → let written = asWritten (writtenOf set (length words) kind numbering text) in
     let page = take (written .words) (wordsAfter set kind numbering text words) in
     written .number ≡ 0 → roomOf (isNumbered kind) (written .words) ≤ length bytes
-    → (asRead (readOf set (length bytes) kind (written .check) page) ≡ record { number = 0; numbering = numbering; characters = length (filled (isNumbered kind) text) })
+    → (asRead (readOf set (length bytes) kind (written .check) page) ≡ record {
+      number = 0;
+      numbering = numbering;
+      characters = length (filled (isNumbered kind) text);
+    })
     × (textAfter set kind (written .check) page bytes ≡ put bytes 0 (filled (isNumbered kind) text))
 there-and-back set kind numbering text words bytes usable e enough =
     let page = pageFor set kind numbering text in
@@ -202,7 +219,9 @@ there-and-back set kind numbering text words bytes usable e enough =
     rw (told, take-append-seam page (drop (0 + length page) words), back .0, back .1) (refl, refl)
 
 -- pages of the same words have the same text and spaces
-pub same-words : {set : Set} {numbered : Bool} {flags flags′ text text′ : List ℕ} → Usable set → Fits set numbered flags text → Fits set numbered flags′ text′ → pageOf set numbered flags text ≡ pageOf set numbered flags′ text′ → filled numbered text ≡ filled numbered text′
+pub same-words : {set : Set} {numbered : Bool} {flags flags′ text text′ : List ℕ} → Usable set
+    → Fits set numbered flags text → Fits set numbered flags′ text′
+    → pageOf set numbered flags text ≡ pageOf set numbered flags′ text′ → filled numbered text ≡ filled numbered text′
 same-words {set} {numbered} usable fits fits′ same = sym (text-back usable fits) ∙ ap (textIn set numbered) same ∙ text-back usable fits′
 
 -- a character before a text is seen, where the text ends in others
@@ -214,7 +233,9 @@ first-seen c fill (d ∷ text) m n other same =
     first-seen c fill text m n other (ap (λ (x : ℕ). (x ∷ text) ++ replicate m fill) first ∙ ap (drop 1) same)
 
 -- a text, and the same text with a zero before it, are never the same words
-pub leading-zero : {set : Set} {numbered : Bool} {flags flags′ text : List ℕ} → Usable set → Fits set numbered flags (code "0" ∷ text) → Fits set numbered flags′ text → pageOf set numbered flags (code "0" ∷ text) ≡ pageOf set numbered flags′ text → ⊥
+pub leading-zero : {set : Set} {numbered : Bool} {flags flags′ text : List ℕ} → Usable set
+    → Fits set numbered flags (code "0" ∷ text) → Fits set numbered flags′ text
+    → pageOf set numbered flags (code "0" ∷ text) ≡ pageOf set numbered flags′ text → ⊥
 leading-zero {numbered} {text} usable fits fits′ same =
     let spaces : ℕ → ℕ = λ n. roomOf numbered (wordsFor numbered n) - n in
     first-seen (code "0") (code " ") text (spaces (suc (length text))) (spaces (length text)) (λ e. omega arith) (same-words usable fits fits′ same)
@@ -223,28 +244,42 @@ leading-zero {numbered} {text} usable fits fits′ same =
 
 module _ {set : Set} {numbered : Bool} {flags text : List ℕ} (usable : Usable set) (fits : Fits set numbered flags text) where
   -- the words hold the page's bits, 21 in a word
-  word-bits : (place : ℕ) → bitsAt (place % wordBits) 1 (getD (pageOf set numbered flags text) (place / wordBits) 0) ≡ bitsAt place 1 (number (2 ^ wordBits) (pageOf set numbered flags text))
+  word-bits : (place : ℕ)
+      → bitsAt (place % wordBits) 1 (getD (pageOf set numbered flags text) (place / wordBits) 0)
+      ≡ bitsAt place 1 (number (2 ^ wordBits) (pageOf set numbered flags text))
   word-bits place =
       sym (digit-bits wordBits (pageOf set numbered flags text) (place / wordBits) (place % wordBits) 1 (words-small set numbered flags text) (omega arith))
       ∙ rw (div-add-mod place wordBits)
 
   -- bit k of character j stands after the head and the characters before it
   pub cell : (j k : ℕ) → j < length (filled numbered text) → k < 4
-      → let place = size (headOf numbered) + 4 * j + k in bitsAt (place % wordBits) 1 (getD (pageOf set numbered flags text) (place / wordBits) 0) ≡ bitsAt k 1 (placeIn set (getD (filled numbered text) j 0))
+      → let place = size (headOf numbered) + 4 * j + k in bitsAt (place % wordBits) 1 (getD (pageOf set numbered flags text) (place / wordBits) 0)
+      ≡ bitsAt k 1 (placeIn set (getD (filled numbered text) j 0))
   cell j k within four =
       let known = filled-known usable fits in
       word-bits (size (headOf numbered) + 4 * j + k)
-      ∙ rw (add-assoc (size (headOf numbered)) (4 * j) k, bits-above (size (headOf numbered)) (4 * j + k) 1 _, above-head set numbered flags text (fits .head) (usable .sixteen) known)
+      ∙ rw (
+        add-assoc (size (headOf numbered)) (4 * j) k,
+        bits-above (size (headOf numbered)) (4 * j + k) 1 _,
+        above-head set numbered flags text (fits .head) (usable .sixteen) known,
+      )
       (digit-bits 4 (map (placeIn set) (filled numbered text)) j k 1 (codes-digits set numbered flags text (fits .head) (usable .sixteen) known) (omega arith)
       ∙ rw (map-at (placeIn set) (filled numbered text) j within))
 
   -- each bit after the last character is 0
-  pub left-over : (place : ℕ) → size (headOf numbered) + 4 * length (filled numbered text) ≤ place → bitsAt (place % wordBits) 1 (getD (pageOf set numbered flags text) (place / wordBits) 0) ≡ 0
+  pub left-over : (place : ℕ) → size (headOf numbered) + 4 * length (filled numbered text) ≤ place
+      → bitsAt (place % wordBits) 1 (getD (pageOf set numbered flags text) (place / wordBits) 0) ≡ 0
   left-over place past =
       let known = filled-known usable fits in
-      let small = lt-of-lt-of-le (row-below set numbered flags text (fits .head) (usable .sixteen) known) (pow-mono {j = place} (omega (arith, filled-length numbered text))) in
+      let small =
+      lt-of-lt-of-le (row-below set numbered flags text (fits .head) (usable .sixteen) known)
+      (pow-mono {j = place} (omega (arith, filled-length numbered text))) in
       word-bits place
-      ∙ rw (number-page set numbered flags text (fits .head) (usable .sixteen) known, bits-are place 1 (rowOf set numbered (headSent set numbered flags text) text), div-eq-of-lt small)
+      ∙ rw (
+        number-page set numbered flags text (fits .head) (usable .sixteen) known,
+        bits-are place 1 (rowOf set numbered (headSent set numbered flags text) text),
+        div-eq-of-lt small,
+      )
 
 -- so many characters are read from no more bits than theirs, after the head
 low-characters : (room head row : ℕ) → digits 16 room (row % 2 ^ (4 * room + head) / 2 ^ head) ≡ digits 16 room (row / 2 ^ head)
@@ -252,7 +287,9 @@ low-characters room head row = rw (field row (4 * room) head, ← pow-mul 2 4 ro
 
 -- the bits after the last character are not looked at in reading: words that agree in all others have the same text
 pub left-over-unread : (set : Set) (numbered : Bool) (words words′ : List ℕ) → length words ≡ length words′
-    → let bits = 4 * roomOf numbered (length words) + size (headOf numbered) in number (2 ^ wordBits) words % 2 ^ bits ≡ number (2 ^ wordBits) words′ % 2 ^ bits → textIn set numbered words ≡ textIn set numbered words′
+    → let bits = 4 * roomOf numbered (length words) + size (headOf numbered) in number (2 ^ wordBits) words % 2 ^ bits
+    ≡ number (2 ^ wordBits) words′ % 2 ^ bits
+    → textIn set numbered words ≡ textIn set numbered words′
 unfolding textIn
 left-over-unread set numbered words words′ long same =
     let room = roomOf numbered (length words) in

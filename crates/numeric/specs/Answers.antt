@@ -10,7 +10,8 @@ use Rattle.sums.specs.Words.{undamaged}
 use Rattle.numeric.specs.declared.Numbering.{Numbering}
 use Rattle.numeric.specs.declared.Written.{Written}
 use Rattle.numeric.specs.declared.PageRead.{PageRead}
-use Rattle.numeric.specs.Pages.{Set, mostWords, roomOf, checkOf, inVector, pageOf, headIn, textIn, isNumbered, inSet, headed, vectorFits, isSize, checked}
+use Rattle.numeric.specs.Pages.{Set, mostWords, roomOf, checkOf, inVector, pageOf, headIn, textIn, isNumbered}
+use Rattle.numeric.specs.Pages.{inSet, headed, vectorFits, isSize, checked}
 
 -- the numbers S, R and N, as the head has them
 abbrev pub flagsOf : Numbering → List ℕ

@@ -26,7 +26,8 @@ standardSet = bytesOf "0123456789?U -]["
 abbrev pub mostWords : ℕ
 mostWords = 8
 
--- Tables 41 and 42: what stands before the first character, the highest bit first: S, R, N, and K5 with K4. A page that is not numbered has no bits for S, R and N
+-- Tables 41 and 42: what stands before the first character, the highest bit first: S, R, N, and K5 with K4. A page
+-- that is not numbered has no bits for S, R and N
 abbrev pub headOf : Bool → Layout
 headOf true = field 1 ∷ field 1 ∷ field 6 ∷ field 2 ∷ []
 headOf false = field 0 ∷ field 0 ∷ field 0 ∷ field 2 ∷ []

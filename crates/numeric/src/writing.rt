@@ -165,7 +165,9 @@ fn write_words(text: &[u8], numbered: bool, head: u32, count: usize, words: &mut
     requires { ⌜ 1 ≤ count ⌝ }
     requires { ⌜ count ≤ 8 ⌝ }
     requires { ⌜ count ≤ length (now words) ⌝ }
-    ensures { λ r. ⌜ now (words .exit) ≡ put (now (words .entry)) 0 (digits (2 ^ 21) count (head + 2 ^ size (headOf numbered) * codesOf standardSet (spaced (roomOf numbered count) (now (text .entry))))) ⌝ }
+    ensures { λ r. ⌜ now (words .exit)
+        ≡ put (now (words .entry)) 0
+        (digits (2 ^ 21) count (head + 2 ^ size (headOf numbered) * codesOf standardSet (spaced (roomOf numbered count) (now (text .entry))))) ⌝ }
 {
     let room = crate::page::room_of(numbered, count);
     words[0] = first_word(text, numbered, head, room);

@@ -22,5 +22,6 @@ or-below k a b = by-tests (ltb a (2 ^ k)) (ltb b (2 ^ k)) refl refl
 
 module _ (k : ℕ) (row : List ℕ) (bits i : ℕ) where
   -- one turn: the number there is asked with those before it
-  pub asked-more : i < length row → (ltb (bitOr bits (getD row i 0)) (2 ^ k) && areDigits (2 ^ k) (drop (i + 1) row)) ≡ (ltb bits (2 ^ k) && areDigits (2 ^ k) (drop i row))
+  pub asked-more : i < length row
+      → (ltb (bitOr bits (getD row i 0)) (2 ^ k) && areDigits (2 ^ k) (drop (i + 1) row)) ≡ (ltb bits (2 ^ k) && areDigits (2 ^ k) (drop i row))
   asked-more within = rw (or-below k bits (getD row i 0)) (all-turn (λ digit. ltb digit (2 ^ k)) row i (ltb bits (2 ^ k)) within)

@@ -18,7 +18,8 @@ high-unread word =
     rw (first, second, third)
 
 -- K is never part of its own sum: words that differ in the first word's K bits alone have the same
-pub k-unread : (held wide first other : ℕ) (rule : ℕ → ℕ) (rest : List ℕ) → first / 2 ^ held ≡ other / 2 ^ held → checksum held rule wide (first ∷ rest) ≡ checksum held rule wide (other ∷ rest)
+pub k-unread : (held wide first other : ℕ) (rule : ℕ → ℕ) (rest : List ℕ) → first / 2 ^ held ≡ other / 2 ^ held
+    → checksum held rule wide (first ∷ rest) ≡ checksum held rule wide (other ∷ rest)
 k-unread held wide first other rule rest same = rw same
 
 -- a sum fits its bits

@@ -13,7 +13,8 @@ use Rattle.sums.specs.Sums.{groupsOf, binarySum, unkeyed, folded}
 
 module _ (rule : ℕ → ℕ) (row : List ℕ) (spare wide so i : ℕ) where
   -- one turn, of whose sum more bits are kept than are asked for: what is taken and what is still to come are what was still to come
-  pub one-more : i < length row → ((so + rule (getD row i 0)) % 2 ^ (spare + wide) + sumBy rule (drop (i + 1) row)) % 2 ^ wide ≡ (so + sumBy rule (drop i row)) % 2 ^ wide
+  pub one-more : i < length row
+      → ((so + rule (getD row i 0)) % 2 ^ (spare + wide) + sumBy rule (drop (i + 1) row)) % 2 ^ wide ≡ (so + sumBy rule (drop i row)) % 2 ^ wide
   one-more within =
       let sum = so + rule (getD row i 0) in
       let rest = sumBy rule (drop (i + 1) row) in
@@ -32,7 +33,8 @@ cleared-fits : (held word : ℕ) → word < 2 ^ 32 → word / 2 ^ held * 2 ^ hel
 cleared-fits held word fits = mod-eq-of-lt (lt-of-le-of-lt (div-mul-le-self word (2 ^ held)) fits)
 
 -- K as 0 changes the first word alone
-pub unkeyed-sum : (held : ℕ) (words : List ℕ) → 0 < length words → getD words 0 0 < 2 ^ 32 → groupsOf (getD words 0 0 / 2 ^ held * 2 ^ held % 2 ^ 32) + binarySum (drop 1 words) ≡ binarySum (unkeyed held words)
+pub unkeyed-sum : (held : ℕ) (words : List ℕ) → 0 < length words → getD words 0 0 < 2 ^ 32
+    → groupsOf (getD words 0 0 / 2 ^ held * 2 ^ held % 2 ^ 32) + binarySum (drop 1 words) ≡ binarySum (unkeyed held words)
 unfolding sumBy
 unkeyed-sum held [] some fits = absurd (omega arith)
 unkeyed-sum held (first ∷ rest) some fits = rw (cleared-fits held first fits)

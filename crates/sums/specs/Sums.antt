@@ -21,7 +21,8 @@ abbrev pub unkeyed : ℕ → List ℕ → List ℕ
 unkeyed held [] = []
 unkeyed held (first ∷ rest) = first / 2 ^ held * 2 ^ held ∷ rest
 
--- S8.8.6, both sums: K is taken of the words with K as 0, of which the first word holds so many bits; the binary sum by a rule; the complement of so many bits of it
+-- S8.8.6, both sums: K is taken of the words with K as 0, of which the first word holds so many bits; the binary sum
+-- by a rule; the complement of so many bits of it
 abbrev pub checksum : ℕ → (ℕ → ℕ) → ℕ → List ℕ → ℕ
 checksum held rule wide words = complement wide (rule (binarySum (unkeyed held words)))
 

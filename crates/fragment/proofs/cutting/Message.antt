@@ -18,7 +18,8 @@ use Rattle.fragment.specs.Fragments.{etx}
 use Rattle.fragment.specs.Cutting.{isText, sendable, filled, messageOf}
 
 -- three numbers of a row, as the number that they make
-three-of : (row : List ℕ) (place : ℕ) → place + 3 ≤ length row → getD row place etx + 128 * (getD row (place + 1) etx + 128 * getD row (place + 2) etx) ≡ number 128 (take 3 (drop place row))
+three-of : (row : List ℕ) (place : ℕ) → place + 3 ≤ length row
+    → getD row place etx + 128 * (getD row (place + 1) etx + 128 * getD row (place + 2) etx) ≡ number 128 (take 3 (drop place row))
 unfolding number
 three-of row place within =
     let second : place + 1 ≡ suc place = omega arith in
@@ -70,7 +71,8 @@ fill-cell text (suc place) past = sym (fill-after text (2 - length text % 3) pla
 
 -- three cells of a row, as the number that they make
 pub three-cells : (text : List ℕ) (place : ℕ) → place + 3 ≤ length (messageOf text)
-    → getD (messageOf text) place etx + 128 * (getD (messageOf text) (place + 1) etx + 128 * getD (messageOf text) (place + 2) etx) ≡ number 128 (take 3 (drop place (messageOf text)))
+    → getD (messageOf text) place etx + 128 * (getD (messageOf text) (place + 1) etx + 128 * getD (messageOf text) (place + 2) etx)
+    ≡ number 128 (take 3 (drop place (messageOf text)))
 three-cells text place within = three-of (messageOf text) place within
 
 -- so much fill sums to three times as much
@@ -83,7 +85,8 @@ fill-sum (suc count) = omega (arith, fill-sum count)
 pub fill-lowers : (text : List ℕ) → (signatureOf text + 128 - 3 * (2 - length text % 3)) % 128 ≡ signatureOf (filled text)
 fill-lowers text =
     let fill = replicate (2 - length text % 3) etx in
-    lowered (sumBy whole text) (sumBy whole (text ++ fill)) (2 - length text % 3) (omega arith) (sum-join whole text fill ∙ ap (λ (n : ℕ). sumBy whole text + n) (fill-sum (2 - length text % 3)))
+    lowered (sumBy whole text) (sumBy whole (text ++ fill)) (2 - length text % 3) (omega arith)
+    (sum-join whole text fill ∙ ap (λ (n : ℕ). sumBy whole text + n) (fill-sum (2 - length text % 3)))
   where
     lowered : (s t k : ℕ) → k ≤ 2 → t ≡ s + 3 * k → (127 - s % 128 + 128 - 3 * k) % 128 ≡ 127 - t % 128
     lowered s t zero few more = omega arith

@@ -47,7 +47,8 @@ module _ (row : List ℕ) where
 after-first : (words others : List ℕ) → length words ≡ 1 + length others → put words 1 others ≡ getD words 0 0 ∷ others
 after-first [] others e = absurd (omega arith)
 after-first (word ∷ words) others e =
-    ap (λ (rest : List ℕ). word ∷ (others ++ rest)) (drop-of-length-le (word ∷ words) {i = 1 + length others} (omega arith)) ∙ ap (λ (rest : List ℕ). word ∷ rest) (append-nil others)
+    ap (λ (rest : List ℕ). word ∷ (others ++ rest)) (drop-of-length-le (word ∷ words) {i = 1 + length others} (omega arith))
+    ∙ ap (λ (rest : List ℕ). word ∷ rest) (append-nil others)
 
 -- so many words hold three times as many cells
 pub body-length : (row : List ℕ) (place size : ℕ) → place + 3 * size ≤ length row → length (wordsOf (take (3 * size) (drop place row))) ≡ size
@@ -67,7 +68,10 @@ module _ (first : Bool) (head cells : List ℕ) (fits : fit (headOf first) (head
   k-below k small = omega (arith, packed-with first head fits k small, packed-with first head fits 0 (omega arith))
 
   -- K added to the first word of a fragment with K as 0 makes the fragment, and no more than 21 bits
-  pub k-added : (set (fragmentWith first head 0 cells) 0 (getD (fragmentWith first head 0 cells) 0 0 + tenBits (fragmentWith first head 0 cells)) ≡ fragmentOf first head cells) × (getD (fragmentWith first head 0 cells) 0 0 + tenBits (fragmentWith first head 0 cells) < 0x200000)
+  pub k-added :
+      (set (fragmentWith first head 0 cells) 0 (getD (fragmentWith first head 0 cells) 0 0 + tenBits (fragmentWith first head 0 cells))
+      ≡ fragmentOf first head cells)
+      × (getD (fragmentWith first head 0 cells) 0 0 + tenBits (fragmentWith first head 0 cells) < 0x200000)
   unfolding fragmentOf
   k-added =
       let k = tenBits (fragmentWith first head 0 cells) in
@@ -116,7 +120,9 @@ module _ (largest : ℕ) (text : List ℕ) (place : ℕ) (two : 2 ≤ largest) (
   pub part-size : min largest (fragmentsFor largest (length text) + wordsFor (length text) - largest * place) ≡ 1 + wordsAt largest (length text) place
   part-size =
       let more : largest ≡ largest - 1 + 1 = omega arith in
-      rw starts (ap (λ (n : ℕ). min n (fragmentsFor largest (length text) + wordsFor (length text) - ((largest - 1) * place + place))) more ∙ sized (largest - 1) place (fragmentsFor largest (length text)) (wordsFor (length text)) inside (not-too-many largest (length text) two))
+      rw starts
+      (ap (λ (n : ℕ). min n (fragmentsFor largest (length text) + wordsFor (length text) - ((largest - 1) * place + place))) more
+      ∙ sized (largest - 1) place (fragmentsFor largest (length text)) (wordsFor (length text)) inside (not-too-many largest (length text) two))
 
   -- the cells of a fragment are within the message
   pub cells-within : 3 * (largest - 1) * place + 3 * wordsAt largest (length text) place ≤ length (messageOf text)
@@ -130,11 +136,14 @@ module _ (largest : ℕ) (text : List ℕ) (place : ℕ) (two : 2 ≤ largest) (
 
 module _ (marks : Marks) (largest : ℕ) (text : List ℕ) (two : 2 ≤ largest) where
   -- a fragment ends within the row
-  pub ends-within : (place : ℕ) → place < fragmentsFor largest (length text) → largest * place + length (fragmentAt marks largest text place) ≤ fragmentsFor largest (length text) + wordsFor (length text)
-  ends-within place inside = omega (arith, fragment-length largest text place marks, part-size largest text place two inside, starts-within largest text place two inside)
+  pub ends-within : (place : ℕ) → place < fragmentsFor largest (length text)
+      → largest * place + length (fragmentAt marks largest text place) ≤ fragmentsFor largest (length text) + wordsFor (length text)
+  ends-within place inside =
+      omega (arith, fragment-length largest text place marks, part-size largest text place two inside, starts-within largest text place two inside)
 
   -- a fragment that another follows is as large as may be
-  full-size : (place : ℕ) → place + 1 < fragmentsFor largest (length text) → largest * place + length (fragmentAt marks largest text place) ≡ largest * (place + 1)
+  full-size : (place : ℕ) → place + 1 < fragmentsFor largest (length text)
+      → largest * place + length (fragmentAt marks largest text place) ≡ largest * (place + 1)
   full-size place more =
       let next : largest * (place + 1) ≡ largest * place + largest = omega arith in
       omega (
@@ -146,21 +155,28 @@ module _ (marks : Marks) (largest : ℕ) (text : List ℕ) (two : 2 ≤ largest)
 
   -- one turn: a fragment, and the others after it still to come
   pub fragment-turn : (words : List ℕ) (place count : ℕ) → count ≡ fragmentsFor largest (length text) → place < count → largest * place ≤ length words
-      → put (put words (largest * place) (fragmentAt marks largest text place)) (largest * (place + 1)) (flatten (fragmentsFrom marks largest text (place + 1) (count - (place + 1)))) ≡ put words (largest * place) (flatten (fragmentsFrom marks largest text place (count - place)))
+      → put (put words (largest * place) (fragmentAt marks largest text place)) (largest * (place + 1))
+      (flatten (fragmentsFrom marks largest text (place + 1) (count - (place + 1))))
+      ≡ put words (largest * place) (flatten (fragmentsFrom marks largest text place (count - place)))
   unfolding fragmentsFrom flatten
   fragment-turn words place count all within inside = by-left (count - (place + 1)) refl
     where
       by-left : (left : ℕ) → count - (place + 1) ≡ left
-          → put (put words (largest * place) (fragmentAt marks largest text place)) (largest * (place + 1)) (flatten (fragmentsFrom marks largest text (place + 1) (count - (place + 1)))) ≡ put words (largest * place) (flatten (fragmentsFrom marks largest text place (count - place)))
+          → put (put words (largest * place) (fragmentAt marks largest text place)) (largest * (place + 1))
+          (flatten (fragmentsFrom marks largest text (place + 1) (count - (place + 1))))
+          ≡ put words (largest * place) (flatten (fragmentsFrom marks largest text place (count - place)))
       by-left zero none =
           let one : count - place ≡ suc zero = omega arith in
-          rw (none, one) (put-nothing (put words (largest * place) (fragmentAt marks largest text place)) (largest * (place + 1)) ∙ ap (put words (largest * place)) (sym (append-nil (fragmentAt marks largest text place))))
+          rw (none, one)
+          (put-nothing (put words (largest * place) (fragmentAt marks largest text place)) (largest * (place + 1))
+          ∙ ap (put words (largest * place)) (sym (append-nil (fragmentAt marks largest text place))))
       by-left (suc left) some =
           let more : count - place ≡ suc (suc left) = omega arith in
           rw (some, more, ← full-size place (omega arith), add-one) (put-after words (fragmentAt marks largest text place) _ (largest * place) inside)
 
   -- at the start all are still to come
-  pub fragments-begin : (words : List ℕ) (count : ℕ) → count ≡ fragmentsFor largest (length text) → put words (largest * 0) (flatten (fragmentsFrom marks largest text 0 (count - 0))) ≡ put words 0 (flatten (cut marks largest text))
+  pub fragments-begin : (words : List ℕ) (count : ℕ) → count ≡ fragmentsFor largest (length text)
+      → put words (largest * 0) (flatten (fragmentsFrom marks largest text 0 (count - 0))) ≡ put words 0 (flatten (cut marks largest text))
   unfolding cut
   fragments-begin words count all =
       let start : largest * 0 ≡ 0 = omega arith in
@@ -168,7 +184,8 @@ module _ (marks : Marks) (largest : ℕ) (text : List ℕ) (two : 2 ≤ largest)
       rw (start, left)
 
   -- at the end none is still to come
-  pub fragments-done : (words : List ℕ) (place count : ℕ) → count ≤ place → words ≡ put words (largest * place) (flatten (fragmentsFrom marks largest text place (count - place)))
+  pub fragments-done : (words : List ℕ) (place count : ℕ) → count ≤ place
+      → words ≡ put words (largest * place) (flatten (fragmentsFrom marks largest text place (count - place)))
   unfolding fragmentsFrom flatten
   fragments-done words place count done =
       let none : count - place ≡ 0 = omega arith in

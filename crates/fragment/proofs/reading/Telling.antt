@@ -23,7 +23,9 @@ abbrev asked : Bool → Bool → Bool → Told → Told
 asked sized intact right rest = ask (not sized) Size (ask (not intact) Damaged (ask (not right) Checksum rest))
 
 -- an answer that one of them refuses is the same, whatever is asked after them
-same-refusal : (sized intact right : Bool) (rest other : Told) → numberTold rest ≡ 0 → (numberTold (asked sized intact right rest) ≡ 0 → ⊥) → asked sized intact right other ≡ asked sized intact right rest
+same-refusal : (sized intact right : Bool) (rest other : Told) → numberTold rest ≡ 0
+    → (numberTold (asked sized intact right rest) ≡ 0 → ⊥)
+    → asked sized intact right other ≡ asked sized intact right rest
 same-refusal false intact right rest other none some = refl
 same-refusal true false right rest other none some = refl
 same-refusal true true false rest other none some = refl
@@ -63,6 +65,8 @@ module _ (words lent : List ℕ) where
     unfolding textOf
     read-writes = ap (λ (answer : Told). writtenBy answer lent (textIn words)) read-asks ∙ by-test (ltb (length lent) (length (textIn words)))
       where
-        by-test : (full : Bool) → writtenBy (ask full Room (headingTold words)) lent (textIn words) ≡ writtenBy (ask full Room (given (length (textIn words) ∷ []))) lent (textIn words)
+        by-test : (full : Bool)
+            → writtenBy (ask full Room (headingTold words)) lent (textIn words)
+            ≡ writtenBy (ask full Room (given (length (textIn words) ∷ []))) lent (textIn words)
         by-test true = refl
         by-test false = refl

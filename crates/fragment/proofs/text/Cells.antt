@@ -41,7 +41,9 @@ unfolding sumBy
 added word = rw (three-cells word) (omega arith)
 
 -- the cells of a word that are no fill, counted
-pub counted : (word : ℕ) → bitOf (not (eqb (word % 128) etx)) + bitOf (not (eqb (word / 128 % 128) etx)) + bitOf (not (eqb (word / 16384 % 128) etx)) ≡ length (withoutFill (cellsIn word))
+pub counted : (word : ℕ)
+    → bitOf (not (eqb (word % 128) etx)) + bitOf (not (eqb (word / 128 % 128) etx)) + bitOf (not (eqb (word / 16384 % 128) etx))
+    ≡ length (withoutFill (cellsIn word))
 unfolding withoutFill
 counted word =
     rw (three-cells word, text-more (word % 128) _, text-more (word / 128 % 128) _, text-more (word / 16384 % 128) _)
@@ -52,23 +54,28 @@ pub few : (word : ℕ) → length (withoutFill (cellsIn word)) ≤ 3
 few word = omega (arith, text-no-longer (cellsIn word), length-digits 128 3 word)
 
 -- the text of a word is that of its cells, one after the other
-pub text-three : (word : ℕ) → withoutFill (cellsIn word) ≡ withoutFill (word % 128 ∷ []) ++ (withoutFill (word / 128 % 128 ∷ []) ++ withoutFill (word / 16384 % 128 ∷ []))
+pub text-three : (word : ℕ)
+    → withoutFill (cellsIn word) ≡ withoutFill (word % 128 ∷ []) ++ (withoutFill (word / 128 % 128 ∷ []) ++ withoutFill (word / 16384 % 128 ∷ []))
 text-three word =
     ap withoutFill (three-cells word)
     ∙ text-join (word % 128 ∷ []) (word / 128 % 128 ∷ word / 16384 % 128 ∷ [])
     ∙ ap (λ (text : List ℕ). withoutFill (word % 128 ∷ []) ++ text) (text-join (word / 128 % 128 ∷ []) (word / 16384 % 128 ∷ []))
 
 -- the text of a word is as long as those of its cells together
-pub length-three : (word : ℕ) → length (withoutFill (cellsIn word)) ≡ length (withoutFill (word % 128 ∷ [])) + length (withoutFill (word / 128 % 128 ∷ [])) + length (withoutFill (word / 16384 % 128 ∷ []))
+pub length-three : (word : ℕ)
+    → length (withoutFill (cellsIn word))
+    ≡ length (withoutFill (word % 128 ∷ [])) + length (withoutFill (word / 128 % 128 ∷ [])) + length (withoutFill (word / 16384 % 128 ∷ []))
 length-three word = ap length (text-three word) ∙ simp length-append (omega arith)
 
 -- the text from a place of a row of words on is that of the word there, and of those after it
-pub text-next : (words : List ℕ) (i : ℕ) → i < length words → withoutFill (cellsOf (drop i words)) ≡ withoutFill (cellsIn (getD words i 0)) ++ withoutFill (cellsOf (drop (i + 1) words))
+pub text-next : (words : List ℕ) (i : ℕ) → i < length words
+    → withoutFill (cellsOf (drop i words)) ≡ withoutFill (cellsIn (getD words i 0)) ++ withoutFill (cellsOf (drop (i + 1) words))
 unfolding cellsOf
 text-next words i within = rw (add-one, drop-cons words i 0 within) (text-join (cellsIn (getD words i 0)) _)
 
 -- the text from a place on is as long as that of the word there and that of the words after it together
-pub length-next : (words : List ℕ) (i : ℕ) → i < length words → length (withoutFill (cellsOf (drop i words))) ≡ length (withoutFill (cellsIn (getD words i 0))) + length (withoutFill (cellsOf (drop (i + 1) words)))
+pub length-next : (words : List ℕ) (i : ℕ) → i < length words
+    → length (withoutFill (cellsOf (drop i words))) ≡ length (withoutFill (cellsIn (getD words i 0))) + length (withoutFill (cellsOf (drop (i + 1) words)))
 length-next words i within = ap length (text-next words i within) ∙ length-append (withoutFill (cellsIn (getD words i 0))) _
 
 -- after the last word there is none
@@ -82,7 +89,8 @@ unfolding cellsOf
 text-from second words = text-join (cellsIn second) _
 
 -- how long the text is that a second word begins
-pub length-from : (second : ℕ) (words : List ℕ) → length (textFrom second words) ≡ length (withoutFill (cellsIn second)) + length (withoutFill (cellsOf (drop 2 words)))
+pub length-from : (second : ℕ) (words : List ℕ)
+    → length (textFrom second words) ≡ length (withoutFill (cellsIn second)) + length (withoutFill (cellsOf (drop 2 words)))
 length-from second words = ap length (text-from second words) ∙ length-append (withoutFill (cellsIn second)) _
 
 -- a word's cells added
@@ -109,7 +117,8 @@ signature-cell (head ∷ []) two = absurd (omega arith)
 signature-cell (head ∷ second ∷ words) two = refl
 
 -- where the signature is taken as fill the text is that of the cells after it
-pub text-after-signature : (first : Bool) (words : List ℕ) → 2 ≤ length words → textFrom (unsigned first (getD words 1 0)) words ≡ withoutFill (drop (bitOf first) (cellsAfterHead words))
+pub text-after-signature : (first : Bool) (words : List ℕ) → 2 ≤ length words
+    → textFrom (unsigned first (getD words 1 0)) words ≡ withoutFill (drop (bitOf first) (cellsAfterHead words))
 unfolding cellsOf withoutFill digits
 text-after-signature first [] two = absurd (omega arith)
 text-after-signature first (head ∷ []) two = absurd (omega arith)

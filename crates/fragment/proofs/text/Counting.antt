@@ -19,7 +19,8 @@ module _ (second : ℕ) (words : List ℕ) where
   counted-second count is = record { most = omega (arith, few second); all = omega (arith, length-from second words) }
 
   -- the characters counted with those of one word more
-  pub counted-more : (count at more : ℕ) → Counted second words count at → at < length words → more ≡ length (withoutFill (cellsIn (getD words at 0))) → Counted second words (count + more) (at + 1)
+  pub counted-more : (count at more : ℕ) → Counted second words count at → at < length words
+      → more ≡ length (withoutFill (cellsIn (getD words at 0))) → Counted second words (count + more) (at + 1)
   counted-more count at more so-far within is =
       record { most = omega (arith, few (getD words at 0)); all = omega (arith, length-next words at within) }
 

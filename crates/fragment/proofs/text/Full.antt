@@ -29,7 +29,8 @@ full-text word is =
     ∙ rw (no-fill (word % 128) (first-of a b two), no-fill (word / 128 % 128) (second-of a b two), no-fill (word / 16384 % 128) (second-of (a && b) c is))
 
 -- three stores are a text of three
-pub put-three : (buffer : List ℕ) (place a b c : ℕ) → place + 3 ≤ length buffer → set (set (set buffer place a) (place + 1) b) (place + 2) c ≡ put buffer place (a ∷ b ∷ c ∷ [])
+pub put-three : (buffer : List ℕ) (place a b c : ℕ) → place + 3 ≤ length buffer
+    → set (set (set buffer place a) (place + 1) b) (place + 2) c ≡ put buffer place (a ∷ b ∷ c ∷ [])
 put-three buffer place a b c within =
     let second : place + 1 ≡ suc place = omega arith in
     let third : place + 2 ≡ suc (suc place) = omega arith in

@@ -30,11 +30,16 @@ no-text (head ∷ []) short = by-test (isFirst (head ∷ []))
 no-text (head ∷ second ∷ words) short = absurd (omega arith)
 
 -- the text of a second word, then that of the words after it: how long it is, and where it stands
-pub joined : (second next end : ℕ) (words lent after last : List ℕ) → next ≡ 0 + length (withoutFill (cellsIn second)) → after ≡ put lent 0 (withoutFill (cellsIn second))
+pub joined : (second next end : ℕ) (words lent after last : List ℕ)
+    → next ≡ 0 + length (withoutFill (cellsIn second)) → after ≡ put lent 0 (withoutFill (cellsIn second))
     → end ≡ next + length (withoutFill (cellsOf (drop 2 words))) → last ≡ put after next (withoutFill (cellsOf (drop 2 words)))
     → (end ≡ length (textFrom second words)) × (last ≡ put lent 0 (textFrom second words))
-joined second next end words lent after last there is ends holds =
-    (omega (arith, length-from second words), holds ∙ put-on lent after (withoutFill (cellsIn second)) _ 0 next (omega arith) is there ∙ ap (put lent 0) (sym (text-from second words)))
+joined second next end words lent after last there is ends holds = (
+  omega (arith, length-from second words),
+  holds
+      ∙ put-on lent after (withoutFill (cellsIn second)) _ 0 next (omega arith) is there
+      ∙ ap (put lent 0) (sym (text-from second words)),
+)
 
 module _ (words lent : List ℕ) where
   -- a text that has room is written

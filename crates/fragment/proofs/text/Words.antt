@@ -34,7 +34,8 @@ module _ (words lent : List ℕ) (from : ℕ) where
       → next ≡ at + length (withoutFill (cellsIn (getD words i 0))) → after ≡ put text at (withoutFill (cellsIn (getD words i 0))) → Begun after next (i + 1)
   begun-more text after at next i so-far within there is =
       let longer = length-next words i within in
-      let as-long : length after ≡ length text = ap length is ∙ length-put text (withoutFill (cellsIn (getD words i 0))) at (begun-room text at i so-far within) in
+      let as-long : length after ≡ length text =
+      ap length is ∙ length-put text (withoutFill (cellsIn (getD words i 0))) at (begun-room text at i so-far within) in
       record {
         kept = omega arith;
         room = omega arith;
@@ -43,7 +44,8 @@ module _ (words lent : List ℕ) (from : ℕ) where
       }
 
   -- after the last word all is written
-  pub begun-all : (text : List ℕ) (at i : ℕ) → Begun text at i → length words ≤ i → (at ≡ from + length (textAt words 2)) × (text ≡ put lent from (textAt words 2))
+  pub begun-all : (text : List ℕ) (at i : ℕ) → Begun text at i → length words ≤ i
+      → (at ≡ from + length (textAt words 2)) × (text ≡ put lent from (textAt words 2))
   begun-all text at i so-far done =
       let none = text-end words i done in
       (omega (arith, ap length none), sym (put-nothing text at) ∙ ap (put text at) (sym none) ∙ so-far .holds)

@@ -37,12 +37,20 @@ accepted-told c a end e =
 module _ (r : Refusal) (n : ℕ) (number : n ≡ numberOf r) where
   -- a refused text whose number has one digit
   pub one-told : n < 10
-      → _≡_ {A = Verdict} (record { «is_accepted» = false; size = 11; end = padded (32 ∷ 82 ∷ 69 ∷ 70 ∷ 85 ∷ 83 ∷ 69 ∷ 68 ∷ 32 ∷ (48 + n % 10) ∷ 10 ∷ []) }) (verdictAs (refused r))
+      → _≡_ {A = Verdict} (record {
+        «is_accepted» = false;
+        size = 11;
+        end = padded (32 ∷ 82 ∷ 69 ∷ 70 ∷ 85 ∷ 83 ∷ 69 ∷ 68 ∷ 32 ∷ (48 + n % 10) ∷ 10 ∷ []);
+      }) (verdictAs (refused r))
   one-told few = let end = refused-one r n number few in same-verdict (sym (not-none r n number)) (ap length end) (ap padded end)
 
   -- a refused text whose number has two digits
   pub two-told : 10 ≤ n
-      → _≡_ {A = Verdict} (record { «is_accepted» = false; size = 12; end = padded (32 ∷ 82 ∷ 69 ∷ 70 ∷ 85 ∷ 83 ∷ 69 ∷ 68 ∷ 32 ∷ (48 + n / 10 % 10) ∷ (48 + n % 10) ∷ 10 ∷ []) }) (verdictAs (refused r))
+      → _≡_ {A = Verdict} (record {
+        «is_accepted» = false;
+        size = 12;
+        end = padded (32 ∷ 82 ∷ 69 ∷ 70 ∷ 85 ∷ 83 ∷ 69 ∷ 68 ∷ 32 ∷ (48 + n / 10 % 10) ∷ (48 + n % 10) ∷ 10 ∷ []);
+      }) (verdictAs (refused r))
   two-told many = let end = refused-two r n number many in same-verdict (sym (not-none r n number)) (ap length end) (ap padded end)
 
 module _ (text : List ℕ) (v : Verdict) (told : v ≡ verdictAs (readOf text)) where

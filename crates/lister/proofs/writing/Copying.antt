@@ -34,9 +34,14 @@ module _ (buffer text : List ℕ) (place : ℕ) where
   copied-none = record { within = omega arith; kept = refl; holds = paste-zero buffer place text }
 
   -- one byte more is copied
-  pub copied-more : (after : List ℕ) (i : ℕ) → Copied after i → i < length text → place + length text ≤ length buffer → Copied (set after (place + i) (getD text i 0)) (i + 1)
+  pub copied-more : (after : List ℕ) (i : ℕ) → Copied after i → i < length text
+      → place + length text ≤ length buffer → Copied (set after (place + i) (getD text i 0)) (i + 1)
   copied-more after i so-far more fits =
-      record { within = omega arith; kept = simp length-set (so-far .kept); holds = rw (so-far .holds, add-one) (paste-suc buffer place text i 0 (omega arith) more) }
+      record {
+        within = omega arith;
+        kept = simp length-set (so-far .kept);
+        holds = rw (so-far .holds, add-one) (paste-suc buffer place text i 0 (omega arith) more);
+      }
 
   -- all bytes are copied
   pub copied-all : (after : List ℕ) (i : ℕ) → Copied after i → length text ≤ i → Wrote buffer place text (place + i) after

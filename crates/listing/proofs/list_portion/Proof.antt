@@ -38,7 +38,8 @@ add-at : tie.Need-add-at Inv-loop μ-loop
 add-at c =
     let k = c .before .before .before .before .before .before in
     let a = k .before .before .before .before in
-    omega (arith, length-drop (a .loop .at) (a .before .before .before .args .input .now), k .list-some .ensures .0, k .before .before .before .loop-test .taken)
+    omega
+    (arith, length-drop (a .loop .at) (a .before .before .before .args .input .now), k .list-some .ensures .0, k .before .before .before .loop-test .taken)
 
 loop-less : tie.Need-loop-less Inv-loop μ-loop
 loop-less c =
@@ -50,8 +51,15 @@ loop-less c =
 loop-again : tie.Need-loop-again Inv-loop μ-loop
 loop-again c =
     let k = c .before .before .before .before .before .before in
-    let a = k .before .before .before .before in
-    (omega (arith, length-drop (a .loop .at) (a .before .before .before .args .input .now), k .list-some .ensures .0, k .before .before .before .loop-test .taken), search needs)
+    let a = k .before .before .before .before in (
+      omega (
+        arith,
+        length-drop (a .loop .at) (a .before .before .before .args .input .now),
+        k .list-some .ensures .0,
+        k .before .before .before .loop-test .taken,
+      ),
+      search needs,
+    )
 
 same-length-2 : tie.Need-same-length-2 Inv-loop μ-loop
 same-length-2 c = search needs

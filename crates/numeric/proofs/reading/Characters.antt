@@ -36,7 +36,8 @@ swapped : (a b c : ℕ) → a * (b * c) ≡ b * (a * c)
 swapped a b c = sym (mul-assoc a b c) ∙ rw (mul-comm a b) (mul-assoc b a c)
 
 -- a code that goes on in the next word
-pub over-words : (place word next rest : ℕ) → place < 21 → (word + 2 ^ 21 * (next + 2 ^ 21 * rest)) / 2 ^ place % 16 ≡ (word / 2 ^ place % 16 + next * 2 ^ (21 - place) % 2 ^ 32 % 16) % 16
+pub over-words : (place word next rest : ℕ) → place < 21
+    → (word + 2 ^ 21 * (next + 2 ^ 21 * rest)) / 2 ^ place % 16 ≡ (word / 2 ^ place % 16 + next * 2 ^ (21 - place) % 2 ^ 32 % 16) % 16
 over-words place word next rest h =
     let weight = 2 ^ (21 - place) in
     let far : weight * (2 ^ 21 * rest) ≡ 2 ^ 21 * (weight * rest) = swapped weight (2 ^ 21) rest in
@@ -63,17 +64,21 @@ module _ (words : List ℕ) (at place : ℕ) (good : undamaged words ≡ true) (
       rw (from-word, none, mul-zero, add-zero)
 
   -- the code there, where it goes on in the next word
-  pub code-over : at + 1 < length words → number (2 ^ 21) words / 2 ^ (21 * at + place) % 16 ≡ (getD words at 0 / 2 ^ place % 16 + getD words (at + 1) 0 * 2 ^ (21 - place) % 2 ^ 32 % 16) % 16
+  pub code-over : at + 1 < length words
+      → number (2 ^ 21) words / 2 ^ (21 * at + place) % 16 ≡ (getD words at 0 / 2 ^ place % 16 + getD words (at + 1) 0 * 2 ^ (21 - place) % 2 ^ 32 % 16) % 16
   unfolding number
   code-over more =
       let next : suc at < length words = omega arith in
-      rw (from-word, drop-cons words (suc at) 0 next, add-one) (over-words place (getD words at 0) (getD words (suc at) 0) (number (2 ^ 21) (drop (suc (suc at)) words)) bit)
+      rw (from-word, drop-cons words (suc at) 0 next, add-one)
+      (over-words place (getD words at 0) (getD words (suc at) 0) (number (2 ^ 21) (drop (suc (suc at)) words)) bit)
 
 -- the bits after the head and so many characters
 pub after-characters : (n head i place : ℕ) → place ≡ head + 4 * i → n / 2 ^ place ≡ n / 2 ^ head / 16 ^ i
 after-characters n head i place e = rw (e, ← shr-shr n head (4 * i), ← pow-mul 2 4 i)
 
 -- characters spelled from a number, so many, each by a rule: one is stored, and the others are still to come
-pub spelled-turn : (rule : ℕ → ℕ) (out : List ℕ) (room i x : ℕ) → i < room → room ≤ length out → put (set out i (rule (x / 16 ^ i % 16))) (i + 1) (map rule (digits 16 (room - (i + 1)) (x / 16 ^ (i + 1)))) ≡ put out i (map rule (digits 16 (room - i) (x / 16 ^ i)))
+pub spelled-turn : (rule : ℕ → ℕ) (out : List ℕ) (room i x : ℕ) → i < room → room ≤ length out
+    → put (set out i (rule (x / 16 ^ i % 16))) (i + 1) (map rule (digits 16 (room - (i + 1)) (x / 16 ^ (i + 1))))
+    ≡ put out i (map rule (digits 16 (room - i) (x / 16 ^ i)))
 spelled-turn rule out room i x more fits =
     rw (digits-next 16 room x i more, add-one i) (put-next out _ i (rule (x / 16 ^ i % 16)) (omega arith))

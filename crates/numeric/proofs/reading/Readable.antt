@@ -44,7 +44,9 @@ readable set lent kind check words e =
     (record { least = limits .0; most = limits .1; whole = not-false _ (r .0); room = ltb-false _ _ (t .0) }, simp (p .0, q .0, r .0, s .0, t .0))
 
 -- a refusal tells its number and nothing besides
-pub read-plain : (set : Set) (lent kind check : ℕ) (words : List ℕ) → (numberTold (readOf set lent kind check words) ≡ 0 → ⊥) → readOf set lent kind check words ≡ told (numberTold (readOf set lent kind check words)) []
+pub read-plain : (set : Set) (lent kind check : ℕ) (words : List ℕ)
+    → (numberTold (readOf set lent kind check words) ≡ 0 → ⊥)
+    → readOf set lent kind check words ≡ told (numberTold (readOf set lent kind check words)) []
 unfolding readOf
 read-plain set lent kind check words some =
     ⊎-elim (λ none. absurd (some none)) (λ e. e)

@@ -29,12 +29,14 @@ spaced-codes room text known =
     codes-are standardSet (spaced room text) refl (all-append test text _ ∙ rw (known, all-replicate test (room - length text) 32 refl))
 
 -- two times three codes are six in a row
-pub six-row : (codes : List ℕ) (place : ℕ) → areDigits 16 codes ≡ true → threeFrom codes place + 4096 * threeFrom codes (place + 3) ≡ number 16 codes / 16 ^ place % 16 ^ 6
+pub six-row : (codes : List ℕ) (place : ℕ) → areDigits 16 codes ≡ true
+    → threeFrom codes place + 4096 * threeFrom codes (place + 3) ≡ number 16 codes / 16 ^ place % 16 ^ 6
 unfolding number
 six-row codes place good = simp towards-suc (omega (arith, simp towards-suc at (six-from 16 codes place (omega arith) good)))
 
 -- the first word: the head, and the lowest of the characters' bits after it
-pub first-is : (numbered : Bool) (head codes : ℕ) → head < 2 ^ size (headOf numbered) → head + codes / 16 ^ 0 % 16 ^ 6 * 2 ^ size (headOf numbered) % 2 ^ 32 % 2 ^ 21 ≡ (head + 2 ^ size (headOf numbered) * codes) % 2 ^ 21
+pub first-is : (numbered : Bool) (head codes : ℕ) → head < 2 ^ size (headOf numbered)
+    → head + codes / 16 ^ 0 % 16 ^ 6 * 2 ^ size (headOf numbered) % 2 ^ 32 % 2 ^ 21 ≡ (head + 2 ^ size (headOf numbered) * codes) % 2 ^ 21
 first-is true head codes small = omega arith
 first-is false head codes small = omega arith
 
@@ -53,12 +55,14 @@ later-is codes start =
 -- the digits of a number written into words one by one, the lowest first
 module _ (b row count : ℕ) (words : List ℕ) where
   -- one word is written: those after it are still to come
-  pub word-turn : (i a : ℕ) → i < count → i < length words → a ≡ row / b ^ i % b → put (set words i a) (i + 1) (digits b (count - (i + 1)) (row / b ^ (i + 1))) ≡ put words i (digits b (count - i) (row / b ^ i))
+  pub word-turn : (i a : ℕ) → i < count → i < length words → a ≡ row / b ^ i % b
+      → put (set words i a) (i + 1) (digits b (count - (i + 1)) (row / b ^ (i + 1))) ≡ put words i (digits b (count - i) (row / b ^ i))
   word-turn i a more within is =
       rw (digits-next b count row i more, ← is, add-one i) (put-next words _ i a within)
 
   -- the first
-  pub first-turn : (a : ℕ) → 0 < count → 0 < length words → a ≡ row % b → put (set words 0 a) 1 (digits b (count - 1) (row / b ^ 1)) ≡ put words 0 (digits b count row)
+  pub first-turn : (a : ℕ) → 0 < count → 0 < length words → a ≡ row % b
+      → put (set words 0 a) 1 (digits b (count - 1) (row / b ^ 1)) ≡ put words 0 (digits b count row)
   first-turn a some within is =
       let whole : row / b ^ 0 ≡ row = rw (pow-zero b) (div-one row) in
       rw (whole, sub-zero count) at (word-turn 0 a some within (is ∙ ap (λ (n : ℕ). n % b) (sym whole)))
@@ -83,7 +87,8 @@ after-head h start i head codes small e =
 
 -- a number below 4 is added to the first word where that ends in two bits of 0
 first-more : (n q k : ℕ) (lent : List ℕ) → 1 ≤ n → k < 4
-    → let words = put lent 0 (digits (2 ^ 21) n (q * 4 + 0)) in (getD words 0 0 < 2 ^ 21) × (set words 0 (getD words 0 0 + k) ≡ put lent 0 (digits (2 ^ 21) n (q * 4 + k)))
+    → let words = put lent 0 (digits (2 ^ 21) n (q * 4 + 0)) in (getD words 0 0 < 2 ^ 21)
+    × (set words 0 (getD words 0 0 + k) ≡ put lent 0 (digits (2 ^ 21) n (q * 4 + k)))
 unfolding digits
 first-more zero q k lent some small = absurd (omega arith)
 first-more (suc n) q k lent some small =
@@ -112,13 +117,16 @@ module _ (numbered : Bool) (flags text lent : List ℕ) where
 
   module _ (fits : fit (headOf numbered) (flags ++ 0 ∷ []) ≡ true) where
     -- any K5 with K4 is added to the first
-    keyed : (k : ℕ) → k < 4 → let words = put lent 0 (zeroed numbered flags text) in (getD words 0 0 < 2 ^ 21) × (set words 0 (getD words 0 0 + k) ≡ put lent 0 (wordsWith standardSet numbered (flags ++ k ∷ []) text))
+    keyed : (k : ℕ) → k < 4
+        → let words = put lent 0 (zeroed numbered flags text) in (getD words 0 0 < 2 ^ 21)
+        × (set words 0 (getD words 0 0 + k) ≡ put lent 0 (wordsWith standardSet numbered (flags ++ k ∷ []) text))
     unfolding wordsWith
     keyed k small =
         rw (row-with standardSet numbered flags text k fits small, row-with standardSet numbered flags text 0 fits (omega arith))
         (first-more (wordsFor numbered (length text)) (aboveOf standardSet numbered flags text) k lent (some-word numbered (length text)) small)
 
     -- their own K5 with K4 added to the first makes the page
-    pub k-added : let words = put lent 0 (zeroed numbered flags text) in (getD words 0 0 < 2 ^ 21) × (set words 0 (getD words 0 0 + inWord (checkOf standardSet numbered flags text)) ≡ put lent 0 (pageOf standardSet numbered flags text))
+    pub k-added : let words = put lent 0 (zeroed numbered flags text) in (getD words 0 0 < 2 ^ 21)
+        × (set words 0 (getD words 0 0 + inWord (checkOf standardSet numbered flags text)) ≡ put lent 0 (pageOf standardSet numbered flags text))
     unfolding pageOf
     k-added = keyed (inWord (checkOf standardSet numbered flags text)) (check-small standardSet numbered flags text)

@@ -21,7 +21,9 @@ most-characters true = omega arith
 most-characters false = omega arith
 
 -- a refusal tells its number and nothing besides
-pub write-plain : (set : Set) (lent kind : ℕ) (numbering : Numbering) (text : List ℕ) → (numberTold (writtenOf set lent kind numbering text) ≡ 0 → ⊥) → writtenOf set lent kind numbering text ≡ told (numberTold (writtenOf set lent kind numbering text)) []
+pub write-plain : (set : Set) (lent kind : ℕ) (numbering : Numbering) (text : List ℕ)
+    → (numberTold (writtenOf set lent kind numbering text) ≡ 0 → ⊥)
+    → writtenOf set lent kind numbering text ≡ told (numberTold (writtenOf set lent kind numbering text)) []
 unfolding writtenOf
 write-plain set lent kind numbering text some =
     let page = pageFor set kind numbering text in

@@ -44,7 +44,8 @@ loop-again : tie.Need-loop-again Inv-loop μ-loop
 loop-again c =
     let turn = c .before .before .before .before in
     let row = turn .before .before .before .args .words .now in
-    ap (λ (n : ℕ). (n + sumBy groupsOf (drop (turn .loop .i + 1) row)) % 1024) (c .wrapping-add-u32 .ensures ∙ ap (λ (n : ℕ). (turn .loop .sum + n) % 2 ^ 32) (c .before .groups2 .ensures .0))
+    ap (λ (n : ℕ). (n + sumBy groupsOf (drop (turn .loop .i + 1) row)) % 1024)
+    (c .wrapping-add-u32 .ensures ∙ ap (λ (n : ℕ). (turn .loop .sum + n) % 2 ^ 32) (c .before .groups2 .ensures .0))
     ∙ one-more groupsOf row 22 10 (turn .loop .sum) (turn .loop .i) (omega arith)
     ∙ turn .loop .inv
 

@@ -29,8 +29,10 @@ cast-result c = omega (arith, c .shared-slice-known .given (c .before .before .b
 returns-3 : tie.Need-returns-3
 returns-3 c =
     let start = c .before .before .before in
-    let text = start .args .text .now in
-    (text-cell text (start .args .place) (c .before .before .if1 .left) (c .before .if2 .left), cell-small text (start .args .place) (start .pre .0) (c .before .before .if1 .left) (c .before .if2 .left))
+    let text = start .args .text .now in (
+      text-cell text (start .args .place) (c .before .before .if1 .left) (c .before .if2 .left),
+      cell-small text (start .args .place) (start .pre .0) (c .before .before .if1 .left) (c .before .if2 .left),
+    )
 
 pub cell-at-spec : {M : Type 1} → statement M
 cell-at-spec =

@@ -21,8 +21,10 @@ returns c =
     let args = c .before .before .before .before .args in
     let lent = args .words .now in
     let answer = cutOf (length lent) (args .marks) (args .largest) (args .text .now) in
-    let some : numberTold answer ≡ 0 → ⊥ = λ none. c .if1 .taken (c .before .judge .ensures ∙ none) in
-    (ap asCut (ap (λ (n : ℕ). told n []) (c .before .judge .ensures) ∙ sym (cut-plain (length lent) (args .marks) (args .largest) (args .text .now) some)), sym (refusal-keeps answer lent (flatten (cut (args .marks) (args .largest) (args .text .now))) some))
+    let some : numberTold answer ≡ 0 → ⊥ = λ none. c .if1 .taken (c .before .judge .ensures ∙ none) in (
+      ap asCut (ap (λ (n : ℕ). told n []) (c .before .judge .ensures) ∙ sym (cut-plain (length lent) (args .marks) (args .largest) (args .text .now) some)),
+      sym (refusal-keeps answer lent (flatten (cut (args .marks) (args .largest) (args .text .now))) some),
+    )
 
 -- where it began
 abbrev start : tie.Else1 → tie.Start
@@ -33,7 +35,10 @@ none : (c : tie.Else1) → numberTold (cutOf (length (start c .args .words .now)
 none c = sym (c .before .judge .ensures) ∙ c .if1 .left
 
 -- what is known of a text that is not refused
-known : (c : tie.Else1) → Cuttable (start c .args .marks) (start c .args .largest) (start c .args .text .now) × (fragmentsFor (start c .args .largest) (length (start c .args .text .now)) + wordsFor (length (start c .args .text .now)) ≤ length (start c .args .words .now))
+known : (c : tie.Else1)
+    → Cuttable (start c .args .marks) (start c .args .largest) (start c .args .text .now)
+    × (fragmentsFor (start c .args .largest) (length (start c .args .text .now)) + wordsFor
+    (length (start c .args .text .now)) ≤ length (start c .args .words .now))
 known c = accepted (length (start c .args .words .now)) (start c .args .marks) (start c .args .largest) (start c .args .text .now) .0 (none c)
 
 fragments-for-requires : tie.Need-fragments-for-requires
@@ -65,7 +70,9 @@ returns-2 c =
       ap₂ (λ (n w : ℕ). asCut (given (n ∷ w ∷ []))) (at .fragments-for .ensures .0) together
           ∙ ap asCut (sym (accepted-told (length lent) (args .marks) (args .largest) (args .text .now) (k .0) (k .1))),
       c .before .before .before .write-fragments .ensures
-          ∙ sym (given-writes (cutOf (length lent) (args .marks) (args .largest) (args .text .now)) lent (flatten (cut (args .marks) (args .largest) (args .text .now))) (none (at .before))),
+          ∙ sym
+          (given-writes (cutOf (length lent) (args .marks) (args .largest) (args .text .now)) lent
+          (flatten (cut (args .marks) (args .largest) (args .text .now))) (none (at .before))),
     )
 
 pub cut-spec : {M : Type 1} → statement M

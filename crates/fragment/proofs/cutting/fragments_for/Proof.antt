@@ -22,7 +22,11 @@ div-result : tie.Need-div-result
 div-result c = omega (arith, size-limits (c .before .args .largest) (c .before .pre .0))
 
 returns : tie.Need-returns
-returns c = (rw (c .words-for .ensures), rw (c .words-for .ensures) (few (c .before .args .largest) (c .before .args .characters) (size-limits (c .before .args .largest) (c .before .pre .0) .1) (c .before .pre .1)))
+returns c = (
+  rw (c .words-for .ensures),
+  rw (c .words-for .ensures)
+      (few (c .before .args .largest) (c .before .args .characters) (size-limits (c .before .args .largest) (c .before .pre .0) .1) (c .before .pre .1)),
+)
 
 pub fragments-for-spec : {M : Type 1} → statement M
 fragments-for-spec =

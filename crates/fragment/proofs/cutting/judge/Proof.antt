@@ -80,7 +80,8 @@ unfolding cutOf
 returns-4 c =
     let past = c .before .before .before in
     c .number4 .ensures
-    ∙ simp (fits (past .before .before .before), sized (past .before), short past, sym (c .before .before .sendable .ensures) ∙ not-true _ (c .before .if4 .taken))
+    ∙ simp
+    (fits (past .before .before .before), sized (past .before), short past, sym (c .before .before .sendable .ensures) ∙ not-true _ (c .before .if4 .taken))
 
 fragments-for-requires : tie.Need-fragments-for-requires
 fragments-for-requires c κs = (sized (c .before .before .before), omega (arith, c .before .before .if3 .left))
@@ -114,7 +115,13 @@ returns-5 c =
     let past = at .before .before in
     let sized-at = past .before .before .before in
     c .number5 .ensures
-    ∙ simp (fits (sized-at .before .before), sized sized-at, short (past .before .before), sent past, lt-ltb (start at .args .lent) (needed at) (omega (arith, together at, c .before .if5 .taken)))
+    ∙ simp (
+      fits (sized-at .before .before),
+      sized sized-at,
+      short (past .before .before),
+      sent past,
+      lt-ltb (start at .args .lent) (needed at) (omega (arith, together at, c .before .if5 .taken)),
+    )
 
 returns-6 : tie.Need-returns-6
 unfolding cutOf
@@ -122,7 +129,13 @@ returns-6 c =
     let at = c .before in
     let past = at .before .before in
     let sized-at = past .before .before .before in
-    simp (fits (sized-at .before .before), sized sized-at, short (past .before .before), sent past, le-ltb (start at .args .lent) (needed at) (omega (arith, together at, c .if5 .left)))
+    simp (
+      fits (sized-at .before .before),
+      sized sized-at,
+      short (past .before .before),
+      sent past,
+      le-ltb (start at .args .lent) (needed at) (omega (arith, together at, c .if5 .left)),
+    )
 
 pub judge-spec : {M : Type 1} → statement M
 judge-spec =

@@ -16,7 +16,8 @@ cell-at-requires-2 : tie.Need-cell-at-requires-2
 cell-at-requires-2 c κs = search needs
 
 add-cell-at-2 : tie.Need-add-cell-at-2
-add-cell-at-2 c = omega (arith, c .before .before .before .pre .1 .1, message-length (c .before .before .before .args .text .now), c .before .before .before .good)
+add-cell-at-2 c =
+    omega (arith, c .before .before .before .pre .1 .1, message-length (c .before .before .before .args .text .now), c .before .before .before .good)
 
 cell-at-requires-3 : tie.Need-cell-at-requires-3
 cell-at-requires-3 c κs = search needs
@@ -35,8 +36,11 @@ add-result-2 c = search needs
 
 returns : tie.Need-returns
 returns c =
-    let start = c .before .before .before .before in
-    (rw (c .before .before .cell-at .ensures .0, c .before .cell-at2 .ensures .0, c .cell-at3 .ensures .0) (three-cells (start .args .text .now) (start .args .place) (start .pre .1 .1)), omega (arith, c .before .before .cell-at .ensures .1, c .before .cell-at2 .ensures .1, c .cell-at3 .ensures .1))
+    let start = c .before .before .before .before in (
+      rw (c .before .before .cell-at .ensures .0, c .before .cell-at2 .ensures .0, c .cell-at3 .ensures .0)
+          (three-cells (start .args .text .now) (start .args .place) (start .pre .1 .1)),
+      omega (arith, c .before .before .cell-at .ensures .1, c .before .cell-at2 .ensures .1, c .cell-at3 .ensures .1),
+    )
 
 pub word-at-spec : {M : Type 1} → statement M
 word-at-spec =

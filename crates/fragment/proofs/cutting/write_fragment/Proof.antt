@@ -44,10 +44,12 @@ zeroes c =
     let words = start c .args .words .now in
     let head = c .before .before .head-of .result in
     (simp length-set at (c .write-cells .ensures))
-    ∙ ap (λ (word : ℕ). word ∷ wordsOf (cells (start c))) (getD-set-same words 0 head 0 (omega (arith, start c .pre .1 .1 .1 .0)) ∙ c .before .before .head-of .ensures)
+    ∙ ap (λ (word : ℕ). word ∷ wordsOf (cells (start c)))
+    (getD-set-same words 0 head 0 (omega (arith, start c .pre .1 .1 .1 .0)) ∙ c .before .before .head-of .ensures)
 
 -- the words with K as 0 are as many as were lent
-as-many : (c : tie.After-write-cells) → (length (c .write-cells .last .1 .1 .1 .0) ≡ length (start c .args .words .now)) × (1 ≤ length (c .write-cells .last .1 .1 .1 .0))
+as-many : (c : tie.After-write-cells)
+    → (length (c .write-cells .last .1 .1 .1 .0) ≡ length (start c .args .words .now)) × (1 ≤ length (c .write-cells .last .1 .1 .1 .0))
 as-many c =
     let args = start c .args in
     let pre = start c .pre .1 .1 .1 in
@@ -59,8 +61,13 @@ ten-bit-requires : tie.Need-ten-bit-requires
 ten-bit-requires c κs = search needs
 
 -- K added makes the fragment
-with-k : (c : tie.Start) → (set (zeroed c) 0 (getD (zeroed c) 0 0 + tenBits (zeroed c)) ≡ fragmentOf (eqb (c .args .place) 0) (headAt (c .args .marks) (c .args .place) (c .args .left)) (cells c)) × (getD (zeroed c) 0 0 + tenBits (zeroed c) < 0x200000)
-with-k c = k-added (eqb (c .args .place) 0) (headAt (c .args .marks) (c .args .place) (c .args .left)) (cells c) (head-fits (c .args .marks) (c .pre .1 .1 .0) (c .args .place) (c .args .left))
+with-k : (c : tie.Start)
+    → (set (zeroed c) 0 (getD (zeroed c) 0 0 + tenBits (zeroed c))
+    ≡ fragmentOf (eqb (c .args .place) 0) (headAt (c .args .marks) (c .args .place) (c .args .left)) (cells c))
+    × (getD (zeroed c) 0 0 + tenBits (zeroed c) < 0x200000)
+with-k c =
+    k-added (eqb (c .args .place) 0) (headAt (c .args .marks) (c .args .place) (c .args .left)) (cells c)
+    (head-fits (c .args .marks) (c .pre .1 .1 .0) (c .args .place) (c .args .left))
 
 -- the first word and K fit 21 bits
 k-fits : (c : tie.After-write-cells) → getD (c .write-cells .last .1 .1 .1 .0) 0 0 + tenBits (c .write-cells .last .1 .1 .1 .0) < 0x200000

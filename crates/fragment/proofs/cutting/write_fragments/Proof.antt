@@ -16,13 +16,16 @@ use Rattle.fragment.proofs.cutting.write_fragments.Tie as tie
 
 abbrev Inv-loop : tie.InvT-loop
 Inv-loop text marks largest count words₀ signature place₀ words place =
-    (place ≤ count) × (length words ≡ length words₀) × (put words (largest * place) (flatten (fragmentsFrom marks largest text place (count - place))) ≡ put words₀ 0 (flatten (cut marks largest text)))
+    (place ≤ count) × (length words ≡ length words₀)
+    × (put words (largest * place) (flatten (fragmentsFrom marks largest text place (count - place))) ≡ put words₀ 0 (flatten (cut marks largest text)))
 
 abbrev μ-loop : tie.MeasureT-loop
 μ-loop text marks largest count words₀ signature place₀ words place = count - place
 
 -- what is known, since nothing is refused
-known : (c : tie.Start Inv-loop μ-loop) → Cuttable (c .args .marks) (c .args .largest) (c .args .text .now) × (fragmentsFor (c .args .largest) (length (c .args .text .now)) + wordsFor (length (c .args .text .now)) ≤ length (c .args .words .now))
+known : (c : tie.Start Inv-loop μ-loop)
+    → Cuttable (c .args .marks) (c .args .largest) (c .args .text .now)
+    × (fragmentsFor (c .args .largest) (length (c .args .text .now)) + wordsFor (length (c .args .text .now)) ≤ length (c .args .words .now))
 known c = accepted (length (c .args .words .now)) (c .args .marks) (c .args .largest) (c .args .text .now) .0 (c .pre .0)
 
 signature-of-requires : tie.Need-signature-of-requires Inv-loop μ-loop
@@ -31,8 +34,12 @@ signature-of-requires c κs = search needs
 loop-holds : tie.Need-loop-holds Inv-loop μ-loop
 loop-holds c =
     let start = c .before .before .before in
-    let args = start .args in
-    (omega arith, refl, fragments-begin (args .marks) (args .largest) (args .text .now) (size-limits (args .largest) (known start .0 .size) .0) (args .words .now) (args .count) (start .pre .1))
+    let args = start .args in (
+      omega arith,
+      refl,
+      fragments-begin (args .marks) (args .largest) (args .text .now)
+          (size-limits (args .largest) (known start .0 .size) .0) (args .words .now) (args .count) (start .pre .1),
+    )
 
 write-at-requires : tie.Need-write-at-requires Inv-loop μ-loop
 write-at-requires c κs =
@@ -60,8 +67,23 @@ loop-again c =
     let inside : args .largest * turn .loop .place ≤ length (turn .loop .words) = omega (arith, within, known start .1, turn .loop .inv .1) in
     let wrote = c .before .before .write-at .ensures in
     let fragment = fragmentAt (args .marks) (args .largest) (args .text .now) (turn .loop .place) in
-    let ends : args .largest * turn .loop .place + length fragment ≤ length (turn .loop .words) = omega (arith, ends-within (args .marks) (args .largest) (args .text .now) two (turn .loop .place) (omega (arith, more, start .pre .1)), known start .1, turn .loop .inv .1) in
-    (omega (arith, more), ap length wrote ∙ length-put (turn .loop .words) fragment (args .largest * turn .loop .place) ends ∙ turn .loop .inv .1, ap (λ (words : List ℕ). put words (args .largest * (turn .loop .place + 1)) (flatten (fragmentsFrom (args .marks) (args .largest) (args .text .now) (turn .loop .place + 1) (args .count - (turn .loop .place + 1))))) wrote ∙ fragment-turn (args .marks) (args .largest) (args .text .now) two (turn .loop .words) (turn .loop .place) (args .count) (start .pre .1) more inside ∙ turn .loop .inv .2)
+    let ends : args .largest * turn .loop .place + length fragment ≤ length (turn .loop .words) =
+    omega (
+      arith,
+      ends-within (args .marks) (args .largest) (args .text .now) two (turn .loop .place) (omega (arith, more, start .pre .1)),
+      known start .1,
+      turn .loop .inv .1,
+    ) in (
+      omega (arith, more),
+      ap length wrote
+          ∙ length-put (turn .loop .words) fragment (args .largest * turn .loop .place) ends
+          ∙ turn .loop .inv .1,
+      ap
+          (λ (words : List ℕ). put words (args .largest * (turn .loop .place + 1))
+          (flatten (fragmentsFrom (args .marks) (args .largest) (args .text .now) (turn .loop .place + 1) (args .count - (turn .loop .place + 1))))) wrote
+          ∙ fragment-turn (args .marks) (args .largest) (args .text .now) two (turn .loop .words) (turn .loop .place) (args .count) (start .pre .1) more inside
+          ∙ turn .loop .inv .2,
+    )
 
 same-length : tie.Need-same-length Inv-loop μ-loop
 same-length c = c .before .loop .inv .1
@@ -71,7 +93,9 @@ returns c =
     let turn = c .before in
     let start = turn .before .before .before .before in
     let args = start .args in
-    fragments-done (args .marks) (args .largest) (args .text .now) (size-limits (args .largest) (known start .0 .size) .0) (turn .loop .words) (turn .loop .place) (args .count) (c .loop-test .left)
+    fragments-done (args .marks) (args .largest) (args .text .now)
+    (size-limits (args .largest) (known start .0 .size) .0) (turn .loop .words) (turn .loop .place) (args .count)
+    (c .loop-test .left)
     ∙ turn .loop .inv .2
 
 pub write-fragments-spec : {M : Type 1} → statement M

@@ -66,7 +66,8 @@ returns-3 c =
     let past = asked .before in
     let words = past .before .before .before .before .before .args .words .now in
     c .refused3 .ensures
-    ∙ simp (sized (past .before .before), intact past, ne-eqb (tenBits words) (checkIn words) (λ same. omega (arith, asked .ten-bit .ensures, c .before .if3 .taken)))
+    ∙ simp
+    (sized (past .before .before), intact past, ne-eqb (tenBits words) (checkIn words) (λ same. omega (arith, asked .ten-bit .ensures, c .before .if3 .taken)))
 
 heading-of-requires : tie.Need-heading-of-requires
 heading-of-requires c κs =

@@ -41,7 +41,17 @@ returns c =
     let first = sign .before .before .before .before in
     let start = first .before .before .before in
     let words = start .args .words .now in
-    rw (sign .before .before .before .kept .ensures, sign .before .before .kept2 .ensures, sign .kept3 .ensures, c .before .before .before .sum .ensures, c .count .ensures, c .before .unsigned .ensures, first .is-first .ensures, text-after-signature (isFirst words) words (start .pre), signature-cell words (start .pre))
+    rw (
+      sign .before .before .before .kept .ensures,
+      sign .before .before .kept2 .ensures,
+      sign .kept3 .ensures,
+      c .before .before .before .sum .ensures,
+      c .count .ensures,
+      c .before .unsigned .ensures,
+      first .is-first .ensures,
+      text-after-signature (isFirst words) words (start .pre),
+      signature-cell words (start .pre),
+    )
 
 pub heading-of-spec : {M : Type 1} → statement M
 heading-of-spec =

@@ -42,7 +42,8 @@ loop-again : tie.Need-loop-again Inv-loop μ-loop
 loop-again c =
     let turn = c .before .before .before .before in
     let words = turn .before .before .args .words .now in
-    ap (λ (n : ℕ). (n + sumBy cellSum (drop (turn .loop .i + 1) words)) % 128) (c .wrapping-add-u32 .ensures ∙ ap (λ (n : ℕ). (turn .loop .sum + n) % 2 ^ 32) (c .before .sum-in .ensures .0))
+    ap (λ (n : ℕ). (n + sumBy cellSum (drop (turn .loop .i + 1) words)) % 128)
+    (c .wrapping-add-u32 .ensures ∙ ap (λ (n : ℕ). (turn .loop .sum + n) % 2 ^ 32) (c .before .sum-in .ensures .0))
     ∙ one-more cellSum words 25 7 (turn .loop .sum) (turn .loop .i) (omega arith)
     ∙ turn .loop .inv
 

@@ -39,8 +39,13 @@ returns-2 c =
     let wrote = c .before .before .before .before .before in
     let past = wrote .before .before in
     let args = past .before .before .before .before .before .args in
-    let text = wrote .write-text .ensures in
-    (rw (c .number .ensures) (ap asFragment (sym (read-full (args .words .now) (args .text .now) (good past) (λ none. omega (arith, ap (λ r. r .number) (text .0), c .before .if2 .taken))))), text .1 ∙ sym (read-writes (args .words .now) (args .text .now) (good past)))
+    let text = wrote .write-text .ensures in (
+      rw (c .number .ensures)
+          (ap asFragment
+          (sym (read-full (args .words .now) (args .text .now) (good past) (λ none. omega (arith, ap (λ r. r .number) (text .0), c .before .if2 .taken))))),
+      text .1
+          ∙ sym (read-writes (args .words .now) (args .text .now) (good past)),
+    )
 
 same-length-2 : tie.Need-same-length-2
 same-length-2 c = search needs
@@ -50,8 +55,12 @@ returns-3 c =
     let wrote = c .before .before .before .before in
     let past = wrote .before .before in
     let args = past .before .before .before .before .before .args in
-    let text = wrote .write-text .ensures in
-    (past .before .before .heading .ensures ∙ ap asFragment (sym (read-given (args .words .now) (args .text .now) (good past) (omega (arith, ap (λ r. r .number) (text .0), c .if2 .left)))), text .1 ∙ sym (read-writes (args .words .now) (args .text .now) (good past)))
+    let text = wrote .write-text .ensures in (
+      past .before .before .heading .ensures
+          ∙ ap asFragment (sym (read-given (args .words .now) (args .text .now) (good past) (omega (arith, ap (λ r. r .number) (text .0), c .if2 .left)))),
+      text .1
+          ∙ sym (read-writes (args .words .now) (args .text .now) (good past)),
+    )
 
 pub read-spec : {M : Type 1} → statement M
 read-spec =

@@ -18,7 +18,9 @@ returns : tie.Need-returns
 returns c =
     let start = c .before .before in
     let args = start .args in
-    sym (le-leb (length (textFrom (args .second) (args .words .now))) (args .room) (omega (arith, text-most (args .second) (args .words .now) (start .pre), c .if1 .taken)))
+    sym
+    (le-leb (length (textFrom (args .second) (args .words .now))) (args .room)
+    (omega (arith, text-most (args .second) (args .words .now) (start .pre), c .if1 .taken)))
 
 count-requires : tie.Need-count-requires
 count-requires c κs = search needs

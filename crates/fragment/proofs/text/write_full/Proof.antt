@@ -43,8 +43,10 @@ loop-again : tie.Need-loop-again Inv-loop μ-loop
 loop-again c =
     let wrote = c .before .before in
     let turn = wrote .before .before .before .before in
-    let words = turn .before .before .before .args .words .now in
-    (begun-more _ _ _ _ _ _ _ _ (turn .loop .inv .0) (omega arith) (wrote .write-three .ensures .0) (wrote .write-three .ensures .1), all-next isFull words (turn .loop .i) (omega arith) (turn .loop .inv .1) .1)
+    let words = turn .before .before .before .args .words .now in (
+      begun-more _ _ _ _ _ _ _ _ (turn .loop .inv .0) (omega arith) (wrote .write-three .ensures .0) (wrote .write-three .ensures .1),
+      all-next isFull words (turn .loop .i) (omega arith) (turn .loop .inv .1) .1,
+    )
 
 same-length : tie.Need-same-length Inv-loop μ-loop
 same-length c = search needs

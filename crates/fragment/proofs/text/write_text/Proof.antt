@@ -59,7 +59,9 @@ returns-2 c =
     let asked = c .before .before in
     let past = asked .before in
     let args = past .before .before .before .before .before .before .before .args in
-    let short = leb-false (length (textFrom (past .unsigned .result) (args .words .now))) (length (args .text .now)) (sym (asked .has-room .ensures) ∙ not-true _ (c .before .if2 .taken)) in
+    let short =
+    leb-false (length (textFrom (past .unsigned .result) (args .words .now))) (length (args .text .now))
+    (sym (asked .has-room .ensures) ∙ not-true _ (c .before .if2 .taken)) in
     let told = text-refused (args .words .now) (args .text .now) (omega (arith, short, ap length (same past))) in
     (rw (c .number .ensures) (ap asText (sym (told .0))), sym (told .1))
 
@@ -75,8 +77,11 @@ returns-3 c =
     let past = wrote .before .before in
     let args = past .before .before .before .before .before .before .before .before .before .args in
     let text = same (past .before .before) in
-    let lent : length (textIn (args .words .now)) ≤ length (args .text .now) = omega (arith, room past, ap length text) in
-    (rw (wrote .write-words .ensures .0, text) (ap asText (sym (text-told (args .words .now) (length (args .text .now)) lent))), wrote .write-words .ensures .1 ∙ ap (put (args .text .now) 0) text ∙ sym (text-given (args .words .now) (args .text .now) lent))
+    let lent : length (textIn (args .words .now)) ≤ length (args .text .now) = omega (arith, room past, ap length text) in (
+      rw (wrote .write-words .ensures .0, text) (ap asText (sym (text-told (args .words .now) (length (args .text .now)) lent))),
+      wrote .write-words .ensures .1
+          ∙ ap (put (args .text .now) 0) text ∙ sym (text-given (args .words .now) (args .text .now) lent),
+    )
 
 pub write-text-spec : {M : Type 1} → statement M
 write-text-spec =

@@ -40,8 +40,11 @@ same-length c = search needs
 
 returns : tie.Need-returns
 returns c =
-    let text = full-text (c .args .word) (c .pre .0) in
-    (omega (arith, ap length text), put-three (c .args .text .now) (c .args .at) _ _ _ (omega (arith, ap length text, c .pre .1)) ∙ ap (put (c .args .text .now) (c .args .at)) (sym text))
+    let text = full-text (c .args .word) (c .pre .0) in (
+      omega (arith, ap length text),
+      put-three (c .args .text .now) (c .args .at) _ _ _ (omega (arith, ap length text, c .pre .1))
+          ∙ ap (put (c .args .text .now) (c .args .at)) (sym text),
+    )
 
 pub write-three-spec : {M : Type 1} → statement M
 write-three-spec =

@@ -42,8 +42,10 @@ returns c =
     let all = length-three (args .word) in (
       omega (arith, wrote .0, then .0, last .0, all),
       last .1
-          ∙ put-on (first .write-cell .last .1 .0) (second .write-cell2 .last .1 .0) _ _ (first .write-cell .result) (second .write-cell2 .result) (omega (arith, start .pre, wrote .0, all)) (then .1) (then .0)
-          ∙ put-on (args .text .now) (first .write-cell .last .1 .0) _ _ (args .at) (first .write-cell .result) (omega (arith, start .pre)) (wrote .1) (wrote .0)
+          ∙ put-on (first .write-cell .last .1 .0) (second .write-cell2 .last .1 .0) _ _ (first .write-cell .result)
+          (second .write-cell2 .result) (omega (arith, start .pre, wrote .0, all)) (then .1) (then .0)
+          ∙ put-on (args .text .now) (first .write-cell .last .1 .0) _ _ (args .at) (first .write-cell .result)
+          (omega (arith, start .pre)) (wrote .1) (wrote .0)
           ∙ ap (put (args .text .now) (args .at)) (sym (text-three (args .word))),
     )
 

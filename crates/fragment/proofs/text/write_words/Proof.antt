@@ -40,7 +40,8 @@ returns c =
     let last = c .before .before in
     let wrote = last .before .before .before .before .before .before in
     let start = wrote .before .before .before .before in
-    joined _ _ _ (start .args .words .now) _ _ _ (wrote .write-word .ensures .0) (wrote .write-word .ensures .1) (last .write-full .ensures .0) (last .write-full .ensures .1)
+    joined _ _ _ (start .args .words .now) _ _ _ (wrote .write-word .ensures .0) (wrote .write-word .ensures .1)
+    (last .write-full .ensures .0) (last .write-full .ensures .1)
 
 write-rest-requires : tie.Need-write-rest-requires
 write-rest-requires c κs = room (c .before .before)
@@ -53,7 +54,8 @@ returns-2 c =
     let last = c .before .before in
     let wrote = last .before .before .before .before .before .before in
     let start = wrote .before .before .before .before in
-    joined _ _ _ (start .args .words .now) _ _ _ (wrote .write-word .ensures .0) (wrote .write-word .ensures .1) (last .write-rest .ensures .0) (last .write-rest .ensures .1)
+    joined _ _ _ (start .args .words .now) _ _ _ (wrote .write-word .ensures .0) (wrote .write-word .ensures .1)
+    (last .write-rest .ensures .0) (last .write-rest .ensures .1)
 
 pub write-words-spec : {M : Type 1} → statement M
 write-words-spec =

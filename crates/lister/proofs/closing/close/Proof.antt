@@ -20,7 +20,8 @@ returns c =
     let s = k .before .before in
     let out = s .args .out .now in
     let whole = rw (c .if1 .taken) at (k .with-return .ensures .0) in
-    answered-same out [] _ _ out (closes-none (keptOf (s .args .lister)) (s .args .lister .held) [] whole refl) (room-there out [] 0 out (omega arith) (wrote-none out 0))
+    answered-same out [] _ _ out (closes-none (keptOf (s .args .lister)) (s .args .lister .held) [] whole refl)
+    (room-there out [] 0 out (omega arith) (wrote-none out 0))
 
 write-last-requires : tie.Need-write-last-requires
 write-last-requires c κs = search needs
@@ -36,7 +37,9 @@ returns-2 c =
     let s = k .before .before in
     let ended = k .with-return .result in
     let some : 0 < length (keptOf ended) = omega (arith, length-take (ended .count) (ended .line), k .with-return .ensures .1, d .if1 .left) in
-    answered-same _ _ _ _ _ (closes-some (keptOf (s .args .lister)) (s .args .lister .held) (keptOf ended) (k .with-return .ensures .0) some) (w .write-last .ensures)
+    answered-same _ _ _ _ _
+    (closes-some (keptOf (s .args .lister)) (s .args .lister .held) (keptOf ended) (k .with-return .ensures .0) some)
+    (w .write-last .ensures)
 
 pub close-spec : {M : Type 1} → statement M
 close-spec =

@@ -64,7 +64,14 @@ copy-requires c κs =
     let h = c .before .before .before .before .before in
     let d = h .before .before in
     let e = d .before .before in
-    omega (arith, d .if1 .left, d .before .held-length .ensures, h .show-held .ensures .ends, h .show-held .kept, length-take-le (e .verdict-on .result .size) (e .verdict-on .result .end) (within e))
+    omega (
+      arith,
+      d .if1 .left,
+      d .before .held-length .ensures,
+      h .show-held .ensures .ends,
+      h .show-held .kept,
+      length-take-le (e .verdict-on .result .size) (e .verdict-on .result .end) (within e),
+    )
 
 same-length : tie.Need-same-length
 same-length c = search needs
@@ -80,7 +87,8 @@ returns-2 c =
     let held = heldShown (s .args .held) in
     room-there (s .args .out .now) (held ++ verdictOf text) (k .copy .result) _
     (omega (arith, d .if1 .left, d .before .held-length .ensures, long e, length-append held (verdictOf text)))
-    (wrote-then _ _ _ _ _ _ _ _ (omega arith) (h .show-held .ensures) (wrote-same _ _ _ _ _ _ (end-of text (e .verdict-on .result) (e .verdict-on .ensures)) (k .copy .ensures)))
+    (wrote-then _ _ _ _ _ _ _ _ (omega arith) (h .show-held .ensures)
+    (wrote-same _ _ _ _ _ _ (end-of text (e .verdict-on .result) (e .verdict-on .ensures)) (k .copy .ensures)))
 
 pub write-last-spec : {M : Type 1} → statement M
 write-last-spec =

@@ -60,7 +60,9 @@ returns-3 c =
     let k = c .before .before in
     let d = k .before .before .before in
     let t = d .before .before in
-    wrote-same _ _ _ _ _ _ (shown-escaped _ _ _ (t .before .if1 .left) (t .if2 .left) (d .before .hex-digit .ensures) (d .hex-digit2 .ensures)) (k .copy3 .ensures)
+    wrote-same _ _ _ _ _ _
+    (shown-escaped _ _ _ (t .before .if1 .left) (t .if2 .left) (d .before .hex-digit .ensures) (d .hex-digit2 .ensures))
+    (k .copy3 .ensures)
 
 pub show-spec : {M : Type 1} → statement M
 show-spec =

@@ -39,8 +39,11 @@ returns-2 c =
     let s = j .before .before .before in
     let text = s .args .text .now in
     let verdict = j .judge .result in
-    let accepted = not-false _ (d .if1 .left) in
-    (wrote-then _ _ _ _ _ _ _ _ (omega arith) (w .copy .ensures) (wrote-same _ _ _ _ _ _ (whole-of text verdict (j .judge .ensures) accepted) (k .copy2 .ensures)), read-shown text (number-of text verdict (j .judge .ensures) accepted))
+    let accepted = not-false _ (d .if1 .left) in (
+      wrote-then _ _ _ _ _ _ _ _ (omega arith) (w .copy .ensures)
+          (wrote-same _ _ _ _ _ _ (whole-of text verdict (j .judge .ensures) accepted) (k .copy2 .ensures)),
+      read-shown text (number-of text verdict (j .judge .ensures) accepted),
+    )
 
 pub write-line-spec : {M : Type 1} → statement M
 write-line-spec =

@@ -52,7 +52,9 @@ returns-2 c =
     let k = d .before .before .before in
     let s = k .before .before .before in
     let words = sym (ap toldWorded (k .first .given .1)) ∙ k .before .before .words-of .ensures in
-    c .fields2 .ensures ∙ accepted-end _ (d .before .six-digits2 .result) (d .six-digits3 .result) (s .args .c) (s .args .a) words (rw (d .before .six-digits2 .ensures, d .six-digits3 .ensures))
+    c .fields2 .ensures
+    ∙ accepted-end _ (d .before .six-digits2 .result) (d .six-digits3 .result) (s .args .c) (s .args .a) words
+    (rw (d .before .six-digits2 .ensures, d .six-digits3 .ensures))
 
 returns-3 : tie.Need-returns-3
 returns-3 c =

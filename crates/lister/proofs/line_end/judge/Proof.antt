@@ -26,7 +26,8 @@ refused-end-requires c κs = search needs
 returns : tie.Need-returns
 returns c =
     let d = c .before .before in
-    accepted-told (d .c .given .0 .0) (d .c .given .0 .1 .0) (c .accepted-end .result) (c .accepted-end .ensures) ∙ ap verdictAs (sym (ap toldRead (d .c .given .1)) ∙ d .before .before .read .ensures)
+    accepted-told (d .c .given .0 .0) (d .c .given .0 .1 .0) (c .accepted-end .result) (c .accepted-end .ensures)
+    ∙ ap verdictAs (sym (ap toldRead (d .c .given .1)) ∙ d .before .before .read .ensures)
 
 returns-2 : tie.Need-returns-2
 returns-2 c =

@@ -100,7 +100,13 @@ returns-5 c =
     let args = start .args in
     let short = c .before .before .room-of .ensures in
     c .number5 .ensures
-    ∙ simp (fits (sized-at .before .before), sized sized-at, whole whole-at, right past, lt-ltb (args .lent) (roomOf (isNumbered (args .kind)) (length (args .words .now))) (omega (arith, short, c .before .if5 .taken)))
+    ∙ simp (
+      fits (sized-at .before .before),
+      sized sized-at,
+      whole whole-at,
+      right past,
+      lt-ltb (args .lent) (roomOf (isNumbered (args .kind)) (length (args .words .now))) (omega (arith, short, c .before .if5 .taken)),
+    )
 
 returns-6 : tie.Need-returns-6
 unfolding readOf
@@ -111,7 +117,13 @@ returns-6 c =
     let start = sized-at .before .before .before .before .before in
     let args = start .args in
     let short = c .before .room-of .ensures in
-    simp (fits (sized-at .before .before), sized sized-at, whole whole-at, right past, le-ltb (args .lent) (roomOf (isNumbered (args .kind)) (length (args .words .now))) (omega (arith, short, c .if5 .left)))
+    simp (
+      fits (sized-at .before .before),
+      sized sized-at,
+      whole whole-at,
+      right past,
+      le-ltb (args .lent) (roomOf (isNumbered (args .kind)) (length (args .words .now))) (omega (arith, short, c .if5 .left)),
+    )
 
 pub judge-reading-spec : {M : Type 1} → statement M
 judge-reading-spec =

@@ -19,8 +19,12 @@ returns : tie.Need-returns
 returns c =
     let args = c .before .before .before .before .args in
     let answer = readOf standardSet (length (args .text .now)) (args .kind) (args .check) (args .words .now) in
-    let some : numberTold answer ≡ 0 → ⊥ = λ none. c .if1 .taken (c .before .judge-reading .ensures ∙ none) in
-    (ap asRead (ap (λ (n : ℕ). told n []) (c .before .judge-reading .ensures) ∙ sym (read-plain standardSet (length (args .text .now)) (args .kind) (args .check) (args .words .now) some)), sym (refusal-keeps answer (args .text .now) (textIn standardSet (isNumbered (args .kind)) (args .words .now)) some))
+    let some : numberTold answer ≡ 0 → ⊥ = λ none. c .if1 .taken (c .before .judge-reading .ensures ∙ none) in (
+      ap asRead
+          (ap (λ (n : ℕ). told n []) (c .before .judge-reading .ensures)
+          ∙ sym (read-plain standardSet (length (args .text .now)) (args .kind) (args .check) (args .words .now) some)),
+      sym (refusal-keeps answer (args .text .now) (textIn standardSet (isNumbered (args .kind)) (args .words .now)) some),
+    )
 
 read-page-requires : tie.Need-read-page-requires
 read-page-requires c κs = search needs

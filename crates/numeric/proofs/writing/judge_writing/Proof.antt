@@ -47,7 +47,11 @@ returns-2 c =
     let past = c .before .before .before in
     let args = past .before .before .before .args in
     c .number2 .ensures
-    ∙ simp (fits past, lt-ltb (roomOf (isNumbered (args .kind)) mostWords) (length (args .text .now)) (omega (arith, c .before .before .room-of .ensures, c .before .if2 .taken)))
+    ∙ simp (
+      fits past,
+      lt-ltb (roomOf (isNumbered (args .kind)) mostWords) (length (args .text .now))
+          (omega (arith, c .before .before .room-of .ensures, c .before .if2 .taken)),
+    )
 
 in-set-requires : tie.Need-in-set-requires
 in-set-requires c κs = search needs
@@ -81,7 +85,12 @@ returns-4 c =
     let page = pageOf standardSet (isNumbered (args .kind)) (flagsOf (args .numbering)) (args .text .now) in
     let words = page-length standardSet (isNumbered (args .kind)) (flagsOf (args .numbering)) (args .text .now) in
     c .number4 .ensures
-    ∙ simp (fits fits-at, le-ltb _ _ (short short-at), known past, lt-ltb (args .lent) (length page) (omega (arith, words, c .before .before .words-for .ensures, c .before .if4 .taken)))
+    ∙ simp (
+      fits fits-at,
+      le-ltb _ _ (short short-at),
+      known past,
+      lt-ltb (args .lent) (length page) (omega (arith, words, c .before .before .words-for .ensures, c .before .if4 .taken)),
+    )
 
 returns-5 : tie.Need-returns-5
 unfolding writtenOf
@@ -92,7 +101,12 @@ returns-5 c =
     let args = fits-at .before .before .before .args in
     let page = pageOf standardSet (isNumbered (args .kind)) (flagsOf (args .numbering)) (args .text .now) in
     let words = page-length standardSet (isNumbered (args .kind)) (flagsOf (args .numbering)) (args .text .now) in
-    simp (fits fits-at, le-ltb _ _ (short short-at), known past, le-ltb (args .lent) (length page) (omega (arith, words, c .before .words-for .ensures, c .if4 .left)))
+    simp (
+      fits fits-at,
+      le-ltb _ _ (short short-at),
+      known past,
+      le-ltb (args .lent) (length page) (omega (arith, words, c .before .words-for .ensures, c .if4 .left)),
+    )
 
 pub judge-writing-spec : {M : Type 1} → statement M
 judge-writing-spec =

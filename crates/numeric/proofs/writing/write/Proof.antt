@@ -21,8 +21,12 @@ returns c =
     let args = c .before .before .before .before .args in
     let lent = args .words .now in
     let answer = writtenOf standardSet (length lent) (args .kind) (args .numbering) (args .text .now) in
-    let some : numberTold answer ≡ 0 → ⊥ = λ none. c .if1 .taken (c .before .judge-writing .ensures ∙ none) in
-    (ap asWritten (ap (λ (n : ℕ). told n []) (c .before .judge-writing .ensures) ∙ sym (write-plain standardSet (length lent) (args .kind) (args .numbering) (args .text .now) some)), sym (refusal-keeps answer lent (pageFor standardSet (args .kind) (args .numbering) (args .text .now)) some))
+    let some : numberTold answer ≡ 0 → ⊥ = λ none. c .if1 .taken (c .before .judge-writing .ensures ∙ none) in (
+      ap asWritten
+          (ap (λ (n : ℕ). told n []) (c .before .judge-writing .ensures)
+          ∙ sym (write-plain standardSet (length lent) (args .kind) (args .numbering) (args .text .now) some)),
+      sym (refusal-keeps answer lent (pageFor standardSet (args .kind) (args .numbering) (args .text .now)) some),
+    )
 
 write-page-requires : tie.Need-write-page-requires
 write-page-requires c κs = search needs

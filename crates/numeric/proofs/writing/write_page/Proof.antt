@@ -46,19 +46,25 @@ write-words-requires c κs =
       (
         rw count (room-enough numbered (length (entry .args .text .now))),
         (
-          rw (c .before .head-of .ensures) (packed-lt (headOf numbered) (flagsOf (entry .args .numbering) ++ 0 ∷ []) (laid-head numbered) (known entry .fits .head)),
+          rw (c .before .head-of .ensures)
+              (packed-lt (headOf numbered) (flagsOf (entry .args .numbering) ++ 0 ∷ []) (laid-head numbered) (known entry .fits .head)),
           (omega (arith, size, count), (omega (arith, size, count), omega (arith, size, count, known entry .enough))),
         ),
       ),
     )
 
 -- the words with K as 0
-zeroes : (c : tie.After-write-words) → c .write-words .last .1 .1 .1 .1 .0 ≡ put (start c .args .words .now) 0 (zeroed (isNumbered (start c .args .kind)) (flagsOf (start c .args .numbering)) (start c .args .text .now))
+zeroes : (c : tie.After-write-words)
+    → c .write-words .last .1 .1 .1 .1 .0
+    ≡ put (start c .args .words .now) 0 (zeroed (isNumbered (start c .args .kind)) (flagsOf (start c .args .numbering)) (start c .args .text .now))
 unfolding wordsWith
 zeroes c = rw (c .before .before .before .words-for .ensures, c .before .before .head-of .ensures) at (c .write-words .ensures)
 
 -- the words with K as 0 are as many as were lent, which is enough
-as-many : (c : tie.After-write-words) → (length (c .write-words .last .1 .1 .1 .1 .0) ≡ length (start c .args .words .now)) × (c .before .before .before .words-for .result ≤ length (start c .args .words .now)) × (1 ≤ c .before .before .before .words-for .result)
+as-many : (c : tie.After-write-words)
+    → (length (c .write-words .last .1 .1 .1 .1 .0) ≡ length (start c .args .words .now))
+    × (c .before .before .before .words-for .result ≤ length (start c .args .words .now))
+    × (1 ≤ c .before .before .before .words-for .result)
 as-many c =
     let args = start c .args in
     let numbered = isNumbered (args .kind) in
@@ -66,8 +72,12 @@ as-many c =
     let text = args .text .now in
     let a = known (start c) in
     let sizes = page-size standardSet numbered flags text (a .short) in
-    let count = c .before .before .before .words-for .ensures in
-    (ap length (zeroes c) ∙ zeroed-fits numbered flags text (args .words .now) (omega (arith, sizes, a .enough)), omega (arith, count, sizes, a .enough), omega (arith, count, sizes))
+    let count = c .before .before .before .words-for .ensures in (
+      ap length (zeroes c)
+          ∙ zeroed-fits numbered flags text (args .words .now) (omega (arith, sizes, a .enough)),
+      omega (arith, count, sizes, a .enough),
+      omega (arith, count, sizes),
+    )
 
 -- K is taken of the words with K as 0
 taken : (c : tie.After-six-bit) → let entry = start (c .before .before .before .before) in
@@ -125,7 +135,8 @@ returns c =
       ap₂ (λ (k n : ℕ). asWritten (given (k % 16 ∷ n ∷ []))) (taken (c .before)) count ∙ ap asWritten (sym told),
       ap₂ (λ (words : List ℕ) (k : ℕ). set words 0 (getD words 0 0 + k / 16)) (zeroes at) (taken (c .before))
           ∙ added .1
-          ∙ sym (given-writes (writtenOf standardSet (length lent) (args .kind) (args .numbering) text) lent (pageOf standardSet numbered flags text) (entry .pre)),
+          ∙ sym
+          (given-writes (writtenOf standardSet (length lent) (args .kind) (args .numbering) text) lent (pageOf standardSet numbered flags text) (entry .pre)),
     )
 
 pub write-page-spec : {M : Type 1} → statement M

@@ -15,7 +15,8 @@ use Rattle.numeric.proofs.writing.write_words.Tie as tie
 abbrev Inv-loop : tie.InvT-loop
 Inv-loop text numbered head count words₀ room start₀ i₀ words start i =
     let row = head + 2 ^ size (headOf numbered) * codesOf standardSet (spaced room text) in
-    (i ≤ count) × (size (headOf numbered) + start ≡ 21 * i) × (count ≤ length words) × (length words ≡ length words₀) × (put words i (digits (2 ^ 21) (count - i) (row / (2 ^ 21) ^ i)) ≡ put words₀ 1 (digits (2 ^ 21) (count - 1) (row / (2 ^ 21) ^ 1)))
+    (i ≤ count) × (size (headOf numbered) + start ≡ 21 * i) × (count ≤ length words) × (length words ≡ length words₀)
+    × (put words i (digits (2 ^ 21) (count - i) (row / (2 ^ 21) ^ i)) ≡ put words₀ 1 (digits (2 ^ 21) (count - 1) (row / (2 ^ 21) ^ 1)))
 
 abbrev μ-loop : tie.MeasureT-loop
 μ-loop text numbered head count words₀ room start₀ i₀ words start i = count - i
@@ -91,8 +92,15 @@ loop-again c =
     let more = c .before .loop-test .taken in
     let h = size (headOf (args .numbered)) in
     let codes = codesOf standardSet (spaced (turn .before .before .before .room-of .result) (args .text .now)) in
-    let word = c .later-word .ensures ∙ ap (λ (n : ℕ). n % 2 ^ 21) (sym (after-head h (turn .loop .start) i (args .head) codes (entry .pre .1 .1 .0) (inv .1))) in
-    (omega (arith, more), omega (arith, inv .1), simp length-set (inv .2), simp length-set (simp length-set at (inv .3)), word-turn (2 ^ 21) (args .head + 2 ^ h * codes) (args .count) words i (c .later-word .result) more (omega (arith, more, inv .2)) word ∙ inv .4)
+    let word =
+    c .later-word .ensures ∙ ap (λ (n : ℕ). n % 2 ^ 21) (sym (after-head h (turn .loop .start) i (args .head) codes (entry .pre .1 .1 .0) (inv .1))) in (
+      omega (arith, more),
+      omega (arith, inv .1),
+      simp length-set (inv .2),
+      simp length-set (simp length-set at (inv .3)),
+      word-turn (2 ^ 21) (args .head + 2 ^ h * codes) (args .count) words i (c .later-word .result) more (omega (arith, more, inv .2)) word
+          ∙ inv .4,
+    )
 
 same-length : tie.Need-same-length Inv-loop μ-loop
 same-length c = simp length-set at (c .before .loop .inv .3)
