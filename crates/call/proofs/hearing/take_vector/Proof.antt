@@ -1,6 +1,6 @@
 -- `take_vector` meets its contract.
 use Prim.Native.Nat.{ℕ, _^_, _<_}
-use mathlib.Core.Bool.{not}
+use mathlib.Core.Bool.{false, not}
 use mathlib.Core.Path.{_≡_, refl, sym, ap, _∙_}
 use native.Mathlib.Omega.{arith}
 use borrow.Author.Tests.{eq-eqb, ne-eqb, not-true, not-false, lt-ltb, le-ltb}
@@ -40,6 +40,40 @@ telling c g completed =
 -- the record there is the call
 there : (c : tie.Start) → getD (opens (c .args .calls)) (c .args .place) blank ≡ getD (c .args .calls .calls) (c .args .place) blank
 there c = open-at (c .args .calls) (c .args .place) (c .pre .1)
+
+-- what is known where the span of the vector has been asked
+module _ (fitted : tie.After-vector-fits) where
+  -- where the function began
+  abbrev began : tie.Start
+  began = fitted .before .before .before .before .before .before .before .before
+
+  -- the record of the vector's call
+  abbrev record-there : Call
+  record-there = getD (began .args .calls .calls) (began .args .place) blank
+
+  -- the call as the definitions take it
+  abbrev call-there : Call
+  call-there = getD (opens (began .args .calls)) (began .args .place) blank
+
+  -- the vector as the definitions read it
+  abbrev vector-there : Vector
+  vector-there = vectorOf (began .args .packet .bits)
+
+  -- no vector of the call has come before
+  no-vector : hasVector call-there ≡ false
+  no-vector = ap hasVector (there began) ∙ ap not (eq-eqb (record-there .«has_vector») 0 (fitted .before .before .before .if1 .left))
+
+  -- what was read is the vector
+  read-there : fitted .before .before .read-vector .result .fields ≡ vector-there
+  read-there =
+      read-as (began .args .packet .bits) (fitted .before .before .read-vector .result) (began .pre .0) (fitted .before .before .read-vector .ensures)
+
+  -- whether the vector's span is one for the call was asked as the definitions ask it
+  fits-there : fitted .vector-fits .result ≡ vectorFits call-there vector-there
+  fits-there =
+      fitted .vector-fits .ensures
+      ∙ ap (vectorFits record-there) read-there
+      ∙ ap (λ (c : Call). vectorFits c vector-there) (sym (there began))
 
 mul-call : tie.Need-mul-call
 mul-call c =
@@ -83,20 +117,12 @@ unheard-requires-2 c κs = search needs
 returns-2 : tie.Need-returns-2
 returns-2 c =
     let fitted = c .before .before .before in
-    let heard = fitted .before .before in
-    let waits = heard .before in
-    let start = waits .before .before .before .before .before in
-    let s = start .args .calls in
-    let memory = start .args .memory .now in
-    let place = start .args .place in
-    let call = getD (s .calls) place blank in
-    let vector = vectorOf (start .args .packet .bits) in
-    let none = ap hasVector (there start) ∙ ap not (eq-eqb (call .«has_vector») 0 (waits .if1 .left)) in
-    let read = read-as (start .args .packet .bits) (heard .read-vector .result) (start .pre .0) (heard .read-vector .ensures) in
-    let asked = fitted .vector-fits .ensures ∙ ap (vectorFits call) read ∙ ap (λ (c : Call). vectorFits c vector) (sym (there start)) in
-    let done = vector-bad s memory place vector none (sym asked ∙ not-true (fitted .vector-fits .result) (c .before .before .if2 .taken)) in
-    let closes = c .unheard2 .ensures ∙ ap (λ (n : ℕ). refusing n place) (c .before .number2 .ensures) in
-    (ap (hearingOf s) closes ∙ done .0, (rw closes (omega (arith, start .pre .1)), done .1))
+    let start = began fitted in
+    let done =
+    vector-bad (start .args .calls) (start .args .memory .now) (start .args .place) (vector-there fitted) (no-vector fitted)
+    (sym (fits-there fitted) ∙ not-true (fitted .vector-fits .result) (c .before .before .if2 .taken)) in
+    let closes = c .unheard2 .ensures ∙ ap (λ (n : ℕ). refusing n (start .args .place)) (c .before .number2 .ensures) in
+    (ap (hearingOf (start .args .calls)) closes ∙ done .0, (rw closes (omega (arith, start .pre .1)), done .1))
 
 number-requires-3 : tie.Need-number-requires-3
 number-requires-3 c κs = search needs
@@ -107,21 +133,14 @@ unheard-requires-3 c κs = search needs
 returns-3 : tie.Need-returns-3
 returns-3 c =
     let fitted = c .before .before .before .before in
-    let heard = fitted .before .before in
-    let waits = heard .before in
-    let start = waits .before .before .before .before .before in
-    let s = start .args .calls in
-    let memory = start .args .memory .now in
-    let place = start .args .place in
-    let call = getD (s .calls) place blank in
-    let vector = vectorOf (start .args .packet .bits) in
-    let none = ap hasVector (there start) ∙ ap not (eq-eqb (call .«has_vector») 0 (waits .if1 .left)) in
-    let read = read-as (start .args .packet .bits) (heard .read-vector .result) (start .pre .0) (heard .read-vector .ensures) in
-    let asked = fitted .vector-fits .ensures ∙ ap (vectorFits call) read ∙ ap (λ (c : Call). vectorFits c vector) (sym (there start)) in
-    let done = vector-no-room s memory place vector none
-    (sym asked ∙ not-false (fitted .vector-fits .result) (c .before .before .before .if2 .left))
-    (lt-ltb (length memory) 680 (c .before .before .if3 .taken)) in
-    let turn = refusal-turn s (c .unheard3 .result) _ 1 (c .unheard3 .ensures ∙ ap (λ (n : ℕ). refusing n 0) (c .before .number3 .ensures)) refl (done .0) in
+    let start = began fitted in
+    let done =
+    vector-no-room (start .args .calls) (start .args .memory .now) (start .args .place) (vector-there fitted) (no-vector fitted)
+    (sym (fits-there fitted) ∙ not-false (fitted .vector-fits .result) (c .before .before .before .if2 .left))
+    (lt-ltb (length (start .args .memory .now)) 680 (c .before .before .if3 .taken)) in
+    let turn =
+    refusal-turn (start .args .calls) (c .unheard3 .result) _ 1
+    (c .unheard3 .ensures ∙ ap (λ (n : ℕ). refusing n 0) (c .before .number3 .ensures)) refl (done .0) in
     (turn .0, (turn .1, done .1))
 
 next-area-requires : tie.Need-next-area-requires
@@ -141,13 +160,12 @@ clear-requires c κs =
     let room = c .before .before .before .before .before in
     let passed = room .before in
     let fitted = passed .before in
-    let heard = fitted .before .before in
-    let start = heard .before .before .before .before .before .before in
-    let call = getD (start .args .calls .calls) (start .args .place) blank in
-    let read = read-as (start .args .packet .bits) (heard .read-vector .result) (start .pre .0) (heard .read-vector .ensures) in
-    let words = fitting-words call (start .args .packet .bits)
-    (sym (fitted .vector-fits .ensures ∙ ap (vectorFits call) read) ∙ not-false (fitted .vector-fits .result) (passed .if2 .left)) in
-    let given = ap (λ (g : Call). g .words) (c .before .before .before .with-vector .ensures) ∙ ap (λ (v : Vector). v .span .words) read in
+    let words = fitting-words (record-there fitted) (began fitted .args .packet .bits)
+    (sym (fitted .vector-fits .ensures ∙ ap (vectorFits (record-there fitted)) (read-there fitted))
+    ∙ not-false (fitted .vector-fits .result) (passed .if2 .left)) in
+    let given =
+    ap (λ (g : Call). g .words) (c .before .before .before .with-vector .ensures)
+    ∙ ap (λ (v : Vector). v .span .words) (read-there fitted) in
     let place = c .before .place .ensures in
     omega (arith, words, given, place, room .if3 .left)
 
@@ -169,24 +187,19 @@ returns-4 c =
     let room = numbered .before in
     let passed = room .before in
     let fitted = passed .before in
-    let heard = fitted .before .before in
-    let waits = heard .before in
-    let start = waits .before .before .before .before .before in
+    let start = began fitted in
     let s = start .args .calls in
     let memory = start .args .memory .now in
     let place = start .args .place in
-    let call = getD (s .calls) place blank in
-    let vector = vectorOf (start .args .packet .bits) in
-    let none = ap hasVector (there start) ∙ ap not (eq-eqb (call .«has_vector») 0 (waits .if1 .left)) in
-    let read = read-as (start .args .packet .bits) (heard .read-vector .result) (start .pre .0) (heard .read-vector .ensures) in
-    let asked = fitted .vector-fits .ensures ∙ ap (vectorFits call) read ∙ ap (λ (c : Call). vectorFits c vector) (sym (there start)) in
-    let done = vector-taken s memory place vector none (sym asked ∙ not-false (fitted .vector-fits .result) (passed .if2 .left))
-    (le-ltb (length memory) 680 (room .if3 .left)) in
+    let vector = vector-there fitted in
+    let done =
+    vector-taken s memory place vector (no-vector fitted)
+    (sym (fits-there fitted) ∙ not-false (fitted .vector-fits .result) (passed .if2 .left)) (le-ltb (length memory) 680 (room .if3 .left)) in
     let area = numbered .next-area in
     let given = made .with-vector in
     let is = given .ensures
-    ∙ ap (λ (v : Vector). withVector call v (area .result)) read
-    ∙ ap (withVector call vector) (area .ensures)
+    ∙ ap (λ (v : Vector). withVector (record-there fitted) v (area .result)) (read-there fitted)
+    ∙ ap (withVector (record-there fitted) vector) (area .ensures)
     ∙ ap (λ (c : Call). withVector c vector (nextArea (opens s))) (sym (there start)) in (
       ap (telling start (given .result)) (c .completed-by .ensures)
           ∙ ap (λ (g : Call). telling start g (pick (bringsWords (g .kind)) 0 (2 ^ place))) is
