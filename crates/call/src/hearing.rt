@@ -11,7 +11,7 @@ ghost use Rattle.packet.specs.Vectors.{isVector, vectorOf};
 ghost use Rattle.call.specs.Calls.{mostCalls, blank, opens, bringsWords, find};
 ghost use Rattle.call.specs.Words.{lacking};
 ghost use Rattle.call.specs.Steps.{vectorFits, withVector, nextArea, changed, removed, without};
-ghost use Rattle.call.specs.Answers.{messageIn, vectorTold, wordTold, hearOf, heardIn, memoryAfter, asHearing};
+ghost use Rattle.call.specs.Answers.{vectorTold, wordTold, hearOf, heardIn, memoryAfter, asHearing};
 ghost use Rattle.call.specs.HearingPieces.{vectorCalls, vectorMemory, wordMemory, refusing, changes, recordsAfter, hearingOf};
 ghost use lib.Dec.{ltb};
 use crate::BLANK;

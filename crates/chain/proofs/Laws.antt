@@ -15,7 +15,7 @@ use Rattle.laws.proofs.Tests.{decided, not-both}
 use Rattle.sums.specs.Words.{undamaged}
 use Rattle.refusal.specs.declared.Refusal.{Refusal}
 use Rattle.refusal.specs.declared.Refusal.the-variants as refusals
-use Rattle.refusal.specs.Told.{Told, told, numberOf, refused, given, ask, numberTold, valueTold}
+use Rattle.refusal.specs.Told.{Told, told, refused, given, ask, numberTold, valueTold}
 use Rattle.refusal.proofs.Laws.{passed, passed-test}
 use Rattle.fragment.specs.Fragments.{isSize, checked}
 use Rattle.fragment.proofs.Laws.{Good}

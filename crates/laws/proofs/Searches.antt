@@ -1,15 +1,14 @@
 -- A search for the first of a row that passes a test: what is found passes, none before it does, and a search that goes from place to place finds it.
-use Prim.Native.Nat.{ℕ, zero, suc, _+_, _-_, _≤_, _<_}
-use mathlib.Core.Bool.{Bool, true, false, not}
+use Prim.Native.Nat.{ℕ, zero, suc, _+_, _≤_, _<_}
+use mathlib.Core.Bool.{Bool, true, false}
 use mathlib.Core.List.{List, [], _∷_}
 use mathlib.Core.Logic.{⊎-elim}
-use mathlib.Core.Path.{_≡_, refl, sym, ap, _∙_}
-use native.Mathlib.Nat.{eq-or-lt-of-le}
+use mathlib.Core.Path.{_≡_, refl}
 use native.Mathlib.Numerals.{add-one}
 use native.Mathlib.Omega.{arith}
-use borrow.Author.Tests.{eq-eqb, ne-eqb, lt-ltb, le-ltb, ltb-true, ltb-false}
-use lib.Dec.{ltb, eqb}
-use lib.ListN.{length, getD, drop, drop-of-length-le, length-drop}
+use borrow.Author.Tests.{lt-ltb, le-ltb, ltb-true, ltb-false}
+use lib.Dec.{ltb}
+use lib.ListN.{length, getD, drop, drop-of-length-le}
 use lib.Seq.{drop-cons}
 use Rattle.laws.specs.Choice.{pick}
 use Rattle.laws.specs.Lists.{firstThat}
@@ -119,15 +118,3 @@ module _ {ℓ} {A : Type ℓ} (test : A → Bool) where
     pub found-none : length row ≤ i → i + firstThat test (drop i row) ≡ i
     unfolding firstThat
     found-none done = rw (drop-of-length-le row done) (omega arith)
-
-  -- none is found from a place on exactly if the search ends at the row's end
-  pub none-after : (row : List A) (i : ℕ) → i ≤ length row
-      → eqb (i + firstThat test (drop i row)) (length row) ≡ not (ltb (firstThat test (drop i row)) (length (drop i row)))
-  none-after row i within =
-      let left : length (drop i row) ≡ length row - i = length-drop i row in
-      ⊎-elim
-      (λ same. eq-eqb (i + firstThat test (drop i row)) (length row) (omega arith)
-      ∙ sym (ap not (le-ltb (firstThat test (drop i row)) (length (drop i row)) (omega arith))))
-      (λ less. ne-eqb (i + firstThat test (drop i row)) (length row) (λ e. omega arith)
-      ∙ sym (ap not (lt-ltb (firstThat test (drop i row)) (length (drop i row)) less)))
-      (eq-or-lt-of-le (first-most (drop i row)))

@@ -8,7 +8,7 @@ ghost use lib.ListN.{length, take, getD};
 ghost use lib.Dec.{eqb};
 ghost use Rattle.lister.specs.Stands.{stand, standOf};
 ghost use Rattle.lister.specs.Texts.{Wrote};
-ghost use Rattle.lister.specs.Verdicts.{lineFeed, hexDigit, verdictOf};
+ghost use Rattle.lister.specs.Verdicts.{lineFeed, verdictOf};
 ghost use Rattle.lister.specs.Lines.{shownByte};
 ghost use Rattle.lister.specs.Portions.{standAt, kept, heldBytes, heldShown, writes, next, mostWritten, takenOf};
 ghost use Rattle.lister.specs.Portions.{asItIs, FedByte, Ahead, LineWritten, FedOn, FedAll};

@@ -5,7 +5,7 @@ ghost use Prim.Native.Nat.{_≤_, _<_};
 ghost use Rattle.capcode.specs.Text.{digits};
 ghost use Rattle.refusal.specs.Told.{refused};
 ghost use Rattle.capcode.specs.Reads.{readOf, toldRead};
-ghost use Rattle.lister.specs.Verdicts.{lineFeed, hexDigit, sixDigits, phaseShown, verdictBy, verdictAs};
+ghost use Rattle.lister.specs.Verdicts.{lineFeed, sixDigits, phaseShown, verdictBy, verdictAs};
 use crate::writing::hex_digit;
 use capcode::Assignment;
 use capcode::Capcode;

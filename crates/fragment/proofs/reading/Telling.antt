@@ -1,22 +1,17 @@
 -- What is told of a fragment, and what the lent bytes hold then.
-use Prim.Native.Nat.{ℕ, _≤_, _<_}
+use Prim.Native.Nat.{ℕ}
 use mathlib.Core.Bool.{Bool, true, false, not}
 use mathlib.Core.List.{List, [], _∷_}
 use mathlib.Core.Path.{_≡_, refl, sym, ap, _∙_}
-use native.Mathlib.Omega.{arith}
-use borrow.Author.Tests.{lt-ltb}
 use lib.Dec.{ltb}
-use lib.ListN.{length, drop}
-use Rattle.laws.specs.Choice.{bitOf}
-use Rattle.laws.specs.Lists.{put}
-use Rattle.laws.proofs.Writing.{put-nothing}
+use lib.ListN.{length}
 use Rattle.refusal.specs.declared.Refusal.the-variants.{Room, Size, Damaged, Checksum}
 use Rattle.refusal.specs.Told.{Told, refused, given, ask, numberTold, writtenBy}
-use Rattle.refusal.proofs.Laws.{refusal-keeps, given-writes}
+use Rattle.refusal.proofs.Laws.{refusal-keeps}
 use Rattle.sums.specs.Words.{undamaged}
-use Rattle.fragment.specs.Fragments.{isSize, isFirst, cellsOf, withoutFill, textIn, checked}
+use Rattle.fragment.specs.Fragments.{isSize, textIn, checked}
 use Rattle.fragment.specs.Answers.{headingTold, headingOf, readOf, readAfter, textOf, textAfter}
-use Rattle.fragment.proofs.Laws.{Good, heading-told, read-told, text-told, text-accepted}
+use Rattle.fragment.proofs.Laws.{Good, heading-told, read-told, text-accepted}
 
 -- the three questions of every fragment
 abbrev asked : Bool → Bool → Bool → Told → Told

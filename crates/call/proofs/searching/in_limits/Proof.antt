@@ -1,6 +1,6 @@
 -- `in_limits` meets its contract.
 use mathlib.Core.Bool.{Bool, true, false, not, _&&_, _||_}
-use mathlib.Core.Path.{_≡_, refl, sym, _∙_}
+use mathlib.Core.Path.{_≡_, sym, _∙_}
 use borrow.Author.Tests.{ne-eqb, not-true, not-false}
 use lib.Dec.{leb, eqb}
 use Rattle.call.specs.declared.Call.{Call}

@@ -1,6 +1,6 @@
 -- `talking_after` meets its contract: a talking decoder is left as it is by a checksum, a silent one compares.
 use Prim.Native.Nat.{_/_, _^_}
-use mathlib.Core.Path.{_≡_, refl}
+use mathlib.Core.Path.{refl}
 use borrow.Author.Tests.{eq-eqb, ne-eqb}
 use native.Mathlib.Omega.{arith}
 use Rattle.laws.proofs.Bits.{as-bit}
