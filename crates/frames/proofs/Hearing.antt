@@ -16,7 +16,7 @@ use lib.Seq.{take-suc, drop-cons, getD-take, length-take-le}
 use Rattle.laws.proofs.Counting.{allBelow, of-all-below, take-min}
 use Rattle.laws.proofs.Tests.{either-of}
 use Rattle.frames.specs.declared.Listener.{Listener}
-use Rattle.frames.specs.Listening.{Frameset, listens, heard, maskFrom, allFit}
+use Rattle.frames.specs.Listening.{lastFrame, lastCollapse, Frameset, listens, heard, maskFrom, allFit}
 use Rattle.frames.specs.Repeating.{combs}
 use Rattle.frames.proofs.Masks.{Repeats, mask-or}
 
@@ -27,7 +27,7 @@ blank = record { frame = 0; collapse = 0 }
 -- ---- one listener
 
 -- with a collapse of at most 5 the frames repeat after 32
-listens-repeats : (l : Listener) → l .collapse ≤ 5 → Repeats (listens l)
+listens-repeats : (l : Listener) → l .collapse ≤ lastCollapse → Repeats (listens l)
 listens-repeats l h f =
     let five : 5 ≡ 5 - l .collapse + l .collapse = omega arith in
     let period : 32 ≡ 2 ^ (5 - l .collapse) * 2 ^ (l .collapse) = ap (λ (k : ℕ). 2 ^ k) five ∙ pow-add 2 (5 - l .collapse) (l .collapse) in
@@ -44,7 +44,7 @@ unfolding combed maskFrom
 all-combed = tt
 
 -- the comb of a collapse, moved to the base frame, is the mask of any listener
-pub comb-of : (l : Listener) → l .collapse ≤ 5
+pub comb-of : (l : Listener) → l .collapse ≤ lastCollapse
     → getD combs (l .collapse) 0 * 2 ^ (l .frame % 2 ^ (l .collapse)) % 2 ^ 32 ≡ maskFrom (listens l) 0 32
 unfolding combed
 comb-of l h =
@@ -54,14 +54,14 @@ comb-of l h =
 -- ---- some listener
 
 -- what is asked of a row is asked of its first listener and of the others
-fit-parts : (l : Listener) (ls : List Listener) → allFit (l ∷ ls) ≡ true → (l .collapse ≤ 5) × (allFit ls ≡ true)
+fit-parts : (l : Listener) (ls : List Listener) → allFit (l ∷ ls) ≡ true → (l .collapse ≤ lastCollapse) × (allFit ls ≡ true)
 unfolding allFit
 fit-parts l ls fit =
-    let parts = and-eq-true-iff (leb (l .frame) 127 && leb (l .collapse) 5) (allFit ls) .0 fit in
-    (leb-true (l .collapse) 5 (and-eq-true-iff (leb (l .frame) 127) (leb (l .collapse) 5) .0 (parts .0) .1), parts .1)
+    let parts = and-eq-true-iff (leb (l .frame) lastFrame && leb (l .collapse) lastCollapse) (allFit ls) .0 fit in
+    (leb-true (l .collapse) lastCollapse (and-eq-true-iff (leb (l .frame) lastFrame) (leb (l .collapse) lastCollapse) .0 (parts .0) .1), parts .1)
 
 -- what is asked of a row is asked of each of its listeners
-fit-at : (ls : List Listener) → allFit ls ≡ true → (k : ℕ) → k < length ls → getD ls k blank .collapse ≤ 5
+fit-at : (ls : List Listener) → allFit ls ≡ true → (k : ℕ) → k < length ls → getD ls k blank .collapse ≤ lastCollapse
 fit-at [] fit k h = absurd (omega arith)
 fit-at (l ∷ ls) fit zero h = fit-parts l ls fit .0
 fit-at (l ∷ ls) fit (suc k) h = fit-at ls (fit-parts l ls fit .1) k (omega arith)
@@ -77,26 +77,26 @@ module _ (ls : List Listener) (size i : ℕ) (here : i < size) (fits : size ≤ 
   long = length-take-le size ls fits
 
   -- the next is asked, and then the others
-  next : allFit (drop i (take size ls)) ≡ (leb (getD ls i blank .frame) 127 && leb (getD ls i blank .collapse) 5 && allFit (drop (i + 1) (take size ls)))
+  next : allFit (drop i (take size ls)) ≡ (leb (getD ls i blank .frame) lastFrame && leb (getD ls i blank .collapse) lastCollapse && allFit (drop (i + 1) (take size ls)))
   unfolding allFit
   next =
       let inside : i < length (take size ls) = omega (arith, long) in
       rw (add-one, drop-cons (take size ls) i blank inside, getD-take)
 
   -- a listener with a frame over 127 is refused
-  pub ask-frame : 127 < getD ls i blank .frame → allFit (drop i (take size ls)) ≡ false
+  pub ask-frame : lastFrame < getD ls i blank .frame → allFit (drop i (take size ls)) ≡ false
   ask-frame over = next ∙ simp (lt-leb _ _ over)
 
   -- a listener with a collapse over 5 is refused
-  pub ask-collapse : getD ls i blank .frame ≤ 127 → 5 < getD ls i blank .collapse → allFit (drop i (take size ls)) ≡ false
+  pub ask-collapse : getD ls i blank .frame ≤ lastFrame → lastCollapse < getD ls i blank .collapse → allFit (drop i (take size ls)) ≡ false
   ask-collapse f over = next ∙ simp (le-leb _ _ f, lt-leb _ _ over)
 
   -- after a listener that fits the others decide
-  pub ask-others : getD ls i blank .frame ≤ 127 → getD ls i blank .collapse ≤ 5 → allFit (drop i (take size ls)) ≡ allFit (drop (i + 1) (take size ls))
+  pub ask-others : getD ls i blank .frame ≤ lastFrame → getD ls i blank .collapse ≤ lastCollapse → allFit (drop i (take size ls)) ≡ allFit (drop (i + 1) (take size ls))
   ask-others f c = next ∙ simp (le-leb _ _ f, le-leb _ _ c)
 
   -- where none was refused, each has a collapse of at most 5
-  pub fit-among : allFit (take size ls) ≡ true → getD ls i blank .collapse ≤ 5
+  pub fit-among : allFit (take size ls) ≡ true → getD ls i blank .collapse ≤ lastCollapse
   fit-among fit = rw getD-take at (fit-at (take size ls) fit i (omega (arith, long)))
 
 -- none is left to ask

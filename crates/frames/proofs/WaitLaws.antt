@@ -7,6 +7,7 @@ use native.Mathlib.Omega.{arith}
 use Rattle.refusal.specs.Told.{given}
 use Rattle.refusal.proofs.Laws.{given-not-refused, refused-tells}
 use Rattle.frames.specs.declared.Awaited.{Awaited}
+use Rattle.frames.specs.Listening.{lastFrame}
 use Rattle.frames.specs.Waiting.{waited, toldAwaited}
 
 -- two waits that are told alike are the same
@@ -17,7 +18,7 @@ awaited-tells (Awaited.Refused r) (Awaited.Frames y) e = absurd (given-not-refus
 awaited-tells (Awaited.Refused r) (Awaited.Refused s) e = ap Awaited.Refused (refused-tells r s e)
 
 -- within a cycle the wait is given; it is less than a cycle, and so many frames after the present one comes the designated one
-pub wait-reaches : (from to : ℕ) → from ≤ 127 → to ≤ 127
+pub wait-reaches : (from to : ℕ) → from ≤ lastFrame → to ≤ lastFrame
     → (frames : ℕ) × (waited from to ≡ given (frames ∷ [])) × (frames < 128) × ((from + frames) % 128 ≡ to)
 unfolding waited
 wait-reaches from to f t = ((to + 128 - from) % 128, simp (le-leb _ _ f, le-leb _ _ t), omega arith, omega arith)

@@ -59,10 +59,18 @@ onesOf (mask ∷ masks) = ones mask + onesOf masks
 abbrev pub countOf : Frameset → ℕ
 countOf frames = countFrom frames 0 128
 
--- 01's table, 7: no frame over 127, no collapse over 5
+-- 01's table, 7: "frame over 127"
+abbrev pub lastFrame : ℕ
+lastFrame = 127
+
+-- 01's table, 7: "collapse over 5"
+abbrev pub lastCollapse : ℕ
+lastCollapse = 5
+
+-- 01's table, 7, of listeners: no frame and no collapse is over the last
 unfoldable pub allFit : List Listener → Bool
 allFit [] = true
-allFit (l ∷ ls) = leb (l .frame) 127 && leb (l .collapse) 5 && allFit ls
+allFit (l ∷ ls) = leb (l .frame) lastFrame && leb (l .collapse) lastCollapse && allFit ls
 
 -- a refusal marks no frame
 abbrev pub unmarked : Refusal → Told

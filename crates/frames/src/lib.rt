@@ -14,6 +14,12 @@ pub use marking::listen;
 use refusal::Refusal;
 pub use waiting::wait;
 
+// A cycle has the frames 0 to 127.
+const LAST_FRAME: u32 = 127;
+
+// 01's table, 7: the largest collapse.
+const LAST_COLLAPSE: u32 = 5;
+
 // One address as far as frames go: its base frame and its collapse, wider than any that is accepted, so that one too
 // large is refused and not cut.
 #[repr(C)]

@@ -4,8 +4,10 @@ ghost use mathlib.Core.Path.{_≡_};
 ghost use Prim.Native.Nat.{_≤_, _%_, _/_, min};
 ghost use mathlib.Core.Bool.{true};
 ghost use lib.ListN.{take, getD};
-ghost use Rattle.frames.specs.Listening.{listens, heard, maskFrom, onesOf, allFit, unmarked, listened, toldListening};
+ghost use Rattle.frames.specs.Listening.{listens, heard, maskFrom, onesOf, lastCollapse, allFit, unmarked, listened, toldListening};
 ghost use Rattle.frames.specs.Repeating.{combs, alternating};
+use crate::LAST_COLLAPSE;
+use crate::LAST_FRAME;
 use crate::Listened;
 use crate::Listener;
 use crate::Listeners;
@@ -27,10 +29,10 @@ fn all_fit(listeners: [Listener; 16], count: u32) -> bool
     let mut i: usize = 0;
     while i < size {
         let listener = listeners[i];
-        if listener.frame > 127 {
+        if listener.frame > LAST_FRAME {
             return false;
         }
-        if listener.collapse > 5 {
+        if listener.collapse > LAST_COLLAPSE {
             return false;
         }
         i += 1;
@@ -50,7 +52,7 @@ const COMBS: [u32; 6] = [
 
 // The comb of a collapse.
 fn comb(collapse: usize) -> u32
-    requires { ⌜ collapse ≤ 5 ⌝ }
+    requires { ⌜ collapse ≤ lastCollapse ⌝ }
     ensures { λ r. ⌜ r ≡ getD combs collapse 0 ⌝ }
 {
     COMBS[collapse]
@@ -58,7 +60,7 @@ fn comb(collapse: usize) -> u32
 
 // The first 32 frames as a mask: those that the listener listens to, its comb moved to its base frame.
 fn mask(listener: Listener) -> u32
-    requires { ⌜ listener .collapse ≤ 5 ⌝ }
+    requires { ⌜ listener .collapse ≤ lastCollapse ⌝ }
     ensures { λ r. ⌜ r ≡ maskFrom (listens listener) 0 32 ⌝ }
 {
     let collapse = listener.collapse as usize;
