@@ -77,7 +77,8 @@ module _ (ls : List Listener) (size i : ℕ) (here : i < size) (fits : size ≤ 
   long = length-take-le size ls fits
 
   -- the next is asked, and then the others
-  next : allFit (drop i (take size ls)) ≡ (leb (getD ls i blank .frame) lastFrame && leb (getD ls i blank .collapse) lastCollapse && allFit (drop (i + 1) (take size ls)))
+  next : allFit (drop i (take size ls))
+      ≡ (leb (getD ls i blank .frame) lastFrame && leb (getD ls i blank .collapse) lastCollapse && allFit (drop (i + 1) (take size ls)))
   unfolding allFit
   next =
       let inside : i < length (take size ls) = omega (arith, long) in
@@ -92,7 +93,8 @@ module _ (ls : List Listener) (size i : ℕ) (here : i < size) (fits : size ≤ 
   ask-collapse f over = next ∙ simp (le-leb _ _ f, lt-leb _ _ over)
 
   -- after a listener that fits the others decide
-  pub ask-others : getD ls i blank .frame ≤ lastFrame → getD ls i blank .collapse ≤ lastCollapse → allFit (drop i (take size ls)) ≡ allFit (drop (i + 1) (take size ls))
+  pub ask-others : getD ls i blank .frame ≤ lastFrame → getD ls i blank .collapse ≤ lastCollapse
+      → allFit (drop i (take size ls)) ≡ allFit (drop (i + 1) (take size ls))
   ask-others f c = next ∙ simp (le-leb _ _ f, le-leb _ _ c)
 
   -- where none was refused, each has a collapse of at most 5
