@@ -36,27 +36,36 @@ returns c = search needs
 
 add-at : tie.Need-add-at Inv-loop μ-loop
 add-at c =
-    let k = c .before .before .before .before .before .before in
-    let a = k .before .before .before .before in
-    omega
-    (arith, length-drop (a .loop .at) (a .before .before .before .args .input .now), k .list-some .ensures .0, k .before .before .before .loop-test .taken)
+    let list-some-called = c .before .before .before .before .before .before in
+    let turn = list-some-called .before .before .before .before in
+    omega (
+      arith,
+      length-drop (turn .loop .at) (turn .before .before .before .args .input .now),
+      list-some-called .list-some .ensures .0,
+      list-some-called .before .before .before .loop-test .taken,
+    )
 
 loop-less : tie.Need-loop-less Inv-loop μ-loop
 loop-less c =
-    let k = c .before .before .before .before .before .before in
-    let a = k .before .before .before .before in
-    let left = length-drop (a .loop .at) (a .before .before .before .args .input .now) in
-    omega (arith, left, k .list-some .ensures .0, k .list-some .ensures .1 (omega (arith, left, k .before .before .before .loop-test .taken)))
+    let list-some-called = c .before .before .before .before .before .before in
+    let turn = list-some-called .before .before .before .before in
+    let left = length-drop (turn .loop .at) (turn .before .before .before .args .input .now) in
+    omega (
+      arith,
+      left,
+      list-some-called .list-some .ensures .0,
+      list-some-called .list-some .ensures .1 (omega (arith, left, list-some-called .before .before .before .loop-test .taken)),
+    )
 
 loop-again : tie.Need-loop-again Inv-loop μ-loop
 loop-again c =
-    let k = c .before .before .before .before .before .before in
-    let a = k .before .before .before .before in (
+    let list-some-called = c .before .before .before .before .before .before in
+    let turn = list-some-called .before .before .before .before in (
       omega (
         arith,
-        length-drop (a .loop .at) (a .before .before .before .args .input .now),
-        k .list-some .ensures .0,
-        k .before .before .before .loop-test .taken,
+        length-drop (turn .loop .at) (turn .before .before .before .args .input .now),
+        list-some-called .list-some .ensures .0,
+        list-some-called .before .before .before .loop-test .taken,
       ),
       search needs,
     )

@@ -14,9 +14,9 @@ text-length-requires c κs = search needs
 
 returns : tie.Need-returns
 returns c =
-    let a = c .before .before .before in
+    let start = c .before .before .before in
     let short = rw (c .before .text-length .ensures) at (c .if1 .taken) in
-    let told = print-refused (a .args .c) (length (a .args .out .now)) (a .pre) short in
+    let told = print-refused (start .args .c) (length (start .args .out .now)) (start .pre) short in
     (told, refused-keeps Room _ _ told)
 
 write-text-requires : tie.Need-write-text-requires
@@ -29,9 +29,9 @@ returns-2 : tie.Need-returns-2
 returns-2 c =
     let test1 = c .before .before .before .before in
     let text-length-called = test1 .before in
-    let a = c .before .before .before .before .before .before .before in
+    let start = c .before .before .before .before .before .before .before in
     let enough = rw (text-length-called .text-length .ensures) at (test1 .if1 .left) in
-    let told = print-given (a .args .c) (length (a .args .out .now)) (a .pre) enough in
+    let told = print-given (start .args .c) (length (start .args .out .now)) (start .pre) enough in
     (ap (λ (n : ℕ). given (n ∷ [])) (text-length-called .text-length .ensures) ∙ told, c .before .before .write-text .ensures ∙ given-writes _ _ _ told)
 
 pub print-fine-spec : {M : Type 1} → statement M

@@ -40,11 +40,11 @@ loop-less c = search needs
 
 loop-again : tie.Need-loop-again Inv-loop μ-loop
 loop-again c =
-    let a = c .before in (
+    let turn = c .before in (
       simp length-set (omega arith),
-      simp length-set (a .loop .inv .1),
-      write-turn (a .loop .out) (a .before .args .place) (a .loop .rest) (a .loop .left) (search needs) (a .loop .inv .0)
-          ∙ a .loop .inv .2,
+      simp length-set (turn .loop .inv .1),
+      write-turn (turn .loop .out) (turn .before .args .place) (turn .loop .rest) (turn .loop .left) (search needs) (turn .loop .inv .0)
+          ∙ turn .loop .inv .2,
     )
 
 same-length : tie.Need-same-length Inv-loop μ-loop
@@ -53,9 +53,9 @@ same-length c = c .before .loop .inv .1
 returns : tie.Need-returns Inv-loop μ-loop
 unfolding digits
 returns c =
-    let a = c .before in
-    let none : a .loop .left ≡ 0 = omega arith in
-    sym (put-nothing (a .loop .out) (a .before .args .place)) ∙ rw none at (a .loop .inv .2)
+    let turn = c .before in
+    let none : turn .loop .left ≡ 0 = omega arith in
+    sym (put-nothing (turn .loop .out) (turn .before .args .place)) ∙ rw none at (turn .loop .inv .2)
 
 pub write-digits-spec : {M : Type 1} → statement M
 write-digits-spec =

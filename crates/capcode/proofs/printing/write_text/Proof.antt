@@ -47,11 +47,11 @@ returns c =
     let width-of-called = c .before .before .before .before in
     let write-digits-called = width-of-called .before .before .before in
     let head-width-called = write-digits-called .before .before .before .before in
-    let a = c .before .before .before .before .before .before .before .before .before .before .before .before .before in
+    let start = c .before .before .before .before .before .before .before .before .before .before .before .before .before in
     c .before .before .write-digits2 .ensures
     ∙ rw
     (write-digits-called .write-digits .ensures, head-width-called .head-width .ensures .0, width-of-called .width-of .ensures .0)
-    (text-written (a .args .c) (a .args .out .now) (fine-collapse _ (a .pre .0)) (a .pre .1))
+    (text-written (start .args .c) (start .args .out .now) (fine-collapse _ (start .pre .0)) (start .pre .1))
 
 pub write-text-spec : {M : Type 1} → statement M
 write-text-spec =

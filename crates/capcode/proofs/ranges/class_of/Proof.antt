@@ -35,9 +35,9 @@ array-copy-out-row c = search needs
 returns : tie.Need-returns Inv-loop μ-loop
 unfolding rows
 returns c =
-    let s = c .before .before .before .before .before in
-    let within : s .loop .i < length rows = omega arith in
-    sym (s .loop .inv .1 ∙ row-holds rows (s .before .args .address) (s .loop .i) blank within (c .if1 .taken))
+    let turn = c .before .before .before .before .before in
+    let within : turn .loop .i < length rows = omega arith in
+    sym (turn .loop .inv .1 ∙ row-holds rows (turn .before .args .address) (turn .loop .i) blank within (c .if1 .taken))
 
 add-i : tie.Need-add-i Inv-loop μ-loop
 add-i c = search needs
@@ -48,9 +48,9 @@ loop-less c = search needs
 loop-again : tie.Need-loop-again Inv-loop μ-loop
 unfolding rows
 loop-again c =
-    let s = c .before .before .before .before .before in
-    let within : s .loop .i < length rows = omega arith in
-    (omega arith, s .loop .inv .1 ∙ rw add-one (row-passed rows (s .before .args .address) (s .loop .i) blank within (c .if1 .left)))
+    let turn = c .before .before .before .before .before in
+    let within : turn .loop .i < length rows = omega arith in
+    (omega arith, turn .loop .inv .1 ∙ rw add-one (row-passed rows (turn .before .args .address) (turn .loop .i) blank within (c .if1 .left)))
 
 returns-2 : tie.Need-returns-2 Inv-loop μ-loop
 unfolding rows classIn

@@ -33,9 +33,9 @@ enum-told c = search needs
 
 returns : tie.Need-returns Inv-loop μ-loop
 returns c =
-    let a = c .before .before .before .before .before in
+    let turn = c .before .before .before .before .before in
     let step = sym (c .before .before .step-after-letter .ensures) ∙ c .enum-told .given .1 in
-    stands-stop _ _ (a .loop .i) (a .loop .s) (a .loop .inv .0) (search needs) step
+    stands-stop _ _ (turn .loop .i) (turn .loop .s) (turn .loop .inv .0) (search needs) step
 
 add-i : tie.Need-add-i Inv-loop μ-loop
 add-i c = search needs
@@ -45,18 +45,18 @@ loop-less c = search needs
 
 loop-again : tie.Need-loop-again Inv-loop μ-loop
 loop-again c =
-    let a = c .before .before .before .before .before .before in
+    let turn = c .before .before .before .before .before .before in
     let step = sym (c .before .before .before .step-after-letter .ensures) ∙ c .before .next .given .1 in
     let next = c .before .next .given .0 .0 in
-    (stands-on _ _ (a .loop .i) (a .loop .s) (a .loop .inv .0) next (search needs) step, step-after (a .loop .s) next _ (a .loop .inv .1) step)
+    (stands-on _ _ (turn .loop .i) (turn .loop .s) (turn .loop .inv .0) next (search needs) step, step-after (turn .loop .s) next _ (turn .loop .inv .1) step)
 
 form-at-end-requires : tie.Need-form-at-end-requires Inv-loop μ-loop
 form-at-end-requires c κs = sound-bounded _ (c .before .loop .inv .0 .sound)
 
 returns-2 : tie.Need-returns-2 Inv-loop μ-loop
 returns-2 c =
-    let a = c .before .before in
-    c .form-at-end .ensures ∙ stands-end _ _ (a .loop .i) (a .loop .s) (a .loop .inv .0) (search needs)
+    let turn = c .before .before in
+    c .form-at-end .ensures ∙ stands-end _ _ (turn .loop .i) (turn .loop .s) (turn .loop .inv .0) (search needs)
 
 pub form-after-letter-spec : {M : Type 1} → statement M
 form-after-letter-spec =

@@ -36,9 +36,9 @@ enum-told c = search needs
 
 returns : tie.Need-returns Inv-loop μ-loop
 returns c =
-    let a = c .before .before .before .before .before .before .before in
+    let turn = c .before .before .before .before .before .before .before in
     let step = sym (c .before .before .step-of .ensures) ∙ c .enum-told .given .1 in
-    stands-stop _ _ (a .loop .i) (a .loop .s) (a .loop .inv) (search needs) step
+    stands-stop _ _ (turn .loop .i) (turn .loop .s) (turn .loop .inv) (search needs) step
 
 add-i : tie.Need-add-i Inv-loop μ-loop
 add-i c = search needs
@@ -48,16 +48,16 @@ loop-less c = search needs
 
 loop-again : tie.Need-loop-again Inv-loop μ-loop
 loop-again c =
-    let a = c .before .before .before .before .before .before .before .before in
+    let turn = c .before .before .before .before .before .before .before .before in
     let step = sym (c .before .before .before .step-of .ensures) ∙ c .before .next .given .1 in
-    stands-on _ _ (a .loop .i) (a .loop .s) (a .loop .inv) (c .before .next .given .0 .0) (search needs) step
+    stands-on _ _ (turn .loop .i) (turn .loop .s) (turn .loop .inv) (c .before .next .given .0 .0) (search needs) step
 
 returns-2 : tie.Need-returns-2 Inv-loop μ-loop
 returns-2 c =
-    let a = c .before .before .before in
+    let turn = c .before .before .before in
     ⊎-elim
-    (λ past. stands-short _ _ (a .loop .i) (a .loop .s) (a .loop .inv) (past .left) (c .if2 .taken))
-    (λ broke. absurd (eqb-false (a .loop .s .letter) 0 (not-true _ (broke .2 .taken)) (c .if2 .taken)))
+    (λ past. stands-short _ _ (turn .loop .i) (turn .loop .s) (turn .loop .inv) (past .left) (c .if2 .taken))
+    (λ broke. absurd (eqb-false (turn .loop .s .letter) 0 (not-true _ (broke .2 .taken)) (c .if2 .taken)))
     (c .before .before .loop-test .came)
 
 form-after-letter-requires : tie.Need-form-after-letter-requires Inv-loop μ-loop

@@ -44,9 +44,9 @@ add-result-4 c = search needs
 returns-2 : tie.Need-returns-2
 unfolding fromPair
 returns-2 c =
-    let s = c .before .before .before in
-    let bank : 0x1F7FFF ≤ s .before .args .second = omega (arith, c .before .before .if2 .taken) in
-    rw (le-leb _ _ (s .if1 .left), le-leb _ _ bank) (omega arith)
+    let test1 = c .before .before .before in
+    let bank : 0x1F7FFF ≤ test1 .before .args .second = omega (arith, c .before .before .if2 .taken) in
+    rw (le-leb _ _ (test1 .if1 .left), le-leb _ _ bank) (omega arith)
 
 less-requires-5 : tie.Need-less-requires-5
 less-requires-5 c κs = search needs
@@ -66,9 +66,9 @@ add-result-6 c = search needs
 returns-3 : tie.Need-returns-3
 unfolding fromPair
 returns-3 c =
-    let s = c .before .before .before in
-    let bank : s .before .args .second < 0x1F7FFF = omega (arith, c .before .before .if2 .left) in
-    rw (le-leb _ _ (s .if1 .left), lt-leb _ _ bank) (omega arith)
+    let test1 = c .before .before .before in
+    let bank : test1 .before .args .second < 0x1F7FFF = omega (arith, c .before .before .if2 .left) in
+    rw (le-leb _ _ (test1 .if1 .left), lt-leb _ _ bank) (omega arith)
 
 pub from-pair-spec : {M : Type 1} → statement M
 from-pair-spec =

@@ -16,15 +16,15 @@ is-pair-requires : tie.Need-is-pair-requires
 is-pair-requires c = search needs
 
 returns : tie.Need-returns
-returns c = let w = c .before .before in
-    pair-answered (w .words-of .result) (w .before .from-pair .result) (w .before .before .args .first)
-    (w .before .before .args .second) true (w .before .from-pair .ensures) (w .words-of .ensures)
+returns c = let words-of-called = c .before .before in
+    pair-answered (words-of-called .words-of .result) (words-of-called .before .from-pair .result) (words-of-called .before .before .args .first)
+    (words-of-called .before .before .args .second) true (words-of-called .before .from-pair .ensures) (words-of-called .words-of .ensures)
     (sym (c .if1 .taken) ∙ c .before .is-pair .ensures)
 
 returns-2 : tie.Need-returns-2
-returns-2 c = let w = c .before .before in
-    pair-answered (w .words-of .result) (w .before .from-pair .result) (w .before .before .args .first)
-    (w .before .before .args .second) false (w .before .from-pair .ensures) (w .words-of .ensures)
+returns-2 c = let words-of-called = c .before .before in
+    pair-answered (words-of-called .words-of .result) (words-of-called .before .from-pair .result) (words-of-called .before .before .args .first)
+    (words-of-called .before .before .args .second) false (words-of-called .before .from-pair .ensures) (words-of-called .words-of .ensures)
     (sym (c .if1 .left) ∙ c .before .is-pair .ensures)
 
 pub pair-address-spec : {M : Type 1} → statement M

@@ -16,14 +16,14 @@ is-one-requires : tie.Need-is-one-requires
 is-one-requires c = search needs
 
 returns : tie.Need-returns
-returns c = let w = c .before .before in
-    word-answered (w .words-of .result) (w .before .less .result) (w .before .before .args .word) true
-    (w .before .less .ensures) (w .words-of .ensures) (sym (c .if1 .taken) ∙ c .before .is-one .ensures)
+returns c = let words-of-called = c .before .before in
+    word-answered (words-of-called .words-of .result) (words-of-called .before .less .result) (words-of-called .before .before .args .word) true
+    (words-of-called .before .less .ensures) (words-of-called .words-of .ensures) (sym (c .if1 .taken) ∙ c .before .is-one .ensures)
 
 returns-2 : tie.Need-returns-2
-returns-2 c = let w = c .before .before in
-    word-answered (w .words-of .result) (w .before .less .result) (w .before .before .args .word) false
-    (w .before .less .ensures) (w .words-of .ensures) (sym (c .if1 .left) ∙ c .before .is-one .ensures)
+returns-2 c = let words-of-called = c .before .before in
+    word-answered (words-of-called .words-of .result) (words-of-called .before .less .result) (words-of-called .before .before .args .word) false
+    (words-of-called .before .less .ensures) (words-of-called .words-of .ensures) (sym (c .if1 .left) ∙ c .before .is-one .ensures)
 
 pub word-address-spec : {M : Type 1} → statement M
 word-address-spec = tie.close (tie.spec less-requires words-of-requires is-one-requires returns returns-2)

@@ -16,11 +16,11 @@ with-return-requires c κs = search needs
 
 returns : tie.Need-returns
 returns c =
-    let k = c .before .before in
-    let s = k .before .before in
-    let out = s .args .out .now in
-    let whole = rw (c .if1 .taken) at (k .with-return .ensures .0) in
-    answered-same out [] _ _ out (closes-none (keptOf (s .args .lister)) (s .args .lister .held) [] whole refl)
+    let with-return-called = c .before .before in
+    let start = with-return-called .before .before in
+    let out = start .args .out .now in
+    let whole = rw (c .if1 .taken) at (with-return-called .with-return .ensures .0) in
+    answered-same out [] _ _ out (closes-none (keptOf (start .args .lister)) (start .args .lister .held) [] whole refl)
     (room-there out [] 0 out (omega arith) (wrote-none out 0))
 
 write-last-requires : tie.Need-write-last-requires
@@ -31,15 +31,16 @@ same-length c = search needs
 
 returns-2 : tie.Need-returns-2
 returns-2 c =
-    let w = c .before .before in
-    let d = w .before .before in
-    let k = d .before .before in
-    let s = k .before .before in
-    let ended = k .with-return .result in
-    let some : 0 < length (keptOf ended) = omega (arith, length-take (ended .count) (ended .line), k .with-return .ensures .1, d .if1 .left) in
+    let write-last-called = c .before .before in
+    let test1 = write-last-called .before .before in
+    let with-return-called = test1 .before .before in
+    let start = with-return-called .before .before in
+    let ended = with-return-called .with-return .result in
+    let some : 0 < length (keptOf ended) =
+    omega (arith, length-take (ended .count) (ended .line), with-return-called .with-return .ensures .1, test1 .if1 .left) in
     answered-same _ _ _ _ _
-    (closes-some (keptOf (s .args .lister)) (s .args .lister .held) (keptOf ended) (k .with-return .ensures .0) some)
-    (w .write-last .ensures)
+    (closes-some (keptOf (start .args .lister)) (start .args .lister .held) (keptOf ended) (with-return-called .with-return .ensures .0) some)
+    (write-last-called .write-last .ensures)
 
 pub close-spec : {M : Type 1} → statement M
 close-spec =

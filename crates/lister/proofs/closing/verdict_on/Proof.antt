@@ -39,11 +39,11 @@ judge-requires-2 c κs = search needs
 
 returns-2 : tie.Need-returns-2
 returns-2 c =
-    let d = c .before .before in
-    let s = d .before .before in
-    let ended = s .args .ended in
+    let test1 = c .before .before in
+    let start = test1 .before .before in
+    let ended = start .args .ended in
     c .judge2 .ensures
-    ∙ ap (λ (text : List ℕ). verdictAs (readOf text)) (sym (take-all (ended .count) (ended .line) (omega (arith, sixteen s, d .if1 .left))))
+    ∙ ap (λ (text : List ℕ). verdictAs (readOf text)) (sym (take-all (ended .count) (ended .line) (omega (arith, sixteen start, test1 .if1 .left))))
 
 pub verdict-on-spec : {M : Type 1} → statement M
 verdict-on-spec =

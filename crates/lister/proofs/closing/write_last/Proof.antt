@@ -35,16 +35,16 @@ held-length-requires c κs = search needs
 add-if1 : tie.Need-add-if1
 add-if1 c =
     let e = c .before in
-    let s = e .before .before in
-    omega (arith, c .held-length .ensures, held-length (s .args .held), long e, verdict-short (keptOf (s .args .ended)))
+    let start = e .before .before in
+    omega (arith, c .held-length .ensures, held-length (start .args .held), long e, verdict-short (keptOf (start .args .ended)))
 
 returns : tie.Need-returns
 returns c =
     let e = c .before .before in
-    let s = e .before .before in
-    let held = heldShown (s .args .held) in
-    let end = verdictOf (keptOf (s .args .ended)) in
-    room-lacks (s .args .out .now) (held ++ end) (omega (arith, c .if1 .taken, c .before .held-length .ensures, long e, length-append held end))
+    let start = e .before .before in
+    let held = heldShown (start .args .held) in
+    let end = verdictOf (keptOf (start .args .ended)) in
+    room-lacks (start .args .out .now) (held ++ end) (omega (arith, c .if1 .taken, c .before .held-length .ensures, long e, length-append held end))
 
 show-held-requires : tie.Need-show-held-requires
 show-held-requires c κs = search needs
@@ -61,16 +61,16 @@ slice-aggregate-copy c =
 
 copy-requires : tie.Need-copy-requires
 copy-requires c κs =
-    let h = c .before .before .before .before .before in
-    let d = h .before .before in
-    let e = d .before .before in
+    let show-held-called = c .before .before .before .before .before in
+    let test1 = show-held-called .before .before in
+    let verdict-on-called = test1 .before .before in
     omega (
       arith,
-      d .if1 .left,
-      d .before .held-length .ensures,
-      h .show-held .ensures .ends,
-      h .show-held .kept,
-      length-take-le (e .verdict-on .result .size) (e .verdict-on .result .end) (within e),
+      test1 .if1 .left,
+      test1 .before .held-length .ensures,
+      show-held-called .show-held .ensures .ends,
+      show-held-called .show-held .kept,
+      length-take-le (verdict-on-called .verdict-on .result .size) (verdict-on-called .verdict-on .result .end) (within verdict-on-called),
     )
 
 same-length : tie.Need-same-length
@@ -78,17 +78,17 @@ same-length c = search needs
 
 returns-2 : tie.Need-returns-2
 returns-2 c =
-    let k = c .before .before in
-    let h = k .before .before .before .before .before .before in
-    let d = h .before .before in
-    let e = d .before .before in
-    let s = e .before .before in
-    let text = keptOf (s .args .ended) in
-    let held = heldShown (s .args .held) in
-    room-there (s .args .out .now) (held ++ verdictOf text) (k .copy .result) _
-    (omega (arith, d .if1 .left, d .before .held-length .ensures, long e, length-append held (verdictOf text)))
-    (wrote-then _ _ _ _ _ _ _ _ (omega arith) (h .show-held .ensures)
-    (wrote-same _ _ _ _ _ _ (end-of text (e .verdict-on .result) (e .verdict-on .ensures)) (k .copy .ensures)))
+    let copy-called = c .before .before in
+    let show-held-called = copy-called .before .before .before .before .before .before in
+    let test1 = show-held-called .before .before in
+    let verdict-on-called = test1 .before .before in
+    let start = verdict-on-called .before .before in
+    let text = keptOf (start .args .ended) in
+    let held = heldShown (start .args .held) in
+    room-there (start .args .out .now) (held ++ verdictOf text) (copy-called .copy .result) _
+    (omega (arith, test1 .if1 .left, test1 .before .held-length .ensures, long verdict-on-called, length-append held (verdictOf text)))
+    (wrote-then _ _ _ _ _ _ _ _ (omega arith) (show-held-called .show-held .ensures)
+    (wrote-same _ _ _ _ _ _ (end-of text (verdict-on-called .verdict-on .result) (verdict-on-called .verdict-on .ensures)) (copy-called .copy .ensures)))
 
 pub write-last-spec : {M : Type 1} → statement M
 write-last-spec =

@@ -18,9 +18,9 @@ abbrev μ-loop : tie.MeasureT-loop
 
 loop-holds : tie.Need-loop-holds Inv-loop μ-loop
 loop-holds c =
-    let s = c .before .before .before in
-    let long : length (s .args .lister .line) ≡ 16 = search needs in
-    progress-start (s .args .lister .line) _ _ (s .args .lister .count) (s .args .lister .held) long
+    let start = c .before .before .before in
+    let long : length (start .args .lister .line) ≡ 16 = search needs in
+    progress-start (start .args .lister .line) _ _ (start .args .lister .count) (start .args .lister .held) long
 
 sub-if2 : tie.Need-sub-if2 Inv-loop μ-loop
 sub-if2 c =
@@ -34,20 +34,21 @@ slice-aggregate-feed-some c =
 
 feed-some-requires : tie.Need-feed-some-requires Inv-loop μ-loop
 feed-some-requires c κs =
-    let d = c .before .before in
-    let p = d .before .before .before .before .loop .inv in
-    (p .sixteen, (omega (arith, d .if2 .left, p .fits, p .same), search needs))
+    let test2 = c .before .before in
+    let p = test2 .before .before .before .before .loop .inv in
+    (p .sixteen, (omega (arith, test2 .if2 .left, p .fits, p .same), search needs))
 
 loop-less : tie.Need-loop-less Inv-loop μ-loop
 loop-less c =
-    let f = c .before .before .before in
-    omega (arith, f .feed-some .ensures .some, f .feed-some .ensures .within)
+    let feed-some-called = c .before .before .before in
+    omega (arith, feed-some-called .feed-some .ensures .some, feed-some-called .feed-some .ensures .within)
 
 loop-again : tie.Need-loop-again Inv-loop μ-loop
 loop-again c =
-    let f = c .before .before .before in
-    let p = f .before .before .before .before .before .before .before .loop .inv in
-    progress-turn _ _ _ _ _ _ p _ _ _ (omega (arith, f .feed-some .kept)) (omega (arith, f .feed-some .kept, p .same)) (f .feed-some .ensures)
+    let feed-some-known = c .before .before .before in
+    let p = feed-some-known .before .before .before .before .before .before .before .loop .inv in
+    progress-turn _ _ _ _ _ _ p _ _ _ (omega (arith, feed-some-known .feed-some .kept))
+    (omega (arith, feed-some-known .feed-some .kept, p .same)) (feed-some-known .feed-some .ensures)
 
 same-length : tie.Need-same-length Inv-loop μ-loop
 same-length c = c .before .before .loop .inv .same

@@ -25,8 +25,8 @@ same-length-2 c = search needs
 
 returns : tie.Need-returns
 returns c =
-    let s = c .before .before .before .before .before .before .before in
-    fed-as-it-is _ _ _ _ _ _ (s .pre .0) (omega arith) (s .pre .1 .1 .1) (c .before .before .before .keep .ensures)
+    let start = c .before .before .before .before .before .before .before in
+    fed-as-it-is _ _ _ _ _ _ (start .pre .0) (omega arith) (start .pre .1 .1 .1) (c .before .before .before .keep .ensures)
 
 pub feed-as-it-is-spec : {M : Type 1} → statement M
 feed-as-it-is-spec = tie.close (tie.spec slice-write-out keep-requires add-t10 add-t11 same-length same-length-2 returns)

@@ -27,8 +27,8 @@ same-length-2 c = search needs
 
 returns : tie.Need-returns
 returns c =
-    let f = c .before .before .before .before in
-    byte-on _ _ _ _ _ _ _ (search needs) (search needs) (f .feed-byte .ensures)
+    let feed-byte-called = c .before .before .before .before in
+    byte-on _ _ _ _ _ _ _ (search needs) (search needs) (feed-byte-called .feed-byte .ensures)
 
 add-write-line : tie.Need-add-write-line
 add-write-line c = search needs
@@ -46,9 +46,9 @@ part-write-line-end c =
 
 write-line-requires : tie.Need-write-line-requires
 write-line-requires c κs =
-    let d = c .before .before in
-    let a = d .before .line-ahead .ensures (omega (arith, d .if1 .left)) in
-    omega (arith, a .roomy, d .if1 .left, line-length _ _ _ _ a)
+    let test1 = c .before .before in
+    let a = test1 .before .line-ahead .ensures (omega (arith, test1 .if1 .left)) in
+    omega (arith, a .roomy, test1 .if1 .left, line-length _ _ _ _ a)
 
 enum-known-written : tie.Need-enum-known-written
 enum-known-written c = search needs
@@ -70,11 +70,12 @@ same-length-4 c = search needs
 
 returns-2 : tie.Need-returns-2
 returns-2 c =
-    let f = c .before .before .before .before in
-    let o = f .before .before .before .before in
-    let w = o .before .before .before .before in
-    let s = w .before .before .before .before .before .before .before .before .before in
-    other-on _ _ _ _ _ _ _ _ _ _ (o .enum-told .given .1) (w .write-line .ensures) (s .pre .1 .1) (s .pre .1 .0) (f .feed-byte2 .ensures)
+    let feed-byte-called = c .before .before .before .before in
+    let enum-told-known = feed-byte-called .before .before .before .before in
+    let write-line-called = enum-told-known .before .before .before .before in
+    let start = write-line-called .before .before .before .before .before .before .before .before .before in
+    other-on _ _ _ _ _ _ _ _ _ _ (enum-told-known .enum-told .given .1) (write-line-called .write-line .ensures)
+    (start .pre .1 .1) (start .pre .1 .0) (feed-byte-called .feed-byte2 .ensures)
 
 add-t8 : tie.Need-add-t8
 add-t8 c = search needs
@@ -87,10 +88,10 @@ same-length-5 c = search needs
 
 returns-3 : tie.Need-returns-3
 returns-3 c =
-    let w = c .before .before .before .before .before in
-    let d = w .before .before .before in
-    let few : d .before .line-ahead .result < 16 = omega (arith, d .if1 .left) in
-    line-on _ _ _ _ _ _ _ _ few (search needs) (c .before .written .given .1) (d .before .line-ahead .ensures few) (w .write-line .ensures)
+    let write-line-called = c .before .before .before .before .before in
+    let test1 = write-line-called .before .before .before in
+    let few : test1 .before .line-ahead .result < 16 = omega (arith, test1 .if1 .left) in
+    line-on _ _ _ _ _ _ _ _ few (search needs) (c .before .written .given .1) (test1 .before .line-ahead .ensures few) (write-line-called .write-line .ensures)
 
 pub feed-some-spec : {M : Type 1} → statement M
 feed-some-spec =

@@ -24,10 +24,10 @@ same-length-2 c = search needs
 
 returns-3 : tie.Need-returns-3
 returns-3 c =
-    let b = c .before .before .before .before in
-    let held = b .before .before .before in
+    let test2 = c .before .before .before .before in
+    let held = test2 .before .before .before in
     let no-feed = held .before .before in
-    next-kept _ _ _ _ _ (no-feed .if1 .left) (b .if2 .left) (held .keep-held .ensures) (c .before .before .keep .ensures)
+    next-kept _ _ _ _ _ (no-feed .if1 .left) (test2 .if2 .left) (held .keep-held .ensures) (c .before .before .keep .ensures)
 
 pub keep-byte-spec : {M : Type 1} → statement M
 keep-byte-spec =

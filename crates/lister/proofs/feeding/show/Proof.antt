@@ -15,9 +15,9 @@ same-length c = search needs
 
 returns : tie.Need-returns
 returns c =
-    let k = c .before .before in
-    let d = k .before .before .before in
-    wrote-same _ _ _ _ _ _ (shown-slash _ (d .if1 .taken)) (k .copy .ensures)
+    let copy-called = c .before .before in
+    let test1 = copy-called .before .before .before in
+    wrote-same _ _ _ _ _ _ (shown-slash _ (test1 .if1 .taken)) (copy-called .copy .ensures)
 
 slice-aggregate-copy-2 : tie.Need-slice-aggregate-copy-2
 slice-aggregate-copy-2 c = search needs
@@ -30,9 +30,9 @@ same-length-2 c = search needs
 
 returns-2 : tie.Need-returns-2
 returns-2 c =
-    let k = c .before .before in
-    let d = k .before .before .before in
-    wrote-same _ _ _ _ _ _ (shown-plain _ (d .before .if1 .left) (d .if2 .taken)) (k .copy2 .ensures)
+    let copy-called = c .before .before in
+    let test2 = copy-called .before .before .before in
+    wrote-same _ _ _ _ _ _ (shown-plain _ (test2 .before .if1 .left) (test2 .if2 .taken)) (copy-called .copy2 .ensures)
 
 cast-hex-digit : tie.Need-cast-hex-digit
 cast-hex-digit c = search needs
@@ -57,12 +57,12 @@ same-length-3 c = search needs
 
 returns-3 : tie.Need-returns-3
 returns-3 c =
-    let k = c .before .before in
-    let d = k .before .before .before in
-    let t = d .before .before in
+    let copy-called = c .before .before in
+    let hex-digit-called = copy-called .before .before .before in
+    let test2 = hex-digit-called .before .before in
     wrote-same _ _ _ _ _ _
-    (shown-escaped _ _ _ (t .before .if1 .left) (t .if2 .left) (d .before .hex-digit .ensures) (d .hex-digit2 .ensures))
-    (k .copy3 .ensures)
+    (shown-escaped _ _ _ (test2 .before .if1 .left) (test2 .if2 .left) (hex-digit-called .before .hex-digit .ensures) (hex-digit-called .hex-digit2 .ensures))
+    (copy-called .copy3 .ensures)
 
 pub show-spec : {M : Type 1} → statement M
 show-spec =

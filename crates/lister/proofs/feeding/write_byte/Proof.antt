@@ -13,8 +13,8 @@ same-length c = search needs
 
 returns : tie.Need-returns
 returns c =
-    let k = c .before .before in
-    wrote-same _ _ _ _ _ _ (writes-line _ _ _ (k .before .before .if1 .taken)) (k .write-end .ensures)
+    let write-end-called = c .before .before in
+    wrote-same _ _ _ _ _ _ (writes-line _ _ _ (write-end-called .before .before .if1 .taken)) (write-end-called .write-end .ensures)
 
 show-held-requires : tie.Need-show-held-requires
 show-held-requires c κs =
@@ -26,25 +26,25 @@ same-length-2 c = search needs
 
 returns-2 : tie.Need-returns-2
 returns-2 c =
-    let k = c .before .before .before in
-    wrote-same _ _ _ _ _ _ (writes-held _ _ _ (c .if2 .taken)) (k .show-held .ensures)
+    let show-held-called = c .before .before .before in
+    wrote-same _ _ _ _ _ _ (writes-held _ _ _ (c .if2 .taken)) (show-held-called .show-held .ensures)
 
 show-requires : tie.Need-show-requires
 show-requires c κs =
-    let k = c .before .before .before .before in
-    let start = k .before .before .before .before .before in
-    omega (arith, k .show-held .ensures .ends, held-length (start .args .course .held), k .show-held .kept)
+    let show-held-called = c .before .before .before .before in
+    let start = show-held-called .before .before .before .before .before in
+    omega (arith, show-held-called .show-held .ensures .ends, held-length (start .args .course .held), show-held-called .show-held .kept)
 
 same-length-3 : tie.Need-same-length-3
 same-length-3 c = search needs
 
 returns-3 : tie.Need-returns-3
 returns-3 c =
-    let k = c .before .before in
-    let d = k .before .before in
-    let h = d .before .before .before in
-    wrote-same _ _ _ _ _ _ (writes-byte _ _ _ (h .before .before .if1 .left) (d .if2 .left))
-    (wrote-then _ _ _ _ _ _ _ _ (omega arith) (h .show-held .ensures) (k .show .ensures))
+    let show-called = c .before .before in
+    let test2 = show-called .before .before in
+    let show-held-called = test2 .before .before .before in
+    wrote-same _ _ _ _ _ _ (writes-byte _ _ _ (show-held-called .before .before .if1 .left) (test2 .if2 .left))
+    (wrote-then _ _ _ _ _ _ _ _ (omega arith) (show-held-called .show-held .ensures) (show-called .show .ensures))
 
 pub write-byte-spec : {M : Type 1} → statement M
 write-byte-spec =

@@ -30,8 +30,9 @@ same-length-2 c = search needs
 
 returns-2 : tie.Need-returns-2
 returns-2 c =
-    let k = c .before .before in
-    wrote-same _ _ _ _ _ _ (ap verdictOf (sym (take-all _ _ (k .before .before .if1 .left)))) (k .write-verdict2 .ensures)
+    let write-verdict-called = c .before .before in
+    wrote-same _ _ _ _ _ _ (ap verdictOf (sym (take-all _ _ (write-verdict-called .before .before .if1 .left))))
+    (write-verdict-called .write-verdict2 .ensures)
 
 pub write-end-spec : {M : Type 1} → statement M
 write-end-spec =

@@ -22,27 +22,33 @@ slice-aggregate-copy c = search needs
 
 copy-requires-2 : tie.Need-copy-requires-2
 copy-requires-2 c κs =
-    let w = c .before .before .before .before .before in
-    let j = w .before .before .before .before in
-    let s = j .before .before .before in
-    omega (arith, s .pre, w .copy .ensures .ends, w .copy .kept, places-of (s .args .text .now) (j .judge .result) (j .judge .ensures))
+    let copy-called = c .before .before .before .before .before in
+    let judge-called = copy-called .before .before .before .before in
+    let start = judge-called .before .before .before in
+    omega (
+      arith,
+      start .pre,
+      copy-called .copy .ensures .ends,
+      copy-called .copy .kept,
+      places-of (start .args .text .now) (judge-called .judge .result) (judge-called .judge .ensures),
+    )
 
 same-length : tie.Need-same-length
 same-length c = search needs
 
 returns-2 : tie.Need-returns-2
 returns-2 c =
-    let k = c .before .before in
-    let w = k .before .before .before .before .before .before in
-    let d = w .before .before in
-    let j = d .before .before in
-    let s = j .before .before .before in
-    let text = s .args .text .now in
-    let verdict = j .judge .result in
-    let accepted = not-false _ (d .if1 .left) in (
-      wrote-then _ _ _ _ _ _ _ _ (omega arith) (w .copy .ensures)
-          (wrote-same _ _ _ _ _ _ (whole-of text verdict (j .judge .ensures) accepted) (k .copy2 .ensures)),
-      read-shown text (number-of text verdict (j .judge .ensures) accepted),
+    let copy-called = c .before .before in
+    let copy-called' = copy-called .before .before .before .before .before .before in
+    let test1 = copy-called' .before .before in
+    let judge-called = test1 .before .before in
+    let start = judge-called .before .before .before in
+    let text = start .args .text .now in
+    let verdict = judge-called .judge .result in
+    let accepted = not-false _ (test1 .if1 .left) in (
+      wrote-then _ _ _ _ _ _ _ _ (omega arith) (copy-called' .copy .ensures)
+          (wrote-same _ _ _ _ _ _ (whole-of text verdict (judge-called .judge .ensures) accepted) (copy-called .copy2 .ensures)),
+      read-shown text (number-of text verdict (judge-called .judge .ensures) accepted),
     )
 
 pub write-line-spec : {M : Type 1} → statement M

@@ -30,21 +30,29 @@ array-share-prefix-end : tie.Need-array-share-prefix-end
 array-share-prefix-end c = places (c .before)
 
 slice-aggregate-copy : tie.Need-slice-aggregate-copy
-slice-aggregate-copy c = let k = c .before .before in sym (length-take-le (k .judge .result .size) (k .judge .result .end) (places k))
+slice-aggregate-copy c =
+    let judge-called = c .before .before in sym (length-take-le (judge-called .judge .result .size) (judge-called .judge .result .end) (places judge-called))
 
 copy-requires : tie.Need-copy-requires
 copy-requires c κs =
-    let k = c .before .before .before in
-    omega (arith, k .before .before .before .pre, within k, length-take-le (k .judge .result .size) (k .judge .result .end) (places k))
+    let judge-called = c .before .before .before in
+    omega (
+      arith,
+      judge-called .before .before .before .pre,
+      within judge-called,
+      length-take-le (judge-called .judge .result .size) (judge-called .judge .result .end) (places judge-called),
+    )
 
 same-length : tie.Need-same-length
 same-length c = search needs
 
 returns : tie.Need-returns
 returns c =
-    let w = c .before .before in
-    let k = w .before .before .before .before in
-    wrote-same _ _ _ _ _ _ (end-of (k .before .before .before .args .text .now) (k .judge .result) (k .judge .ensures)) (w .copy .ensures)
+    let copy-called = c .before .before in
+    let judge-called = copy-called .before .before .before .before in
+    wrote-same _ _ _ _ _ _
+    (end-of (judge-called .before .before .before .args .text .now) (judge-called .judge .result) (judge-called .judge .ensures))
+    (copy-called .copy .ensures)
 
 pub write-verdict-spec : {M : Type 1} → statement M
 write-verdict-spec =

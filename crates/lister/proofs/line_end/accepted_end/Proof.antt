@@ -40,28 +40,29 @@ fields-requires-3 c κs = search needs
 
 returns : tie.Need-returns
 returns c =
-    let d = c .before in
-    let k = d .before .before in
-    let s = k .before .before .before in
-    let words = sym (ap toldWorded (k .word .given .1)) ∙ k .before .before .words-of .ensures in
-    c .fields .ensures ∙ accepted-end _ (d .six-digits .result) noWord (s .args .c) (s .args .a) words (rw (d .six-digits .ensures))
+    let six-digits-called = c .before in
+    let word-known = six-digits-called .before .before in
+    let start = word-known .before .before .before in
+    let words = sym (ap toldWorded (word-known .word .given .1)) ∙ word-known .before .before .words-of .ensures in
+    c .fields .ensures
+    ∙ accepted-end _ (six-digits-called .six-digits .result) noWord (start .args .c) (start .args .a) words (rw (six-digits-called .six-digits .ensures))
 
 returns-2 : tie.Need-returns-2
 returns-2 c =
-    let d = c .before in
-    let k = d .before .before .before in
-    let s = k .before .before .before in
-    let words = sym (ap toldWorded (k .first .given .1)) ∙ k .before .before .words-of .ensures in
+    let six-digits-called = c .before in
+    let first-known = six-digits-called .before .before .before in
+    let start = first-known .before .before .before in
+    let words = sym (ap toldWorded (first-known .first .given .1)) ∙ first-known .before .before .words-of .ensures in
     c .fields2 .ensures
-    ∙ accepted-end _ (d .before .six-digits2 .result) (d .six-digits3 .result) (s .args .c) (s .args .a) words
-    (rw (d .before .six-digits2 .ensures, d .six-digits3 .ensures))
+    ∙ accepted-end _ (six-digits-called .before .six-digits2 .result) (six-digits-called .six-digits3 .result) (start .args .c) (start .args .a) words
+    (rw (six-digits-called .before .six-digits2 .ensures, six-digits-called .six-digits3 .ensures))
 
 returns-3 : tie.Need-returns-3
 returns-3 c =
-    let k = c .before in
-    let s = k .before .before .before in
-    let words = sym (ap toldWorded (k .enum-told .given .1)) ∙ k .before .before .words-of .ensures in
-    c .fields3 .ensures ∙ accepted-end _ (48 ∷ 48 ∷ 48 ∷ 48 ∷ 48 ∷ 48 ∷ []) noWord (s .args .c) (s .args .a) words refl
+    let enum-told-known = c .before in
+    let start = enum-told-known .before .before .before in
+    let words = sym (ap toldWorded (enum-told-known .enum-told .given .1)) ∙ enum-told-known .before .before .words-of .ensures in
+    c .fields3 .ensures ∙ accepted-end _ (48 ∷ 48 ∷ 48 ∷ 48 ∷ 48 ∷ 48 ∷ []) noWord (start .args .c) (start .args .a) words refl
 
 pub accepted-end-spec : {M : Type 1} → statement M
 accepted-end-spec =

@@ -64,13 +64,14 @@ add-t55 c = search needs
 returns : tie.Need-returns
 unfolding digits
 returns c =
-    let p = c .before .before .before .before in
-    let s = p .before in
-    let a = s .args .a in
-    (rw (p .phase-mark .ensures)
-    (six-six (s .args .t1) (s .args .t2) (32 ∷ phaseShown (a .phase) ∷ 32 ∷ digits 3 (a .frame)) (32 ∷ digits 1 (s .args .c .collapse)) (lineFeed ∷ [])
-    (s .good .0 .1 .0 .1)
-    (s .good .1 .0 .1 .0 .1)))
+    let phase-mark-called = c .before .before .before .before in
+    let start = phase-mark-called .before in
+    let a = start .args .a in
+    (rw (phase-mark-called .phase-mark .ensures)
+    (six-six (start .args .t1) (start .args .t2) (32 ∷ phaseShown (a .phase) ∷ 32 ∷ digits 3 (a .frame))
+    (32 ∷ digits 1 (start .args .c .collapse)) (lineFeed ∷ [])
+    (start .good .0 .1 .0 .1)
+    (start .good .1 .0 .1 .0 .1)))
 
 pub fields-spec : {M : Type 1} → statement M
 fields-spec =

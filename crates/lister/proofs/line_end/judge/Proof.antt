@@ -25,14 +25,14 @@ refused-end-requires c κs = search needs
 
 returns : tie.Need-returns
 returns c =
-    let d = c .before .before in
-    accepted-told (d .c .given .0 .0) (d .c .given .0 .1 .0) (c .accepted-end .result) (c .accepted-end .ensures)
-    ∙ ap verdictAs (sym (ap toldRead (d .c .given .1)) ∙ d .before .before .read .ensures)
+    let c-known = c .before .before in
+    accepted-told (c-known .c .given .0 .0) (c-known .c .given .0 .1 .0) (c .accepted-end .result) (c .accepted-end .ensures)
+    ∙ ap verdictAs (sym (ap toldRead (c-known .c .given .1)) ∙ c-known .before .before .read .ensures)
 
 returns-2 : tie.Need-returns-2
 returns-2 c =
-    let d = c .before .before in
-    c .refused-end .ensures ∙ ap verdictAs (sym (ap toldRead (d .r .given .1)) ∙ d .before .before .read .ensures)
+    let r-known = c .before .before in
+    c .refused-end .ensures ∙ ap verdictAs (sym (ap toldRead (r-known .r .given .1)) ∙ r-known .before .before .read .ensures)
 
 pub judge-spec : {M : Type 1} → statement M
 judge-spec =

@@ -20,7 +20,9 @@ array-write-end-2 : tie.Need-array-write-end-2
 array-write-end-2 c = search needs
 
 returns : tie.Need-returns
-returns c = let k = c .before .before .before in one-told (k .before .args .refusal) (k .number .result) (k .number .ensures) (c .if1 .taken)
+returns c =
+    let number-called = c .before .before .before in one-told (number-called .before .args .refusal)
+    (number-called .number .result) (number-called .number .ensures) (c .if1 .taken)
 
 cast-end : tie.Need-cast-end
 cast-end c = search needs
@@ -38,7 +40,9 @@ array-write-end-5 : tie.Need-array-write-end-5
 array-write-end-5 c = search needs
 
 returns-2 : tie.Need-returns-2
-returns-2 c = let k = c .before .before .before in two-told (k .before .args .refusal) (k .number .result) (k .number .ensures) (c .if1 .left)
+returns-2 c =
+    let number-called = c .before .before .before in two-told (number-called .before .args .refusal)
+    (number-called .number .result) (number-called .number .ensures) (c .if1 .left)
 
 pub refused-end-spec : {M : Type 1} → statement M
 refused-end-spec =

@@ -24,12 +24,19 @@ hex-digit-requires-6 c κs = search needs
 
 returns : tie.Need-returns
 returns c =
-    let d = c .before in
-    let e = d .before in
-    let f = e .before in
-    let g = f .before in
-    let h = g .before in
-    rw (c .hex-digit6 .ensures, d .hex-digit5 .ensures, e .hex-digit4 .ensures, f .hex-digit3 .ensures, g .hex-digit2 .ensures, h .hex-digit .ensures) refl
+    let hex-digit-called = c .before in
+    let hex-digit-called' = hex-digit-called .before in
+    let hex-digit-called'' = hex-digit-called' .before in
+    let hex-digit-called''' = hex-digit-called'' .before in
+    let hex-digit-called'''' = hex-digit-called''' .before in
+    rw (
+      c .hex-digit6 .ensures,
+      hex-digit-called .hex-digit5 .ensures,
+      hex-digit-called' .hex-digit4 .ensures,
+      hex-digit-called'' .hex-digit3 .ensures,
+      hex-digit-called''' .hex-digit2 .ensures,
+      hex-digit-called'''' .hex-digit .ensures,
+    ) refl
 
 pub six-digits-spec : {M : Type 1} → statement M
 six-digits-spec =

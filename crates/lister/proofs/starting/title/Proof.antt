@@ -21,9 +21,9 @@ same-length c = search needs
 returns-2 : tie.Need-returns-2
 unfolding header
 returns-2 c =
-    let k = c .before .before in
-    let s = k .before .before .before in
-    room-there (s .before .before .args .out .now) header (k .copy .result) _ (s .if1 .left) (k .copy .ensures)
+    let copy-called = c .before .before in
+    let test1 = copy-called .before .before .before in
+    room-there (test1 .before .before .args .out .now) header (copy-called .copy .result) _ (test1 .if1 .left) (copy-called .copy .ensures)
 
 pub title-spec : {M : Type 1} → statement M
 title-spec = tie.close (tie.spec returns slice-aggregate-copy copy-requires same-length returns-2)
