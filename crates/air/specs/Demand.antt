@@ -1,19 +1,20 @@
--- Demand 3, in the order of its words. What is quoted is the demand; the definition after it says the same. The demand as a whole is `Demand`, at the end.
+-- Demand 3, in the order of its words. What is quoted is the demand; the definition after it says the same. The
+-- demand as a whole is `Demand`, at the end.
 --
 -- How to read a line. `f : A → B → C` says that f takes an A and a B and gives a C, and the lines below it what it
--- gives. `x .part` is a part of x. `≡` says that two
--- things are the same, `↔` exactly if; `(k : ℕ) → ..` is said of every number k, `(k : ℕ) × ..` of some number k.
--- `eqb`, `leb` and `ltb` ask whether a number is equal to,
--- at most, below another; `&&`, `||` and `not` join such tests; `pick test a b` is a where the test holds, and b else.
+-- gives. `x .part` is a part of x. `≡` says that two things are the same, `↔` exactly if; `(k : ℕ) → ..` is said of
+-- every number k, `(k : ℕ) × ..` of some number k. `eqb`, `leb` and `ltb` ask whether a number is equal to, at most,
+-- below another; `&&`, `||` and `not` join such tests; `pick test a b` is a where the test holds, and b else.
+--
 -- Rows: `[]` is empty, `a ∷ row` begins with a, `++` joins two; `length` is how many, `getD row k d` the one at place
--- k (d where there is none), `take n` the first n and `drop n`
--- the others; `all` and `anyOf` ask whether all, or one, pass a test; `upFrom 0 n` is 0, 1 and so on, n of them, and `replicate n a` n times a.
+-- k (d where there is none), `take n` the first n and `drop n` the others; `all` and `anyOf` ask whether all, or one,
+-- pass a test; `upFrom 0 n` is 0, 1 and so on, n of them, and `replicate n a` n times a.
 --
 -- The words of the code's own definitions: `cut` is 01's cutting (fragment/specs/Cutting); `came` and `dropped` are
--- what a host is given, and `State` what it keeps, the records of
--- chains and the lent bytes (chain/specs/Runs); `holds`, `firstFree` and `sound` are asked of the records
--- (chain/specs/Chains); `headingOf` is what is answered to a fragment by itself,
--- `headingIn` what its first word says (fragment/specs/Answers, chain/specs/Steps); `asAnswer` names the numbers of an answer (chain/specs/Answers).
+-- what a host is given, and `State` what it keeps, the records of chains and the lent bytes (chain/specs/Runs);
+-- `holds`, `firstFree` and `sound` are asked of the records (chain/specs/Chains); `headingOf` is what is answered to
+-- a fragment by itself, `headingIn` what its first word says (fragment/specs/Answers, chain/specs/Steps); `asAnswer`
+-- names the numbers of an answer (chain/specs/Answers).
 use Prim.Native.Nat.{ℕ, _+_, _-_, _*_, _≤_, _<_}
 use mathlib.Core.Bool.{Bool, true, false, not, _&&_, _||_}
 use mathlib.Core.List.{List, [], _∷_, _++_}
