@@ -11,6 +11,10 @@
  * is lent to the same call. Nothing is kept between calls: what is to be remembered goes in and comes back as a
  * struct, which zeros make fresh.
  *
+ * The structs are laid out alike on every machine, 8-bit to 64-bit numbers each at a multiple of its own size: the end
+ * of this header holds the compiler to that. A length that is a parameter is as wide as the machine's own, a
+ * `mortisevane_size` in a struct always 64 bits.
+ *
  * In the comments, "01" is the paper that defines the pager host, and S8.x and Table n are the PCD5008 data sheet's.
  */
 #ifndef MORTISEVANE_H
@@ -22,6 +26,9 @@
 #ifdef __cplusplus
 extern "C" {
 #endif
+
+/* A length, a count or a place in a struct. It is as wide on a board of 32 bits as anywhere else. */
+typedef uint64_t mortisevane_size;
 
 /* The refusals, by the paper's numbers. A `number` of 0 says that nothing was refused. */
 enum mortisevane_refused_numbers {
@@ -258,7 +265,7 @@ struct mortisevane_assignment {
 /* How many bytes of a lent buffer were written. */
 struct mortisevane_length {
     uint32_t number;
-    size_t length;
+    mortisevane_size length;
 };
 
 /*
@@ -922,14 +929,14 @@ struct mortisevane_numbering {
 struct mortisevane_written {
     uint32_t number;
     uint32_t check;
-    size_t words;
+    mortisevane_size words;
 };
 
 /* A page read: what its head says, and how many characters. All are 0 after a refusal. */
 struct mortisevane_page_read {
     uint32_t number;
     struct mortisevane_numbering numbering;
-    size_t characters;
+    mortisevane_size characters;
 };
 
 /*
@@ -977,7 +984,7 @@ struct mortisevane_fragment_read {
     uint32_t mail_drop;
     uint32_t signature;
     uint32_t sum;
-    size_t characters;
+    mortisevane_size characters;
 };
 
 /*
@@ -996,8 +1003,8 @@ struct mortisevane_marks {
  */
 struct mortisevane_text_cut {
     uint32_t number;
-    size_t fragments;
-    size_t words;
+    mortisevane_size fragments;
+    mortisevane_size words;
 };
 
 /*
@@ -1049,7 +1056,7 @@ struct mortisevane_chain {
     uint32_t message_number;
     uint32_t next_fragment;
     uint32_t sum;
-    size_t characters;
+    mortisevane_size characters;
 };
 
 /*
@@ -1074,9 +1081,9 @@ struct mortisevane_chain_answer {
     uint32_t retrieval;
     uint32_t mail_drop;
     uint32_t complete;
-    size_t slot;
-    size_t place;
-    size_t characters;
+    mortisevane_size slot;
+    mortisevane_size place;
+    mortisevane_size characters;
 };
 
 /* The answer to a fragment, and the records then. */
@@ -1160,7 +1167,7 @@ struct mortisevane_call {
  * more says that all are.
  */
 struct mortisevane_calls {
-    size_t size;
+    mortisevane_size size;
     struct mortisevane_call calls[8];
 };
 
@@ -1172,7 +1179,7 @@ struct mortisevane_calls {
 struct mortisevane_call_opened {
     uint32_t number;
     uint32_t opened;
-    size_t call;
+    mortisevane_size call;
     struct mortisevane_address fields;
 };
 
@@ -1191,7 +1198,7 @@ struct mortisevane_call_opening {
 struct mortisevane_call_heard {
     uint32_t number;
     uint32_t is_vector;
-    size_t call;
+    mortisevane_size call;
     uint32_t kind;
     uint32_t check;
     uint32_t completed;
@@ -1260,6 +1267,366 @@ struct mortisevane_frame_end mortisevane_call_end(struct mortisevane_calls calls
  * Refuses nothing.
  */
 size_t mortisevane_call_place(struct mortisevane_call call);
+
+/*
+ * The layout of every struct, in bytes: how large it is, and where each of its fields stands. The library was compiled
+ * for this one. A compiler that lays a struct out otherwise stops here.
+ */
+#ifdef __cplusplus
+#define MORTISEVANE_HOLDS(truth, otherwise) static_assert(truth, otherwise)
+#else
+#define MORTISEVANE_HOLDS(truth, otherwise) _Static_assert(truth, otherwise)
+#endif
+#define MORTISEVANE_LARGE(name, bytes) \
+    MORTISEVANE_HOLDS(sizeof(struct mortisevane_##name) == bytes, \
+            "struct mortisevane_" #name " is not as large as in the library")
+#define MORTISEVANE_PLACED(name, field, place) \
+    MORTISEVANE_HOLDS(offsetof(struct mortisevane_##name, field) == place, \
+            #field " of struct mortisevane_" #name " is not where the library has it")
+
+MORTISEVANE_LARGE(class, 8);
+MORTISEVANE_PLACED(class, number, 0);
+MORTISEVANE_PLACED(class, address_class, 4);
+
+MORTISEVANE_LARGE(words, 16);
+MORTISEVANE_PLACED(words, number, 0);
+MORTISEVANE_PLACED(words, count, 4);
+MORTISEVANE_PLACED(words, first, 8);
+MORTISEVANE_PLACED(words, second, 12);
+
+MORTISEVANE_LARGE(found, 16);
+MORTISEVANE_PLACED(found, number, 0);
+MORTISEVANE_PLACED(found, address, 8);
+
+MORTISEVANE_LARGE(capcode, 32);
+MORTISEVANE_PLACED(capcode, number, 0);
+MORTISEVANE_PLACED(capcode, letter, 4);
+MORTISEVANE_PLACED(capcode, frame, 8);
+MORTISEVANE_PLACED(capcode, collapse, 12);
+MORTISEVANE_PLACED(capcode, phase, 16);
+MORTISEVANE_PLACED(capcode, base, 17);
+MORTISEVANE_PLACED(capcode, address, 24);
+
+MORTISEVANE_LARGE(assignment, 8);
+MORTISEVANE_PLACED(assignment, number, 0);
+MORTISEVANE_PLACED(assignment, phase, 4);
+MORTISEVANE_PLACED(assignment, base, 5);
+
+MORTISEVANE_LARGE(length, 16);
+MORTISEVANE_PLACED(length, number, 0);
+MORTISEVANE_PLACED(length, length, 8);
+
+MORTISEVANE_LARGE(wait, 8);
+MORTISEVANE_PLACED(wait, number, 0);
+MORTISEVANE_PLACED(wait, frames, 4);
+
+MORTISEVANE_LARGE(listener, 8);
+MORTISEVANE_PLACED(listener, frame, 0);
+MORTISEVANE_PLACED(listener, collapse, 4);
+
+MORTISEVANE_LARGE(listeners, 132);
+MORTISEVANE_PLACED(listeners, listeners, 0);
+MORTISEVANE_PLACED(listeners, count, 128);
+
+MORTISEVANE_LARGE(frames, 24);
+MORTISEVANE_PLACED(frames, number, 0);
+MORTISEVANE_PLACED(frames, count, 4);
+MORTISEVANE_PLACED(frames, masks, 8);
+
+MORTISEVANE_LARGE(checksum, 4);
+MORTISEVANE_PLACED(checksum, value, 0);
+
+MORTISEVANE_LARGE(packet, 4);
+MORTISEVANE_PLACED(packet, bits, 0);
+
+MORTISEVANE_LARGE(built, 8);
+MORTISEVANE_PLACED(built, number, 0);
+MORTISEVANE_PLACED(built, packet, 4);
+
+MORTISEVANE_LARGE(configuration, 28);
+MORTISEVANE_PLACED(configuration, oscillator, 0);
+MORTISEVANE_PLACED(configuration, polarity, 4);
+MORTISEVANE_PLACED(configuration, synchronous_mode, 8);
+MORTISEVANE_PLACED(configuration, maximum_off_time, 12);
+MORTISEVANE_PLACED(configuration, clock_output_disable, 16);
+MORTISEVANE_PLACED(configuration, minute_timer, 20);
+MORTISEVANE_PLACED(configuration, low_battery_polarity, 24);
+
+MORTISEVANE_LARGE(control, 24);
+MORTISEVANE_PLACED(control, forced_frames, 0);
+MORTISEVANE_PLACED(control, single_phase, 4);
+MORTISEVANE_PLACED(control, phase, 8);
+MORTISEVANE_PLACED(control, block_information, 12);
+MORTISEVANE_PLACED(control, minute_timer_clear, 16);
+MORTISEVANE_PLACED(control, on, 20);
+
+MORTISEVANE_LARGE(all_frame_mode, 12);
+MORTISEVANE_PLACED(all_frame_mode, decrement, 0);
+MORTISEVANE_PLACED(all_frame_mode, force, 4);
+MORTISEVANE_PLACED(all_frame_mode, decrement_temporary, 8);
+
+MORTISEVANE_LARGE(receiver_lines, 8);
+MORTISEVANE_PLACED(receiver_lines, forced, 0);
+MORTISEVANE_PLACED(receiver_lines, settings, 4);
+
+MORTISEVANE_LARGE(shut_down, 20);
+MORTISEVANE_PLACED(shut_down, setting, 0);
+MORTISEVANE_PLACED(shut_down, enable, 4);
+MORTISEVANE_PLACED(shut_down, low_battery_check, 8);
+MORTISEVANE_PLACED(shut_down, lines, 12);
+MORTISEVANE_PLACED(shut_down, time, 16);
+
+MORTISEVANE_LARGE(frame_assignment, 8);
+MORTISEVANE_PLACED(frame_assignment, range, 0);
+MORTISEVANE_PLACED(frame_assignment, frames, 4);
+
+MORTISEVANE_LARGE(user_address, 16);
+MORTISEVANE_PLACED(user_address, location, 0);
+MORTISEVANE_PLACED(user_address, long_address, 4);
+MORTISEVANE_PLACED(user_address, tone_only, 8);
+MORTISEVANE_PLACED(user_address, word, 12);
+
+MORTISEVANE_LARGE(address_enable, 4);
+MORTISEVANE_PLACED(address_enable, enabled, 0);
+
+MORTISEVANE_LARGE(part_id, 12);
+MORTISEVANE_PLACED(part_id, model, 0);
+MORTISEVANE_PLACED(part_id, compatibility, 4);
+MORTISEVANE_PLACED(part_id, revision, 8);
+
+MORTISEVANE_LARGE(checksum_read, 8);
+MORTISEVANE_PLACED(checksum_read, number, 0);
+MORTISEVANE_PLACED(checksum_read, fields, 4);
+
+MORTISEVANE_LARGE(configuration_read, 32);
+MORTISEVANE_PLACED(configuration_read, number, 0);
+MORTISEVANE_PLACED(configuration_read, fields, 4);
+
+MORTISEVANE_LARGE(control_read, 28);
+MORTISEVANE_PLACED(control_read, number, 0);
+MORTISEVANE_PLACED(control_read, fields, 4);
+
+MORTISEVANE_LARGE(all_frame_mode_read, 16);
+MORTISEVANE_PLACED(all_frame_mode_read, number, 0);
+MORTISEVANE_PLACED(all_frame_mode_read, fields, 4);
+
+MORTISEVANE_LARGE(receiver_lines_read, 12);
+MORTISEVANE_PLACED(receiver_lines_read, number, 0);
+MORTISEVANE_PLACED(receiver_lines_read, fields, 4);
+
+MORTISEVANE_LARGE(shut_down_read, 24);
+MORTISEVANE_PLACED(shut_down_read, number, 0);
+MORTISEVANE_PLACED(shut_down_read, fields, 4);
+
+MORTISEVANE_LARGE(frame_assignment_read, 12);
+MORTISEVANE_PLACED(frame_assignment_read, number, 0);
+MORTISEVANE_PLACED(frame_assignment_read, fields, 4);
+
+MORTISEVANE_LARGE(user_address_read, 20);
+MORTISEVANE_PLACED(user_address_read, number, 0);
+MORTISEVANE_PLACED(user_address_read, fields, 4);
+
+MORTISEVANE_LARGE(address_enable_read, 8);
+MORTISEVANE_PLACED(address_enable_read, number, 0);
+MORTISEVANE_PLACED(address_enable_read, fields, 4);
+
+MORTISEVANE_LARGE(part_id_read, 16);
+MORTISEVANE_PLACED(part_id_read, number, 0);
+MORTISEVANE_PLACED(part_id_read, fields, 4);
+
+MORTISEVANE_LARGE(status, 40);
+MORTISEVANE_PLACED(status, frame_valid, 0);
+MORTISEVANE_PLACED(status, frame, 4);
+MORTISEVANE_PLACED(status, synchronous, 8);
+MORTISEVANE_PLACED(status, low_battery, 12);
+MORTISEVANE_PLACED(status, cycle, 16);
+MORTISEVANE_PLACED(status, synchronous_update, 20);
+MORTISEVANE_PLACED(status, low_battery_update, 24);
+MORTISEVANE_PLACED(status, minute, 28);
+MORTISEVANE_PLACED(status, end_of_frame, 32);
+MORTISEVANE_PLACED(status, overflow, 36);
+
+MORTISEVANE_LARGE(status_read, 44);
+MORTISEVANE_PLACED(status_read, number, 0);
+MORTISEVANE_PLACED(status_read, fields, 4);
+
+MORTISEVANE_LARGE(address, 24);
+MORTISEVANE_PLACED(address, priority, 0);
+MORTISEVANE_PLACED(address, phase, 4);
+MORTISEVANE_PLACED(address, long_address, 8);
+MORTISEVANE_PLACED(address, address, 12);
+MORTISEVANE_PLACED(address, tone_only, 16);
+MORTISEVANE_PLACED(address, vector, 20);
+
+MORTISEVANE_LARGE(address_read, 28);
+MORTISEVANE_PLACED(address_read, number, 0);
+MORTISEVANE_PLACED(address_read, fields, 4);
+
+MORTISEVANE_LARGE(span, 12);
+MORTISEVANE_PLACED(span, check, 0);
+MORTISEVANE_PLACED(span, words, 4);
+MORTISEVANE_PLACED(span, start, 8);
+
+MORTISEVANE_LARGE(short_message, 32);
+MORTISEVANE_PLACED(short_message, kind, 0);
+MORTISEVANE_PLACED(short_message, first, 4);
+MORTISEVANE_PLACED(short_message, second, 8);
+MORTISEVANE_PLACED(short_message, third, 12);
+MORTISEVANE_PLACED(short_message, source, 16);
+MORTISEVANE_PLACED(short_message, retrieval, 20);
+MORTISEVANE_PLACED(short_message, message, 24);
+MORTISEVANE_PLACED(short_message, unread, 28);
+
+MORTISEVANE_LARGE(instruction, 16);
+MORTISEVANE_PLACED(instruction, kind, 0);
+MORTISEVANE_PLACED(instruction, address, 4);
+MORTISEVANE_PLACED(instruction, frame, 8);
+MORTISEVANE_PLACED(instruction, unread, 12);
+
+MORTISEVANE_LARGE(vector, 76);
+MORTISEVANE_PLACED(vector, word, 0);
+MORTISEVANE_PLACED(vector, damaged, 4);
+MORTISEVANE_PLACED(vector, phase, 8);
+MORTISEVANE_PLACED(vector, kind, 12);
+MORTISEVANE_PLACED(vector, span, 16);
+MORTISEVANE_PLACED(vector, short_message, 28);
+MORTISEVANE_PLACED(vector, instruction, 60);
+
+MORTISEVANE_LARGE(vector_read, 80);
+MORTISEVANE_PLACED(vector_read, number, 0);
+MORTISEVANE_PLACED(vector_read, fields, 4);
+
+MORTISEVANE_LARGE(message, 16);
+MORTISEVANE_PLACED(message, word, 0);
+MORTISEVANE_PLACED(message, damaged, 4);
+MORTISEVANE_PLACED(message, phase, 8);
+MORTISEVANE_PLACED(message, bits, 12);
+
+MORTISEVANE_LARGE(message_read, 20);
+MORTISEVANE_PLACED(message_read, number, 0);
+MORTISEVANE_PLACED(message_read, fields, 4);
+
+MORTISEVANE_LARGE(mirror, 8);
+MORTISEVANE_PLACED(mirror, sum_register, 0);
+MORTISEVANE_PLACED(mirror, talking, 4);
+
+MORTISEVANE_LARGE(mirrored, 12);
+MORTISEVANE_PLACED(mirrored, number, 0);
+MORTISEVANE_PLACED(mirrored, mirror, 4);
+
+MORTISEVANE_LARGE(numbering, 12);
+MORTISEVANE_PLACED(numbering, message_number, 0);
+MORTISEVANE_PLACED(numbering, retrieval, 4);
+MORTISEVANE_PLACED(numbering, special_format, 8);
+
+MORTISEVANE_LARGE(written, 16);
+MORTISEVANE_PLACED(written, number, 0);
+MORTISEVANE_PLACED(written, check, 4);
+MORTISEVANE_PLACED(written, words, 8);
+
+MORTISEVANE_LARGE(page_read, 24);
+MORTISEVANE_PLACED(page_read, number, 0);
+MORTISEVANE_PLACED(page_read, numbering, 4);
+MORTISEVANE_PLACED(page_read, characters, 16);
+
+MORTISEVANE_LARGE(fragment_read, 40);
+MORTISEVANE_PLACED(fragment_read, number, 0);
+MORTISEVANE_PLACED(fragment_read, continued, 4);
+MORTISEVANE_PLACED(fragment_read, fragment_number, 8);
+MORTISEVANE_PLACED(fragment_read, message_number, 12);
+MORTISEVANE_PLACED(fragment_read, retrieval, 16);
+MORTISEVANE_PLACED(fragment_read, mail_drop, 20);
+MORTISEVANE_PLACED(fragment_read, signature, 24);
+MORTISEVANE_PLACED(fragment_read, sum, 28);
+MORTISEVANE_PLACED(fragment_read, characters, 32);
+
+MORTISEVANE_LARGE(marks, 12);
+MORTISEVANE_PLACED(marks, message_number, 0);
+MORTISEVANE_PLACED(marks, retrieval, 4);
+MORTISEVANE_PLACED(marks, mail_drop, 8);
+
+MORTISEVANE_LARGE(text_cut, 24);
+MORTISEVANE_PLACED(text_cut, number, 0);
+MORTISEVANE_PLACED(text_cut, fragments, 8);
+MORTISEVANE_PLACED(text_cut, words, 16);
+
+MORTISEVANE_LARGE(chain, 32);
+MORTISEVANE_PLACED(chain, is_open, 0);
+MORTISEVANE_PLACED(chain, address, 4);
+MORTISEVANE_PLACED(chain, message_number, 8);
+MORTISEVANE_PLACED(chain, next_fragment, 12);
+MORTISEVANE_PLACED(chain, sum, 16);
+MORTISEVANE_PLACED(chain, characters, 24);
+
+MORTISEVANE_LARGE(chains, 256);
+MORTISEVANE_PLACED(chains, slots, 0);
+
+MORTISEVANE_LARGE(chain_answer, 48);
+MORTISEVANE_PLACED(chain_answer, number, 0);
+MORTISEVANE_PLACED(chain_answer, lost, 4);
+MORTISEVANE_PLACED(chain_answer, begun, 8);
+MORTISEVANE_PLACED(chain_answer, retrieval, 12);
+MORTISEVANE_PLACED(chain_answer, mail_drop, 16);
+MORTISEVANE_PLACED(chain_answer, complete, 20);
+MORTISEVANE_PLACED(chain_answer, slot, 24);
+MORTISEVANE_PLACED(chain_answer, place, 32);
+MORTISEVANE_PLACED(chain_answer, characters, 40);
+
+MORTISEVANE_LARGE(chain_step, 304);
+MORTISEVANE_PLACED(chain_step, answer, 0);
+MORTISEVANE_PLACED(chain_step, chains, 48);
+
+MORTISEVANE_LARGE(chain_drop, 264);
+MORTISEVANE_PLACED(chain_drop, number, 0);
+MORTISEVANE_PLACED(chain_drop, chains, 8);
+
+MORTISEVANE_LARGE(call, 44);
+MORTISEVANE_PLACED(call, phase, 0);
+MORTISEVANE_PLACED(call, vector, 4);
+MORTISEVANE_PLACED(call, address, 8);
+MORTISEVANE_PLACED(call, priority, 12);
+MORTISEVANE_PLACED(call, long_address, 16);
+MORTISEVANE_PLACED(call, has_vector, 20);
+MORTISEVANE_PLACED(call, kind, 24);
+MORTISEVANE_PLACED(call, check, 28);
+MORTISEVANE_PLACED(call, start, 32);
+MORTISEVANE_PLACED(call, words, 36);
+MORTISEVANE_PLACED(call, area, 40);
+
+MORTISEVANE_LARGE(calls, 360);
+MORTISEVANE_PLACED(calls, size, 0);
+MORTISEVANE_PLACED(calls, calls, 8);
+
+MORTISEVANE_LARGE(call_opened, 40);
+MORTISEVANE_PLACED(call_opened, number, 0);
+MORTISEVANE_PLACED(call_opened, opened, 4);
+MORTISEVANE_PLACED(call_opened, call, 8);
+MORTISEVANE_PLACED(call_opened, fields, 16);
+
+MORTISEVANE_LARGE(call_opening, 400);
+MORTISEVANE_PLACED(call_opening, answer, 0);
+MORTISEVANE_PLACED(call_opening, calls, 40);
+
+MORTISEVANE_LARGE(call_heard, 32);
+MORTISEVANE_PLACED(call_heard, number, 0);
+MORTISEVANE_PLACED(call_heard, is_vector, 4);
+MORTISEVANE_PLACED(call_heard, call, 8);
+MORTISEVANE_PLACED(call_heard, kind, 16);
+MORTISEVANE_PLACED(call_heard, check, 20);
+MORTISEVANE_PLACED(call_heard, completed, 24);
+
+MORTISEVANE_LARGE(call_hearing, 392);
+MORTISEVANE_PLACED(call_hearing, answer, 0);
+MORTISEVANE_PLACED(call_hearing, calls, 32);
+
+MORTISEVANE_LARGE(frame_end, 728);
+MORTISEVANE_PLACED(frame_end, number, 0);
+MORTISEVANE_PLACED(frame_end, incomplete, 8);
+MORTISEVANE_PLACED(frame_end, calls, 368);
+
+#undef MORTISEVANE_PLACED
+#undef MORTISEVANE_LARGE
+#undef MORTISEVANE_HOLDS
 
 #ifdef __cplusplus
 }

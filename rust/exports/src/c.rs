@@ -1,5 +1,6 @@
 //! The library as a C header.
 
+use crate::layout::{self, Layouts};
 use crate::library::{Group, Library, Part, Size, Written};
 use crate::names::{constant, field, snake};
 use crate::source::{Constant, Function, Named, Struct, Type};
@@ -20,6 +21,10 @@ const TOP: &str = "\
  * is lent to the same call. Nothing is kept between calls: what is to be remembered goes in and comes back as a
  * struct, which zeros make fresh.
  *
+ * The structs are laid out alike on every machine, 8-bit to 64-bit numbers each at a multiple of its own size: the end
+ * of this header holds the compiler to that. A length that is a parameter is as wide as the machine's own, a
+ * `mortisevane_size` in a struct always 64 bits.
+ *
  * In the comments, \"01\" is the paper that defines the pager host, and S8.x and Table n are the PCD5008 data sheet's.
  */
 #ifndef MORTISEVANE_H
@@ -31,6 +36,33 @@ const TOP: &str = "\
 #ifdef __cplusplus
 extern \"C\" {
 #endif
+
+/* A length, a count or a place in a struct. It is as wide on a board of 32 bits as anywhere else. */
+typedef uint64_t mortisevane_size;
+";
+
+const LAYOUT_TOP: &str = "
+/*
+ * The layout of every struct, in bytes: how large it is, and where each of its fields stands. The library was compiled
+ * for this one. A compiler that lays a struct out otherwise stops here.
+ */
+#ifdef __cplusplus
+#define MORTISEVANE_HOLDS(truth, otherwise) static_assert(truth, otherwise)
+#else
+#define MORTISEVANE_HOLDS(truth, otherwise) _Static_assert(truth, otherwise)
+#endif
+#define MORTISEVANE_LARGE(name, bytes) \\
+    MORTISEVANE_HOLDS(sizeof(struct mortisevane_##name) == bytes, \\
+            \"struct mortisevane_\" #name \" is not as large as in the library\")
+#define MORTISEVANE_PLACED(name, field, place) \\
+    MORTISEVANE_HOLDS(offsetof(struct mortisevane_##name, field) == place, \\
+            #field \" of struct mortisevane_\" #name \" is not where the library has it\")
+";
+
+const LAYOUT_END: &str = "
+#undef MORTISEVANE_PLACED
+#undef MORTISEVANE_LARGE
+#undef MORTISEVANE_HOLDS
 ";
 
 const END: &str = "
@@ -81,7 +113,7 @@ fn comment(text: &[String], indent: &str) -> String {
     format!("{indent}/*\n{lines}{indent} */\n")
 }
 
-fn plain(name: &str) -> String {
+pub fn plain(name: &str) -> String {
     match name {
         "u8" | "u16" | "u32" | "u64" => format!("uint{}_t", &name[1..]),
         "usize" => "size_t".to_string(),
@@ -90,7 +122,8 @@ fn plain(name: &str) -> String {
     }
 }
 
-fn declared(named: &Named) -> String {
+/// A parameter.
+pub fn declared(named: &Named) -> String {
     let name = field(&named.name);
     match &named.kind {
         Type::Plain(kind) => format!("{} {name}", plain(kind)),
@@ -100,8 +133,16 @@ fn declared(named: &Named) -> String {
     }
 }
 
+/// A field of a struct, where a length is as wide on every machine.
+fn member(named: &Named) -> String {
+    match &named.kind {
+        Type::Plain(kind) if kind == "usize" => format!("mortisevane_size {}", field(&named.name)),
+        _ => declared(named),
+    }
+}
+
 fn structure(known: &Struct) -> String {
-    let fields: String = known.fields.iter().map(|field| format!("    {};\n", declared(field))).collect();
+    let fields: String = known.fields.iter().map(|field| format!("    {};\n", member(field))).collect();
     format!("\n{}struct mortisevane_{} {{\n{fields}}};\n", comment(&known.comment, ""), snake(&known.name))
 }
 
@@ -149,10 +190,25 @@ fn part(known: &Part) -> String {
     format!("\n{}{structs}{functions}", comment(&[known.about.join(" ")], ""))
 }
 
+/// What the compiler is held to for one struct.
+fn laid_out(known: &Struct, layouts: &Layouts) -> String {
+    let name = snake(&known.name);
+    let layout = &layouts[&known.name];
+    let mut text = format!("\nMORTISEVANE_LARGE({name}, {});\n", layout.bytes);
+    for (named, place) in known.fields.iter().zip(&layout.places) {
+        text.push_str(&format!("MORTISEVANE_PLACED({name}, {}, {place});\n", field(&named.name)));
+    }
+    text
+}
+
 pub fn header(library: &Library) -> String {
+    let layouts = layout::of(library);
     let groups: String = library.groups.iter().map(group).collect();
     let sizes: String = library.sizes.iter().map(size).collect();
     let parts: String = library.parts.iter().map(part).collect();
+    let structs = library.parts.iter().flat_map(|part| &part.structs);
+    let layout: String = structs.map(|known| laid_out(known, &layouts)).collect();
     let limits = "Limits, and how much memory is to be lent.";
-    format!("{TOP}{groups}\n/* {limits} */\nenum mortisevane_limits {{\n{sizes}}};\n{parts}{END}")
+    let limits = format!("\n/* {limits} */\nenum mortisevane_limits {{\n{sizes}}};\n");
+    format!("{TOP}{groups}{limits}{parts}{LAYOUT_TOP}{layout}{LAYOUT_END}{END}")
 }

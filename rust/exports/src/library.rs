@@ -9,6 +9,8 @@ use std::path::Path;
 
 /// The exports of one file.
 pub struct Part {
+    /// The crate, then the modules that lead to the file.
+    pub place: Vec<String>,
     pub about: Vec<String>,
     pub structs: Vec<Struct>,
     pub functions: Vec<Function>,
@@ -141,7 +143,7 @@ impl<'a> Collector<'a> {
             }
             function.answer = self.crossing(file, &function.answer, &mut structs)?;
         }
-        Ok(Part { about: file.source.about.clone(), structs, functions })
+        Ok(Part { place: file.place.clone(), about: file.source.about.clone(), structs, functions })
     }
 }
 

@@ -1,5 +1,6 @@
 //! The library as Rust declarations.
 
+use crate::layout::{self, Layouts};
 use crate::library::{Group, Library, Part, Size, Written};
 use crate::names::{bare, constant};
 use crate::source::{Constant, Function, Named, Struct, Type};
@@ -12,6 +13,16 @@ const TOP: &str = "\
 
 // What a struct's comment says, it says of its fields, by their names or in their order.
 #![allow(missing_docs)]
+
+use core::mem::{offset_of, size_of};
+
+/// A length, a count or a place in a struct. It is as wide on a board of 32 bits as anywhere else.
+pub type Size = u64;
+";
+
+const LAYOUT_TOP: &str = "
+// The layout of every struct, in bytes: how large it is, and where each of its fields stands. The library was compiled
+// for this one. A compiler that lays a struct out otherwise stops here.
 ";
 
 /// What is said of a function stands in paragraphs. Constants are named as here, and brackets are no links.
@@ -37,8 +48,16 @@ fn declared(named: &Named) -> Vec<String> {
     }
 }
 
+/// A field of a struct, where a length is as wide on every machine.
+fn member(named: &Named) -> Vec<String> {
+    match &named.kind {
+        Type::Plain(kind) if kind == "usize" => vec![format!("{}: Size", named.name)],
+        _ => declared(named),
+    }
+}
+
 fn structure(known: &Struct) -> String {
-    let fields = known.fields.iter().flat_map(declared);
+    let fields = known.fields.iter().flat_map(member);
     let fields: String = fields.map(|field| format!("    pub {field},\n")).collect();
     format!(
         "\n{}#[repr(C)]\n#[derive(Clone, Copy, Debug, Default, PartialEq, Eq)]\npub struct {} {{\n{fields}}}\n",
@@ -101,9 +120,23 @@ fn part(known: &Part) -> String {
     format!("\n{about}{structs}\nextern \"C\" {{\n{}}}\n", functions.join("\n"))
 }
 
+/// What the compiler is held to for one struct.
+fn laid_out(known: &Struct, layouts: &Layouts) -> String {
+    let name = bare(&known.name);
+    let layout = &layouts[&known.name];
+    let mut text = format!("const _: () = assert!(size_of::<{name}>() == {});\n", layout.bytes);
+    for (named, place) in known.fields.iter().zip(&layout.places) {
+        text.push_str(&format!("const _: () = assert!(offset_of!({name}, {}) == {place});\n", named.name));
+    }
+    text
+}
+
 pub fn declarations(library: &Library) -> String {
+    let layouts = layout::of(library);
+    let structs = library.parts.iter().flat_map(|part| &part.structs);
+    let layout: String = structs.map(|known| laid_out(known, &layouts)).collect();
     let groups: String = library.groups.iter().map(group).collect();
     let sizes: String = library.sizes.iter().map(size).collect();
     let parts: String = library.parts.iter().map(part).collect();
-    format!("{TOP}{groups}\n// Limits, and how much memory is to be lent.\n{sizes}{parts}")
+    format!("{TOP}{groups}\n// Limits, and how much memory is to be lent.\n{sizes}{parts}{LAYOUT_TOP}{layout}")
 }

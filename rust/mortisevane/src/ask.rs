@@ -1,5 +1,13 @@
 //! The one place that calls the exports.
 
+use crate::exports::Size;
+
+/// What an export answers of memory that it was lent, as a number of the machine's own width: a count or a place that lies
+/// within a slice, or among the eight calls, so that nothing is cut off.
+pub(crate) fn within(size: Size) -> usize {
+    size as usize
+}
+
 /// Asks an export: `ask!(export(value, lent row, lent mut row))`. What is handed over are the names of variables: numbers
 /// and structs by value, `lent` slices as a pointer and a length.
 macro_rules! ask {

@@ -24,6 +24,8 @@
 //! # Ok::<(), Refusal>(())
 //! ```
 
+use crate::ask::within;
+use crate::exports::Size;
 use crate::packet::Address;
 use crate::refusal::{told, Refusal};
 
@@ -108,7 +110,7 @@ impl Calls {
 
     /// The open calls, in the order opened.
     pub fn open_calls(&self) -> &[Call] {
-        &self.calls[..self.size.min(CALLS)]
+        &self.calls[..within(self.size.min(CALLS as Size))]
     }
 
     /// An address packet, which opens a call.
@@ -120,7 +122,7 @@ impl Calls {
         let opening = ask!(mortisevane_call_open(calls, packet));
         *self = opening.calls;
         let answer = opening.answer;
-        told(answer.number, Opened { address: answer.fields, call: (answer.opened != 0).then_some(answer.call) })
+        told(answer.number, Opened { address: answer.fields, call: (answer.opened != 0).then_some(within(answer.call)) })
     }
 
     /// A vector or message packet. The memory is [`CALL_WORDS`] or more, as it was left last; what it holds before the
@@ -136,7 +138,7 @@ impl Calls {
         let hearing = ask!(mortisevane_call_hear(calls, lent mut memory, packet));
         *self = hearing.calls;
         let answer = hearing.answer;
-        let vector = HeardVector { call: answer.call, kind: answer.kind, check: answer.check };
+        let vector = HeardVector { call: within(answer.call), kind: answer.kind, check: answer.check };
         let completed = Completed { calls: self, memory, places: answer.completed };
         told(answer.number, Heard { vector: (answer.is_vector != 0).then_some(vector), completed })
     }

@@ -17,6 +17,7 @@
 use core::fmt;
 use core::str::{self, FromStr};
 
+use crate::ask::within;
 use crate::frames::Listener;
 use crate::refusal::{told, Refusal};
 
@@ -138,7 +139,7 @@ impl Capcode {
     pub fn print<'a>(&self, out: &'a mut [u8]) -> Result<&'a [u8], Refusal> {
         let Capcode { letter, frame, collapse, address, .. } = *self;
         let written = ask!(mortisevane_capcode_print(letter, frame, collapse, address, lent mut out));
-        told(written.number, &out[..written.length])
+        told(written.number, &out[..within(written.length)])
     }
 }
 

@@ -30,6 +30,7 @@
 use core::error::Error;
 use core::fmt;
 
+use crate::ask::within;
 use crate::refusal::{told, Refusal};
 
 #[doc(inline)]
@@ -127,7 +128,7 @@ impl Chains {
         let answer = step.answer;
         let lost = answer.lost != 0;
         let begun = Begun { retrieval: answer.retrieval != 0, mail_drop: answer.mail_drop != 0 };
-        let text = &buffer[answer.place..][..answer.characters];
+        let text = &buffer[within(answer.place)..][..within(answer.characters)];
         let taken =
             Taken { lost, begun: (answer.begun != 0).then_some(begun), text: (answer.complete != 0).then_some(text) };
         told(answer.number, taken).map_err(|refusal| Refused { refusal, lost })

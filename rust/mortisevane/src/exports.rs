@@ -6,6 +6,11 @@
 // What a struct's comment says, it says of its fields, by their names or in their order.
 #![allow(missing_docs)]
 
+use core::mem::{offset_of, size_of};
+
+/// A length, a count or a place in a struct. It is as wide on a board of 32 bits as anywhere else.
+pub type Size = u64;
+
 // The refusals, by the paper's numbers. A `number` of 0 says that nothing was refused.
 /// A lent buffer is too short for what is to stand in it.
 pub const REFUSED_ROOM: u32 = 1;
@@ -284,7 +289,7 @@ pub struct Assignment {
 #[derive(Clone, Copy, Debug, Default, PartialEq, Eq)]
 pub struct Length {
     pub number: u32,
-    pub length: usize,
+    pub length: Size,
 }
 
 extern "C" {
@@ -1027,7 +1032,7 @@ pub struct Numbering {
 pub struct Written {
     pub number: u32,
     pub check: u32,
-    pub words: usize,
+    pub words: Size,
 }
 
 /// A page read: what its head says, and how many characters. All are 0 after a refusal.
@@ -1036,7 +1041,7 @@ pub struct Written {
 pub struct PageRead {
     pub number: u32,
     pub numbering: Numbering,
-    pub characters: usize,
+    pub characters: Size,
 }
 
 extern "C" {
@@ -1081,7 +1086,7 @@ pub struct FragmentRead {
     pub mail_drop: u32,
     pub signature: u32,
     pub sum: u32,
-    pub characters: usize,
+    pub characters: Size,
 }
 
 /// What the first fragment says of its message: N, the message number, 0 to 63; R, whether the pager expects its messages
@@ -1100,8 +1105,8 @@ pub struct Marks {
 #[derive(Clone, Copy, Debug, Default, PartialEq, Eq)]
 pub struct TextCut {
     pub number: u32,
-    pub fragments: usize,
-    pub words: usize,
+    pub fragments: Size,
+    pub words: Size,
 }
 
 extern "C" {
@@ -1151,7 +1156,7 @@ pub struct Chain {
     pub message_number: u32,
     pub next_fragment: u32,
     pub sum: u32,
-    pub characters: usize,
+    pub characters: Size,
 }
 
 /// The records of the eight slots. The text of slot i begins at byte 1,008 times i of the lent buffer.
@@ -1174,9 +1179,9 @@ pub struct ChainAnswer {
     pub retrieval: u32,
     pub mail_drop: u32,
     pub complete: u32,
-    pub slot: usize,
-    pub place: usize,
-    pub characters: usize,
+    pub slot: Size,
+    pub place: Size,
+    pub characters: Size,
 }
 
 /// The answer to a fragment, and the records then.
@@ -1259,7 +1264,7 @@ pub struct Call {
 #[repr(C)]
 #[derive(Clone, Copy, Debug, Default, PartialEq, Eq)]
 pub struct Calls {
-    pub size: usize,
+    pub size: Size,
     pub calls: [Call; 8],
 }
 
@@ -1270,7 +1275,7 @@ pub struct Calls {
 pub struct CallOpened {
     pub number: u32,
     pub opened: u32,
-    pub call: usize,
+    pub call: Size,
     pub fields: Address,
 }
 
@@ -1290,7 +1295,7 @@ pub struct CallOpening {
 pub struct CallHeard {
     pub number: u32,
     pub is_vector: u32,
-    pub call: usize,
+    pub call: Size,
     pub kind: u32,
     pub check: u32,
     pub completed: u32,
@@ -1362,3 +1367,283 @@ extern "C" {
     /// Refuses nothing.
     pub fn mortisevane_call_place(call: Call) -> usize;
 }
+
+// The layout of every struct, in bytes: how large it is, and where each of its fields stands. The library was compiled
+// for this one. A compiler that lays a struct out otherwise stops here.
+const _: () = assert!(size_of::<Class>() == 8);
+const _: () = assert!(offset_of!(Class, number) == 0);
+const _: () = assert!(offset_of!(Class, class) == 4);
+const _: () = assert!(size_of::<Words>() == 16);
+const _: () = assert!(offset_of!(Words, number) == 0);
+const _: () = assert!(offset_of!(Words, count) == 4);
+const _: () = assert!(offset_of!(Words, first) == 8);
+const _: () = assert!(offset_of!(Words, second) == 12);
+const _: () = assert!(size_of::<Found>() == 16);
+const _: () = assert!(offset_of!(Found, number) == 0);
+const _: () = assert!(offset_of!(Found, address) == 8);
+const _: () = assert!(size_of::<Capcode>() == 32);
+const _: () = assert!(offset_of!(Capcode, number) == 0);
+const _: () = assert!(offset_of!(Capcode, letter) == 4);
+const _: () = assert!(offset_of!(Capcode, frame) == 8);
+const _: () = assert!(offset_of!(Capcode, collapse) == 12);
+const _: () = assert!(offset_of!(Capcode, phase) == 16);
+const _: () = assert!(offset_of!(Capcode, base) == 17);
+const _: () = assert!(offset_of!(Capcode, address) == 24);
+const _: () = assert!(size_of::<Assignment>() == 8);
+const _: () = assert!(offset_of!(Assignment, number) == 0);
+const _: () = assert!(offset_of!(Assignment, phase) == 4);
+const _: () = assert!(offset_of!(Assignment, base) == 5);
+const _: () = assert!(size_of::<Length>() == 16);
+const _: () = assert!(offset_of!(Length, number) == 0);
+const _: () = assert!(offset_of!(Length, length) == 8);
+const _: () = assert!(size_of::<Wait>() == 8);
+const _: () = assert!(offset_of!(Wait, number) == 0);
+const _: () = assert!(offset_of!(Wait, frames) == 4);
+const _: () = assert!(size_of::<Listener>() == 8);
+const _: () = assert!(offset_of!(Listener, frame) == 0);
+const _: () = assert!(offset_of!(Listener, collapse) == 4);
+const _: () = assert!(size_of::<Listeners>() == 132);
+const _: () = assert!(offset_of!(Listeners, listeners) == 0);
+const _: () = assert!(offset_of!(Listeners, count) == 128);
+const _: () = assert!(size_of::<Frames>() == 24);
+const _: () = assert!(offset_of!(Frames, number) == 0);
+const _: () = assert!(offset_of!(Frames, count) == 4);
+const _: () = assert!(offset_of!(Frames, masks) == 8);
+const _: () = assert!(size_of::<Checksum>() == 4);
+const _: () = assert!(offset_of!(Checksum, value) == 0);
+const _: () = assert!(size_of::<Packet>() == 4);
+const _: () = assert!(offset_of!(Packet, bits) == 0);
+const _: () = assert!(size_of::<Built>() == 8);
+const _: () = assert!(offset_of!(Built, number) == 0);
+const _: () = assert!(offset_of!(Built, packet) == 4);
+const _: () = assert!(size_of::<Configuration>() == 28);
+const _: () = assert!(offset_of!(Configuration, oscillator) == 0);
+const _: () = assert!(offset_of!(Configuration, polarity) == 4);
+const _: () = assert!(offset_of!(Configuration, synchronous_mode) == 8);
+const _: () = assert!(offset_of!(Configuration, maximum_off_time) == 12);
+const _: () = assert!(offset_of!(Configuration, clock_output_disable) == 16);
+const _: () = assert!(offset_of!(Configuration, minute_timer) == 20);
+const _: () = assert!(offset_of!(Configuration, low_battery_polarity) == 24);
+const _: () = assert!(size_of::<Control>() == 24);
+const _: () = assert!(offset_of!(Control, forced_frames) == 0);
+const _: () = assert!(offset_of!(Control, single_phase) == 4);
+const _: () = assert!(offset_of!(Control, phase) == 8);
+const _: () = assert!(offset_of!(Control, block_information) == 12);
+const _: () = assert!(offset_of!(Control, minute_timer_clear) == 16);
+const _: () = assert!(offset_of!(Control, on) == 20);
+const _: () = assert!(size_of::<AllFrameMode>() == 12);
+const _: () = assert!(offset_of!(AllFrameMode, decrement) == 0);
+const _: () = assert!(offset_of!(AllFrameMode, force) == 4);
+const _: () = assert!(offset_of!(AllFrameMode, decrement_temporary) == 8);
+const _: () = assert!(size_of::<ReceiverLines>() == 8);
+const _: () = assert!(offset_of!(ReceiverLines, forced) == 0);
+const _: () = assert!(offset_of!(ReceiverLines, settings) == 4);
+const _: () = assert!(size_of::<ShutDown>() == 20);
+const _: () = assert!(offset_of!(ShutDown, setting) == 0);
+const _: () = assert!(offset_of!(ShutDown, enable) == 4);
+const _: () = assert!(offset_of!(ShutDown, low_battery_check) == 8);
+const _: () = assert!(offset_of!(ShutDown, lines) == 12);
+const _: () = assert!(offset_of!(ShutDown, time) == 16);
+const _: () = assert!(size_of::<FrameAssignment>() == 8);
+const _: () = assert!(offset_of!(FrameAssignment, range) == 0);
+const _: () = assert!(offset_of!(FrameAssignment, frames) == 4);
+const _: () = assert!(size_of::<UserAddress>() == 16);
+const _: () = assert!(offset_of!(UserAddress, location) == 0);
+const _: () = assert!(offset_of!(UserAddress, long_address) == 4);
+const _: () = assert!(offset_of!(UserAddress, tone_only) == 8);
+const _: () = assert!(offset_of!(UserAddress, word) == 12);
+const _: () = assert!(size_of::<AddressEnable>() == 4);
+const _: () = assert!(offset_of!(AddressEnable, enabled) == 0);
+const _: () = assert!(size_of::<PartId>() == 12);
+const _: () = assert!(offset_of!(PartId, model) == 0);
+const _: () = assert!(offset_of!(PartId, compatibility) == 4);
+const _: () = assert!(offset_of!(PartId, revision) == 8);
+const _: () = assert!(size_of::<ChecksumRead>() == 8);
+const _: () = assert!(offset_of!(ChecksumRead, number) == 0);
+const _: () = assert!(offset_of!(ChecksumRead, fields) == 4);
+const _: () = assert!(size_of::<ConfigurationRead>() == 32);
+const _: () = assert!(offset_of!(ConfigurationRead, number) == 0);
+const _: () = assert!(offset_of!(ConfigurationRead, fields) == 4);
+const _: () = assert!(size_of::<ControlRead>() == 28);
+const _: () = assert!(offset_of!(ControlRead, number) == 0);
+const _: () = assert!(offset_of!(ControlRead, fields) == 4);
+const _: () = assert!(size_of::<AllFrameModeRead>() == 16);
+const _: () = assert!(offset_of!(AllFrameModeRead, number) == 0);
+const _: () = assert!(offset_of!(AllFrameModeRead, fields) == 4);
+const _: () = assert!(size_of::<ReceiverLinesRead>() == 12);
+const _: () = assert!(offset_of!(ReceiverLinesRead, number) == 0);
+const _: () = assert!(offset_of!(ReceiverLinesRead, fields) == 4);
+const _: () = assert!(size_of::<ShutDownRead>() == 24);
+const _: () = assert!(offset_of!(ShutDownRead, number) == 0);
+const _: () = assert!(offset_of!(ShutDownRead, fields) == 4);
+const _: () = assert!(size_of::<FrameAssignmentRead>() == 12);
+const _: () = assert!(offset_of!(FrameAssignmentRead, number) == 0);
+const _: () = assert!(offset_of!(FrameAssignmentRead, fields) == 4);
+const _: () = assert!(size_of::<UserAddressRead>() == 20);
+const _: () = assert!(offset_of!(UserAddressRead, number) == 0);
+const _: () = assert!(offset_of!(UserAddressRead, fields) == 4);
+const _: () = assert!(size_of::<AddressEnableRead>() == 8);
+const _: () = assert!(offset_of!(AddressEnableRead, number) == 0);
+const _: () = assert!(offset_of!(AddressEnableRead, fields) == 4);
+const _: () = assert!(size_of::<PartIdRead>() == 16);
+const _: () = assert!(offset_of!(PartIdRead, number) == 0);
+const _: () = assert!(offset_of!(PartIdRead, fields) == 4);
+const _: () = assert!(size_of::<Status>() == 40);
+const _: () = assert!(offset_of!(Status, frame_valid) == 0);
+const _: () = assert!(offset_of!(Status, frame) == 4);
+const _: () = assert!(offset_of!(Status, synchronous) == 8);
+const _: () = assert!(offset_of!(Status, low_battery) == 12);
+const _: () = assert!(offset_of!(Status, cycle) == 16);
+const _: () = assert!(offset_of!(Status, synchronous_update) == 20);
+const _: () = assert!(offset_of!(Status, low_battery_update) == 24);
+const _: () = assert!(offset_of!(Status, minute) == 28);
+const _: () = assert!(offset_of!(Status, end_of_frame) == 32);
+const _: () = assert!(offset_of!(Status, overflow) == 36);
+const _: () = assert!(size_of::<StatusRead>() == 44);
+const _: () = assert!(offset_of!(StatusRead, number) == 0);
+const _: () = assert!(offset_of!(StatusRead, fields) == 4);
+const _: () = assert!(size_of::<Address>() == 24);
+const _: () = assert!(offset_of!(Address, priority) == 0);
+const _: () = assert!(offset_of!(Address, phase) == 4);
+const _: () = assert!(offset_of!(Address, long_address) == 8);
+const _: () = assert!(offset_of!(Address, address) == 12);
+const _: () = assert!(offset_of!(Address, tone_only) == 16);
+const _: () = assert!(offset_of!(Address, vector) == 20);
+const _: () = assert!(size_of::<AddressRead>() == 28);
+const _: () = assert!(offset_of!(AddressRead, number) == 0);
+const _: () = assert!(offset_of!(AddressRead, fields) == 4);
+const _: () = assert!(size_of::<Span>() == 12);
+const _: () = assert!(offset_of!(Span, check) == 0);
+const _: () = assert!(offset_of!(Span, words) == 4);
+const _: () = assert!(offset_of!(Span, start) == 8);
+const _: () = assert!(size_of::<ShortMessage>() == 32);
+const _: () = assert!(offset_of!(ShortMessage, kind) == 0);
+const _: () = assert!(offset_of!(ShortMessage, first) == 4);
+const _: () = assert!(offset_of!(ShortMessage, second) == 8);
+const _: () = assert!(offset_of!(ShortMessage, third) == 12);
+const _: () = assert!(offset_of!(ShortMessage, source) == 16);
+const _: () = assert!(offset_of!(ShortMessage, retrieval) == 20);
+const _: () = assert!(offset_of!(ShortMessage, message) == 24);
+const _: () = assert!(offset_of!(ShortMessage, unread) == 28);
+const _: () = assert!(size_of::<Instruction>() == 16);
+const _: () = assert!(offset_of!(Instruction, kind) == 0);
+const _: () = assert!(offset_of!(Instruction, address) == 4);
+const _: () = assert!(offset_of!(Instruction, frame) == 8);
+const _: () = assert!(offset_of!(Instruction, unread) == 12);
+const _: () = assert!(size_of::<Vector>() == 76);
+const _: () = assert!(offset_of!(Vector, word) == 0);
+const _: () = assert!(offset_of!(Vector, damaged) == 4);
+const _: () = assert!(offset_of!(Vector, phase) == 8);
+const _: () = assert!(offset_of!(Vector, kind) == 12);
+const _: () = assert!(offset_of!(Vector, span) == 16);
+const _: () = assert!(offset_of!(Vector, short_message) == 28);
+const _: () = assert!(offset_of!(Vector, instruction) == 60);
+const _: () = assert!(size_of::<VectorRead>() == 80);
+const _: () = assert!(offset_of!(VectorRead, number) == 0);
+const _: () = assert!(offset_of!(VectorRead, fields) == 4);
+const _: () = assert!(size_of::<Message>() == 16);
+const _: () = assert!(offset_of!(Message, word) == 0);
+const _: () = assert!(offset_of!(Message, damaged) == 4);
+const _: () = assert!(offset_of!(Message, phase) == 8);
+const _: () = assert!(offset_of!(Message, bits) == 12);
+const _: () = assert!(size_of::<MessageRead>() == 20);
+const _: () = assert!(offset_of!(MessageRead, number) == 0);
+const _: () = assert!(offset_of!(MessageRead, fields) == 4);
+const _: () = assert!(size_of::<Mirror>() == 8);
+const _: () = assert!(offset_of!(Mirror, register) == 0);
+const _: () = assert!(offset_of!(Mirror, talking) == 4);
+const _: () = assert!(size_of::<Mirrored>() == 12);
+const _: () = assert!(offset_of!(Mirrored, number) == 0);
+const _: () = assert!(offset_of!(Mirrored, mirror) == 4);
+const _: () = assert!(size_of::<Numbering>() == 12);
+const _: () = assert!(offset_of!(Numbering, message_number) == 0);
+const _: () = assert!(offset_of!(Numbering, retrieval) == 4);
+const _: () = assert!(offset_of!(Numbering, special_format) == 8);
+const _: () = assert!(size_of::<Written>() == 16);
+const _: () = assert!(offset_of!(Written, number) == 0);
+const _: () = assert!(offset_of!(Written, check) == 4);
+const _: () = assert!(offset_of!(Written, words) == 8);
+const _: () = assert!(size_of::<PageRead>() == 24);
+const _: () = assert!(offset_of!(PageRead, number) == 0);
+const _: () = assert!(offset_of!(PageRead, numbering) == 4);
+const _: () = assert!(offset_of!(PageRead, characters) == 16);
+const _: () = assert!(size_of::<FragmentRead>() == 40);
+const _: () = assert!(offset_of!(FragmentRead, number) == 0);
+const _: () = assert!(offset_of!(FragmentRead, continued) == 4);
+const _: () = assert!(offset_of!(FragmentRead, fragment_number) == 8);
+const _: () = assert!(offset_of!(FragmentRead, message_number) == 12);
+const _: () = assert!(offset_of!(FragmentRead, retrieval) == 16);
+const _: () = assert!(offset_of!(FragmentRead, mail_drop) == 20);
+const _: () = assert!(offset_of!(FragmentRead, signature) == 24);
+const _: () = assert!(offset_of!(FragmentRead, sum) == 28);
+const _: () = assert!(offset_of!(FragmentRead, characters) == 32);
+const _: () = assert!(size_of::<Marks>() == 12);
+const _: () = assert!(offset_of!(Marks, message_number) == 0);
+const _: () = assert!(offset_of!(Marks, retrieval) == 4);
+const _: () = assert!(offset_of!(Marks, mail_drop) == 8);
+const _: () = assert!(size_of::<TextCut>() == 24);
+const _: () = assert!(offset_of!(TextCut, number) == 0);
+const _: () = assert!(offset_of!(TextCut, fragments) == 8);
+const _: () = assert!(offset_of!(TextCut, words) == 16);
+const _: () = assert!(size_of::<Chain>() == 32);
+const _: () = assert!(offset_of!(Chain, is_open) == 0);
+const _: () = assert!(offset_of!(Chain, address) == 4);
+const _: () = assert!(offset_of!(Chain, message_number) == 8);
+const _: () = assert!(offset_of!(Chain, next_fragment) == 12);
+const _: () = assert!(offset_of!(Chain, sum) == 16);
+const _: () = assert!(offset_of!(Chain, characters) == 24);
+const _: () = assert!(size_of::<Chains>() == 256);
+const _: () = assert!(offset_of!(Chains, slots) == 0);
+const _: () = assert!(size_of::<ChainAnswer>() == 48);
+const _: () = assert!(offset_of!(ChainAnswer, number) == 0);
+const _: () = assert!(offset_of!(ChainAnswer, lost) == 4);
+const _: () = assert!(offset_of!(ChainAnswer, begun) == 8);
+const _: () = assert!(offset_of!(ChainAnswer, retrieval) == 12);
+const _: () = assert!(offset_of!(ChainAnswer, mail_drop) == 16);
+const _: () = assert!(offset_of!(ChainAnswer, complete) == 20);
+const _: () = assert!(offset_of!(ChainAnswer, slot) == 24);
+const _: () = assert!(offset_of!(ChainAnswer, place) == 32);
+const _: () = assert!(offset_of!(ChainAnswer, characters) == 40);
+const _: () = assert!(size_of::<ChainStep>() == 304);
+const _: () = assert!(offset_of!(ChainStep, answer) == 0);
+const _: () = assert!(offset_of!(ChainStep, chains) == 48);
+const _: () = assert!(size_of::<ChainDrop>() == 264);
+const _: () = assert!(offset_of!(ChainDrop, number) == 0);
+const _: () = assert!(offset_of!(ChainDrop, chains) == 8);
+const _: () = assert!(size_of::<Call>() == 44);
+const _: () = assert!(offset_of!(Call, phase) == 0);
+const _: () = assert!(offset_of!(Call, vector) == 4);
+const _: () = assert!(offset_of!(Call, address) == 8);
+const _: () = assert!(offset_of!(Call, priority) == 12);
+const _: () = assert!(offset_of!(Call, long_address) == 16);
+const _: () = assert!(offset_of!(Call, has_vector) == 20);
+const _: () = assert!(offset_of!(Call, kind) == 24);
+const _: () = assert!(offset_of!(Call, check) == 28);
+const _: () = assert!(offset_of!(Call, start) == 32);
+const _: () = assert!(offset_of!(Call, words) == 36);
+const _: () = assert!(offset_of!(Call, area) == 40);
+const _: () = assert!(size_of::<Calls>() == 360);
+const _: () = assert!(offset_of!(Calls, size) == 0);
+const _: () = assert!(offset_of!(Calls, calls) == 8);
+const _: () = assert!(size_of::<CallOpened>() == 40);
+const _: () = assert!(offset_of!(CallOpened, number) == 0);
+const _: () = assert!(offset_of!(CallOpened, opened) == 4);
+const _: () = assert!(offset_of!(CallOpened, call) == 8);
+const _: () = assert!(offset_of!(CallOpened, fields) == 16);
+const _: () = assert!(size_of::<CallOpening>() == 400);
+const _: () = assert!(offset_of!(CallOpening, answer) == 0);
+const _: () = assert!(offset_of!(CallOpening, calls) == 40);
+const _: () = assert!(size_of::<CallHeard>() == 32);
+const _: () = assert!(offset_of!(CallHeard, number) == 0);
+const _: () = assert!(offset_of!(CallHeard, is_vector) == 4);
+const _: () = assert!(offset_of!(CallHeard, call) == 8);
+const _: () = assert!(offset_of!(CallHeard, kind) == 16);
+const _: () = assert!(offset_of!(CallHeard, check) == 20);
+const _: () = assert!(offset_of!(CallHeard, completed) == 24);
+const _: () = assert!(size_of::<CallHearing>() == 392);
+const _: () = assert!(offset_of!(CallHearing, answer) == 0);
+const _: () = assert!(offset_of!(CallHearing, calls) == 32);
+const _: () = assert!(size_of::<FrameEnd>() == 728);
+const _: () = assert!(offset_of!(FrameEnd, number) == 0);
+const _: () = assert!(offset_of!(FrameEnd, incomplete) == 8);
+const _: () = assert!(offset_of!(FrameEnd, calls) == 368);

@@ -21,6 +21,7 @@
 
 use core::slice::Chunks;
 
+use crate::ask::within;
 use crate::exports::FragmentRead;
 use crate::refusal::{told, Refusal};
 
@@ -63,7 +64,7 @@ impl Heading {
             mail_drop: read.mail_drop != 0,
             signature: read.signature,
             sum: read.sum,
-            characters: read.characters,
+            characters: within(read.characters),
         };
         told(read.number, heading)
     }
@@ -103,5 +104,5 @@ pub fn cut<'a>(text: &[u8], marks: Marks, largest: usize, memory: &'a mut [u32])
     let cut = ask!(mortisevane_text_cut(lent text, marks, largest, lent mut memory));
     told(cut.number, ())?;
     // Each fragment but the last has the largest size, which is no longer 0.
-    Ok(memory[..cut.words].chunks(largest))
+    Ok(memory[..within(cut.words)].chunks(largest))
 }

@@ -16,6 +16,7 @@
 //! # Ok::<(), Refusal>(())
 //! ```
 
+use crate::ask::within;
 use crate::refusal::{told, Refusal};
 
 #[doc(inline)]
@@ -52,7 +53,7 @@ pub struct Page<'a> {
 /// [`VECTOR_NUMBERED`]: crate::packet::VECTOR_NUMBERED
 pub fn write<'a>(text: &[u8], kind: u32, numbering: Numbering, memory: &'a mut [u32]) -> Result<Written<'a>, Refusal> {
     let written = ask!(mortisevane_numeric_write(lent text, kind, numbering, lent mut memory));
-    told(written.number, Written { check: written.check, words: &memory[..written.words] })
+    told(written.number, Written { check: written.check, words: &memory[..within(written.words)] })
 }
 
 /// Reads the words of a page, with the type and the K of its vector as a [`Call`](crate::calls::Call) or a
@@ -62,5 +63,5 @@ pub fn write<'a>(text: &[u8], kind: u32, numbering: Numbering, memory: &'a mut [
 /// that applies, and last [`Refusal::Room`]; the memory is then as it was.
 pub fn read<'a>(kind: u32, check: u32, words: &[u32], memory: &'a mut [u8]) -> Result<Page<'a>, Refusal> {
     let read = ask!(mortisevane_numeric_read(kind, check, lent words, lent mut memory));
-    told(read.number, Page { numbering: read.numbering, text: &memory[..read.characters] })
+    told(read.number, Page { numbering: read.numbering, text: &memory[..within(read.characters)] })
 }

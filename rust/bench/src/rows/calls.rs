@@ -316,7 +316,7 @@ fn as_lent_call(call: &SecondCall) -> Call {
 /// The second program's records as the library's.
 pub fn as_lent(calls: &SecondCalls) -> Calls {
     Calls {
-        size: calls.size,
+        size: calls.size as Size,
         calls: calls.calls.map(|call| as_lent_call(&call)),
     }
 }

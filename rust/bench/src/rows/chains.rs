@@ -169,7 +169,7 @@ pub fn as_lent(chains: &SecondChains) -> Chains {
             message_number: record.key.message_number,
             next_fragment: record.next_fragment,
             sum: record.sum,
-            characters: record.characters,
+            characters: record.characters as Size,
         }),
     }
 }
@@ -257,9 +257,9 @@ pub fn as_answer(joined: &Result<Joined, NotJoined>) -> ChainAnswer {
             retrieval: joined.begun.map_or(0, |begun| begun.retrieval),
             mail_drop: joined.begun.map_or(0, |begun| begun.mail_drop),
             complete: joined.complete.is_some().into(),
-            slot: joined.complete.map_or(0, |complete| complete.slot),
-            place: joined.complete.map_or(0, |complete| complete.place),
-            characters: joined.complete.map_or(0, |complete| complete.characters),
+            slot: joined.complete.map_or(0, |complete| complete.slot as Size),
+            place: joined.complete.map_or(0, |complete| complete.place as Size),
+            characters: joined.complete.map_or(0, |complete| complete.characters as Size),
             ..ChainAnswer::default()
         },
     }

@@ -1,0 +1,96 @@
+//! The library's exports in C, for every machine but the one that the kit compiles for: each calls the function of the
+//! proved module that its own thunk calls. C decides how a struct is handed over on the machine at hand; the inner function
+//! takes every struct and every slice by a pointer.
+
+use crate::c::{declared, plain};
+use crate::library::{is_number, Library, Part};
+use crate::names::field;
+use crate::source::{Function, Type};
+
+const TOP: &str = "\
+/*
+ * The exports of include/mortisevane.h over the functions of the proved module, which are made visible to this file
+ * alone. Written from the Rattle source by `rust/exports`, as the header is.
+ */
+#include \"mortisevane.h\"
+
+/* A slice as the module has it on every machine: the pointer in the first eight bytes, the length in the next. */
+struct lent {
+    _Alignas(8) const void *first;
+    _Alignas(8) uint64_t length;
+};
+
+_Static_assert(sizeof(struct lent) == 16, \"a slice of the module is 16 bytes\");
+_Static_assert(offsetof(struct lent, length) == 8, \"the length of a slice stands at 8\");
+";
+
+/// The name that the function after an export has in the module.
+pub fn inner(part: &Part, function: &Function) -> String {
+    format!("{}::{}", part.place.join("::"), function.name)
+}
+
+/// What an inner function takes for a parameter, in C's words: a number as it is and anything else by a pointer.
+fn taken(kind: &Type) -> String {
+    match kind {
+        Type::Plain(name) if name == "usize" => "uint64_t".to_string(),
+        Type::Plain(name) if is_number(name) => plain(name),
+        Type::Plain(name) | Type::Array(name, _) => format!("{} *", plain(name)),
+        Type::Slice(..) => "const struct lent *".to_string(),
+    }
+}
+
+/// How an argument is handed to the inner function.
+fn handed(name: &str, kind: &Type) -> String {
+    match kind {
+        Type::Plain(kind) if is_number(kind) => name.to_string(),
+        Type::Plain(_) | Type::Array(..) => format!("&{name}"),
+        Type::Slice(..) => format!("&lent_{name}"),
+    }
+}
+
+fn function(part: &Part, known: &Function) -> String {
+    let (Type::Plain(answer) | Type::Array(answer, _) | Type::Slice(answer, _)) = &known.answer;
+    let is_number = is_number(answer);
+    let bare = known.name.trim_start_matches("mortisevane_");
+    let kinds = known.parameters.iter().map(|parameter| taken(&parameter.kind));
+    let place = (!is_number).then(|| format!("{} *", plain(answer)));
+    let kinds: Vec<String> = place.into_iter().chain(kinds).collect();
+    let gives = match answer.as_str() {
+        "usize" => "uint64_t".to_string(),
+        _ if is_number => plain(answer),
+        _ => "void".to_string(),
+    };
+    let parameters: Vec<String> = known.parameters.iter().map(declared).collect();
+    let parameters = if parameters.is_empty() { "void".to_string() } else { parameters.join(", ") };
+    let mut body = String::new();
+    for parameter in &known.parameters {
+        if let Type::Slice(..) = parameter.kind {
+            let name = field(&parameter.name);
+            body.push_str(&format!("    struct lent lent_{name} = {{ {name}, {name}_length }};\n"));
+        }
+    }
+    let arguments = known.parameters.iter().map(|parameter| handed(field(&parameter.name), &parameter.kind));
+    let place = (!is_number).then(|| "&answer".to_string());
+    let arguments: Vec<String> = place.into_iter().chain(arguments).collect();
+    let call = format!("inner_{bare}({})", arguments.join(", "));
+    body.push_str(&match answer.as_str() {
+        "usize" => format!("    return (size_t){call};\n"),
+        _ if is_number => format!("    return {call};\n"),
+        _ => format!("    {} answer;\n    {call};\n    return answer;\n", plain(answer)),
+    });
+    let label = inner(part, known);
+    format!(
+        "\n{gives} inner_{bare}({}) __asm__(\"{label}\");\n\n{} {}({parameters})\n{{\n{body}}}\n",
+        kinds.join(", "),
+        plain(answer),
+        known.name
+    )
+}
+
+pub fn source(library: &Library) -> String {
+    let mut text = TOP.to_string();
+    for part in &library.parts {
+        text.extend(part.functions.iter().map(|known| function(part, known)));
+    }
+    text
+}
