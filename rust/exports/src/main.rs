@@ -3,13 +3,17 @@
 //! from the Rattle source of the crate `host`, with what it uses, and from nothing else, so that none can say something
 //! other than what was proved. ROOT is the folder of crates.txt. `exports module ROOT` reads the text of that module from
 //! standard input and writes it with what the shim calls made visible; it refuses one that is not as the shim takes it to
-//! be.
+//! be. `exports board ROOT ARCHIVE` tells how many bytes of code and of constants a board's library has and what it needs,
+//! and refuses one that has variables, that needs more than a named few, or whose functions are not the header's.
 
 mod c;
 mod layout;
 mod library;
+#[cfg(test)]
+mod machines;
 mod module;
 mod names;
+mod object;
 mod rust;
 mod shim;
 mod source;
@@ -18,6 +22,7 @@ mod tests;
 mod tree;
 
 use std::env;
+use std::fs;
 use std::io::{self, Read, Write};
 use std::path::Path;
 use std::process::ExitCode;
@@ -37,15 +42,27 @@ fn written(form: &str, root: &Path) -> Result<String, String> {
     }
 }
 
+/// What is told of a board's library.
+fn told_of_board(root: &Path, archive: &str) -> Result<String, String> {
+    let bytes = fs::read(archive).map_err(|fault| format!("{archive}: {fault}"))?;
+    let found = object::judged(&library::read(root)?, &bytes).map_err(|fault| format!("{archive}: {fault}"))?;
+    let needs: Vec<&str> = found.needs.iter().map(String::as_str).collect();
+    Ok(format!("code {}\nconstants {}\nneeds {}\n", found.code, found.constants, needs.join(" ")))
+}
+
 fn main() -> ExitCode {
     let words: Vec<String> = env::args().skip(1).collect();
-    let [form, root] = words.as_slice() else {
-        eprintln!("usage: exports header|rust|shim|module ROOT");
-        return ExitCode::from(2);
+    let words: Vec<&str> = words.iter().map(String::as_str).collect();
+    let told = match words.as_slice() {
+        ["board", root, archive] => told_of_board(Path::new(root), archive),
+        [form, root] => written(form, Path::new(root)),
+        _ => {
+            eprintln!("usage: exports header|rust|shim|module ROOT, or exports board ROOT ARCHIVE");
+            return ExitCode::from(2);
+        }
     };
-    let told = written(form, Path::new(root))
-        .and_then(|text| io::stdout().write_all(text.as_bytes()).map_err(|fault| fault.to_string()));
-    match told {
+    let write = |text: String| io::stdout().write_all(text.as_bytes()).map_err(|fault| fault.to_string());
+    match told.and_then(write) {
         Ok(()) => ExitCode::SUCCESS,
         Err(fault) => {
             eprintln!("exports: {fault}");

@@ -90,7 +90,7 @@ fn refuse_thunk(known: &Function, thunk: &[&str], layouts: &Layouts) -> Result<(
     let holds_length = |place: usize| thunk.get(place + 2).is_some_and(|line| line.ends_with(LENGTH_PLACE));
     let lent = (0..thunk.len()).filter(|place| thunk[*place].ends_with(SLICE) && holds_length(*place)).count();
     if lent != slices {
-        return Err(format!("{name} has {slices} slices and hands {lent} on as a pointer at 0 and a length at 8"));
+        return Err(format!("has {name} with {slices} slices and {lent} handed on as a pointer at 0 and a length at 8"));
     }
     let sizes: Vec<&str> = thunk[0].split("byval([").skip(1).filter_map(|rest| rest.split(' ').next()).collect();
     let structs = known.parameters.iter().filter_map(|parameter| match &parameter.kind {
@@ -99,52 +99,79 @@ fn refuse_thunk(known: &Function, thunk: &[&str], layouts: &Layouts) -> Result<(
     });
     let large: Vec<String> = structs.filter(|one| one.bytes > 16).map(|one| one.bytes.to_string()).collect();
     if sizes != large {
-        return Err(format!("{name} takes structs of {} bytes, and not of {}", sizes.join(", "), large.join(", ")));
+        return Err(format!("has {name} with structs of {} bytes, and not of {}", sizes.join(", "), large.join(", ")));
     }
     Ok(())
 }
 
-/// The module's text with every inner function visible, or what is not as it should be.
-pub fn visible(library: &Library, text: &str) -> Result<String, String> {
-    let layouts = layout::of(library);
-    let both = library.parts.iter().flat_map(|part| part.functions.iter().map(move |known| (part, known)));
-    let inner: BTreeMap<String, &Function> = both.map(|(part, known)| (inner(part, known), known)).collect();
-    let exports: BTreeMap<&str, &Function> = inner.values().map(|known| (known.name.as_str(), *known)).collect();
-    let mut found: BTreeMap<&str, usize> = BTreeMap::new();
-    let mut written = String::new();
-    let lines: Vec<&str> = text.lines().collect();
-    for (place, line) in lines.iter().enumerate() {
-        let fault = |told: &str| format!("line {} of the module {told}", place + 1);
-        if let Some(told) = strange(line) {
-            return Err(fault(told));
+/// What the module should have: the inner functions and the exports, each by its name.
+struct Expected<'a> {
+    inner: BTreeMap<String, &'a Function>,
+    exports: BTreeMap<&'a str, &'a Function>,
+    layouts: Layouts,
+}
+
+impl<'a> Expected<'a> {
+    fn of(library: &'a Library) -> Expected<'a> {
+        let both = library.parts.iter().flat_map(|part| part.functions.iter().map(move |known| (part, known)));
+        let inner: BTreeMap<String, &Function> = both.map(|(part, known)| (inner(part, known), known)).collect();
+        let exports = inner.values().map(|known| (known.name.as_str(), *known)).collect();
+        Expected { inner, exports, layouts: layout::of(library) }
+    }
+
+    /// The line that begins a function, of which those up to the function's end are handed over too. Counts the inner
+    /// functions.
+    fn definition(&self, lines: &[&str], found: &mut BTreeMap<&'a str, usize>) -> Result<String, String> {
+        let (name, words) = defined(lines[0]).ok_or("defines a function in an unknown manner")?;
+        if let Some(known) = self.inner.get(&name) {
+            if words != expected(known) {
+                return Err(format!("has {name} with {words}, and not with {}", expected(known)));
+            }
+            *found.entry(&known.name).or_default() += 1;
+        } else if !lines[0].starts_with("define internal ") {
+            let known = self.exports.get(name.as_str()).ok_or(format!("exports {name}, which the header has not"))?;
+            refuse_thunk(known, lines, &self.layouts)?;
         }
-        let mut line = line.to_string();
-        if line.starts_with("attributes ") {
-            line = without_machine(&line).map_err(|told| fault(&told))?;
+        match self.inner.contains_key(&name) {
+            true => Ok(lines[0].replacen("define internal ", "define hidden ", 1)),
+            false => Ok(lines[0].to_string()),
         }
-        if line.starts_with("define ") {
-            let (name, words) = defined(&line).ok_or_else(|| fault("defines a function in an unknown manner"))?;
-            let is_internal = line.starts_with("define internal ");
-            if let Some(known) = inner.get(&name) {
-                if words != expected(known) {
-                    return Err(fault(&format!("has {name} with {words}, and not with {}", expected(known))));
-                }
-                *found.entry(&known.name).or_default() += 1;
-                line = line.replacen("define internal ", "define hidden ", 1);
-            } else if !is_internal {
-                let known = exports.get(name.as_str()).ok_or_else(|| fault(&format!("exports {name}, which the header has not")))?;
-                let end = lines[place..].iter().position(|line| *line == "}").unwrap_or(0);
-                refuse_thunk(known, &lines[place..place + end], &layouts).map_err(|told| fault(&told))?;
+    }
+
+    /// There is one inner function for each export.
+    fn refuse_counts(&self, found: &BTreeMap<&str, usize>) -> Result<(), String> {
+        for (name, known) in &self.inner {
+            let count = found.get(known.name.as_str()).copied().unwrap_or(0);
+            if count != 1 {
+                return Err(format!("the module has {count} functions {name} for the export {}, and not one", known.name));
             }
         }
+        Ok(())
+    }
+}
+
+/// The module's text with every inner function visible, or what is not as it should be.
+pub fn visible(library: &Library, text: &str) -> Result<String, String> {
+    let expected = Expected::of(library);
+    let lines: Vec<&str> = text.lines().collect();
+    let mut found = BTreeMap::new();
+    let mut written = String::new();
+    for (place, line) in lines.iter().enumerate() {
+        let fault = |told: String| format!("line {} of the module {told}", place + 1);
+        if let Some(told) = strange(line) {
+            return Err(fault(told.to_string()));
+        }
+        let end = lines[place..].iter().position(|line| *line == "}").unwrap_or(0);
+        let line = match line {
+            _ if line.starts_with("attributes ") => without_machine(line).map_err(fault)?,
+            _ if line.starts_with("define ") => {
+                expected.definition(&lines[place..=place + end], &mut found).map_err(fault)?
+            }
+            _ => line.to_string(),
+        };
         written.push_str(&line);
         written.push('\n');
     }
-    for (name, known) in &inner {
-        let count = found.get(known.name.as_str()).copied().unwrap_or(0);
-        if count != 1 {
-            return Err(format!("the module has {count} functions {name} for the export {}, and not one", known.name));
-        }
-    }
+    expected.refuse_counts(&found)?;
     Ok(written)
 }

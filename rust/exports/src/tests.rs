@@ -50,7 +50,7 @@ fn library_of(root: &Path) -> Result<Library, String> {
     Ok(Library { groups: Vec::new(), sizes: Vec::new(), parts })
 }
 
-fn read(crates: &str, files: &[(&str, &str)]) -> Result<Library, String> {
+pub fn read(crates: &str, files: &[(&str, &str)]) -> Result<Library, String> {
     library_of(&Folder::new(crates, files).root)
 }
 
@@ -60,7 +60,7 @@ fn fault(crates: &str, files: &[(&str, &str)]) -> String {
 }
 
 /// An exported function with all that its comment has to say.
-fn export(signature: &str) -> String {
+pub fn export(signature: &str) -> String {
     let comment = "// Does it.\n// Takes something.\n// Answers something.\n// Refuses nothing.\n";
     format!("\n{comment}#[no_mangle]\npub extern \"C\" fn {signature}\n    ensures {{ .. }}\n{{\n}}\n")
 }
