@@ -22,6 +22,11 @@ struct lent {
 
 _Static_assert(sizeof(struct lent) == 16, \"a slice of the module is 16 bytes\");
 _Static_assert(offsetof(struct lent, length) == 8, \"the length of a slice stands at 8\");
+
+#ifdef __arm__
+/* No floating point crosses, so the library goes with programs of either manner of handing it over. */
+__asm__(\".eabi_attribute 28, 3\");
+#endif
 ";
 
 /// The name that the function after an export has in the module.
