@@ -189,10 +189,10 @@ const GIVEN: [(&str, bool); 2] = [("mortisevane_step", false), ("mortisevane_pla
 #[test]
 fn a_board_s_library_is_code_and_constants_alone() {
     let unwinding = (0x7000_0001, 2, 8);
-    let symbols = [&GIVEN[..], &[("__aeabi_memcpy", true)]].concat();
+    let symbols = [&GIVEN[..], &[("__aeabi_uldivmod", true)]].concat();
     let found = object::judged(&library(), &archive(&[CODE, CONSTANTS, unwinding, (1, 0, 5)], &symbols)).unwrap();
     assert_eq!((found.code, found.constants, found.variables), (100, 30, 0));
-    assert!(found.needs.iter().eq(["__aeabi_memcpy"]));
+    assert!(found.needs.iter().eq(["__aeabi_uldivmod"]));
     let told = |sections: &[Section], symbols: &[(&str, bool)]| {
         object::judged(&library(), &archive(sections, symbols)).expect_err("the library is refused")
     };

@@ -16,23 +16,14 @@ const UNWINDING: u64 = 0x7000_0001;
 const GLOBAL: u64 = 1;
 const NOWHERE: u64 = 0;
 
-/// What a library may need: functions that move and clear bytes, and the compiler's arithmetic where the processor has
-/// none of its own. Arm's names and RISC-V's.
-const MAY_NEED: [&str; 18] = [
-    "__aeabi_memcpy",
-    "__aeabi_memcpy4",
-    "__aeabi_memcpy8",
-    "__aeabi_memclr",
-    "__aeabi_memclr4",
-    "__aeabi_memclr8",
+/// What a library may need from outside: the compiler's arithmetic where the processor has none of its own, by Arm's names
+/// and by RISC-V's.
+const MAY_NEED: [&str; 9] = [
     "__aeabi_llsl",
     "__aeabi_lmul",
     "__aeabi_uidiv",
     "__aeabi_uidivmod",
     "__aeabi_uldivmod",
-    "memcpy",
-    "memmove",
-    "memset",
     "__ashldi3",
     "__muldi3",
     "__udivdi3",

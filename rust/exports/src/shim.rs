@@ -22,10 +22,99 @@ struct lent {
 
 _Static_assert(sizeof(struct lent) == 16, \"a slice of the module is 16 bytes\");
 _Static_assert(offsetof(struct lent, length) == 8, \"the length of a slice stands at 8\");
+";
+
+/// On a board records are copied often, and its C library may copy byte by byte. What the compiler calls for it is here,
+/// seen by this file alone.
+const MEMORY: &str = "
+#if __SIZEOF_POINTER__ == 4
+#define OWN static __attribute__((used))
+#define ONCE static __attribute__((noinline, minsize))
+
+/* Four words at a time where both ends are at a multiple of four bytes, and the rest byte by byte. */
+ONCE void copy(void *to, const void *from, size_t length)
+{
+    uint32_t *to_words = to;
+    const uint32_t *from_words = from;
+
+    if ((((size_t)to | (size_t)from) & 3) == 0) {
+        for (; length >= 16; length -= 16) {
+            uint32_t first = from_words[0], second = from_words[1], third = from_words[2], fourth = from_words[3];
+            to_words[0] = first;
+            to_words[1] = second;
+            to_words[2] = third;
+            to_words[3] = fourth;
+            to_words += 4;
+            from_words += 4;
+        }
+        for (; length >= 4; length -= 4)
+            *to_words++ = *from_words++;
+    }
+    uint8_t *to_bytes = (uint8_t *)to_words;
+    const uint8_t *from_bytes = (const uint8_t *)from_words;
+    for (; length > 0; length--)
+        *to_bytes++ = *from_bytes++;
+}
+
+/* A word at a time where it begins at a multiple of four bytes. */
+ONCE void fill(void *to, uint8_t byte, size_t length)
+{
+    uint32_t *words = to;
+
+    if (((size_t)to & 3) == 0) {
+        for (uint32_t word = byte * 0x01010101u; length >= 4; length -= 4)
+            *words++ = word;
+    }
+    for (uint8_t *bytes = (uint8_t *)words; length > 0; length--)
+        *bytes++ = byte;
+}
 
 #ifdef __arm__
 /* No floating point crosses, so the library goes with programs of either manner of handing it over. */
 __asm__(\".eabi_attribute 28, 3\");
+
+OWN void __aeabi_memcpy(void *to, const void *from, size_t length)
+{
+    copy(to, from, length);
+}
+
+OWN void __aeabi_memcpy4(void *to, const void *from, size_t length)
+{
+    copy(to, from, length);
+}
+
+OWN void __aeabi_memcpy8(void *to, const void *from, size_t length)
+{
+    copy(to, from, length);
+}
+
+OWN void __aeabi_memclr(void *to, size_t length)
+{
+    fill(to, 0, length);
+}
+
+OWN void __aeabi_memclr4(void *to, size_t length)
+{
+    fill(to, 0, length);
+}
+
+OWN void __aeabi_memclr8(void *to, size_t length)
+{
+    fill(to, 0, length);
+}
+#else
+OWN void *memcpy(void *to, const void *from, size_t length)
+{
+    copy(to, from, length);
+    return to;
+}
+
+OWN void *memset(void *to, int byte, size_t length)
+{
+    fill(to, (uint8_t)byte, length);
+    return to;
+}
+#endif
 #endif
 ";
 
@@ -93,7 +182,7 @@ fn function(part: &Part, known: &Function) -> String {
 }
 
 pub fn source(library: &Library) -> String {
-    let mut text = TOP.to_string();
+    let mut text = format!("{TOP}{MEMORY}");
     for part in &library.parts {
         text.extend(part.functions.iter().map(|known| function(part, known)));
     }
