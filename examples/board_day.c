@@ -1,11 +1,11 @@
 /*
- * A board without a decoder, for the main loop in board_loop.c: a day's file from standard input says what happens, line
- * after line (day_file.h). `from` lines are what the decoder sends, and an interrupt comes for each; `to` and `reset` lines
- * are what the rest of the host wants. A checksum packet is an exception: the loop makes it itself where nothing more is
- * to be sent.
+ * A board without a decoder, for the main loop in board_loop.c: a day's file from standard input says what happens,
+ * line after line (day_file.h). `from` lines are what the decoder sends, and an interrupt comes for each; `to` and
+ * `reset` lines are what the rest of the host wants. A checksum packet is an exception: the loop makes it itself where
+ * nothing more is to be sent.
  *
- * Whatever goes out is held against the file. Where it is another packet, or none, that is told by the number of the line
- * and ends the program with status 1.
+ * Whatever goes out is held against the file. Where it is another packet, or none, that is told by the number of the
+ * line and ends the program with status 1.
  */
 #include "board_loop.h"
 #include "day_file.h"
@@ -19,11 +19,16 @@
 #define DAY_BURST 4
 #endif
 
-/* What the decoder answers where the file has only what the host sends: a status that tells of nothing, or its part ID. */
-static const uint32_t status = (uint32_t)MORTISEVANE_PACKET_STATUS << 24;
+/*
+ * What the decoder answers where the file has only what the host sends: a status that tells of nothing, or its part ID.
+ */
+static const uint32_t quiet_status = (uint32_t)MORTISEVANE_PACKET_STATUS << 24;
 static const uint32_t part_id = 0xFF000106;
 
 static struct mortisevane_mirror decoder;
+
+/* Whether READY is low for the packet of a `from` line. It falls once for each, and an exchange lets it rise. */
+static bool is_ready;
 static bool was_interrupted;
 
 /* The next line of the file, if it was read already. */
@@ -73,7 +78,7 @@ uint32_t decoder_reset(void)
 
 uint32_t decoder_exchange(uint32_t packet)
 {
-    uint32_t came = decoder.talking != 0 ? status : part_id;
+    uint32_t came = decoder.talking != 0 ? quiet_status : part_id;
 
     if (packet != (is_due ? due.packet : 0))
         fail(is_due ? due.number : line.number, packet, "is sent, which is not what stands there");
@@ -82,6 +87,7 @@ uint32_t decoder_exchange(uint32_t packet)
         line_is_done();
     }
     is_due = false;
+    is_ready = false;
     decoder = mortisevane_mirror_step(decoder, packet).mirror;
     return came;
 }
@@ -118,8 +124,12 @@ bool host_sleep(void)
 
     if (is_due)
         fail(due.number, due.packet, "is not sent");
-    for (int count = 0; count < DAY_BURST && is_next(DAY_FROM); count += 1)
+    if (is_ready)
+        fail(line.number, line.packet, "waits in the decoder, and is not called for");
+    for (int count = 0; count < DAY_BURST && !is_ready && is_next(DAY_FROM); count += 1) {
+        is_ready = true;
         decoder_interrupt();
+    }
     was_interrupted = false;
     return goes_on;
 }

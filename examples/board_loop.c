@@ -1,12 +1,12 @@
 /*
- * The main loop of a pager's board, to be copied into firmware: an interrupt exchanges packets with the decoder and puts
- * them into a queue; the loop takes them out, hands them to the pager, and sends what the rest of the host wants sent.
- * It keeps the handshake: what may not be sent is not sent, and a decoder that is not talking is made to talk as soon as
- * there is nothing more to send. With board_day.c it works a day's file and prints what day.c prints.
+ * The main loop of a pager's board, to be copied into firmware: an interrupt exchanges packets with the decoder and
+ * puts them into a queue; the loop takes them out, hands them to the pager, and sends what the rest of the host wants
+ * sent. It keeps the handshake: what may not be sent is not sent, and a decoder that is not talking is made to talk as
+ * soon as there is nothing more to send. With board_day.c it works a day's file and prints what day.c prints.
  *
- * Every transfer goes both ways, and a packet that goes out can end the talking while a page comes in. So the queue holds
- * both packets of an exchange, and the loop hears the one that came before its mirror follows the one that was sent: the
- * order is that of the wire, however late the loop is.
+ * Every transfer goes both ways, and a packet that goes out can end the talking while a page comes in. So the queue
+ * holds both packets of an exchange, and the loop hears the one that came before its mirror follows the one that was
+ * sent: the order is that of the wire, however late the loop is.
  */
 #include "board_loop.h"
 #include "exchange_queue.h"
@@ -16,8 +16,9 @@
 #include <stdlib.h>
 
 /*
- * What goes out where nothing is to be sent: a checksum packet of zeros, which leaves a talking decoder talking (S8.4.2).
- * It goes through the mirror as any other, for a decoder with a register of zeros takes it as the closing one.
+ * What goes out where nothing is to be sent: a checksum packet of zeros, which leaves a talking decoder talking
+ * (S8.4.2). It goes through the mirror as any other, for a decoder with a register of zeros takes it as the closing
+ * one.
  */
 enum { NOTHING = 0 };
 
@@ -25,8 +26,8 @@ static struct pager pager;
 static struct exchange_queue queue;
 
 /*
- * What goes out with the next exchange. The loop puts a packet in where there is none, the interrupt takes it out, and an
- * interrupt runs whole between two steps of the loop: so neither overwrites what the other wrote.
+ * What goes out with the next exchange. The loop puts a packet in where there is none, the interrupt takes it out, and
+ * an interrupt runs whole between two steps of the loop: so neither overwrites what the other wrote.
  */
 static _Atomic uint32_t outgoing;
 
@@ -35,7 +36,8 @@ static atomic_uint times_full;
 
 /*
  * Where there is no room nothing is exchanged, so nothing is lost: the decoder keeps its packets, up to 32 of them
- * (S8.3.1), and tells in a status where those were too many. The exchange is in the queue before `outgoing` is free again.
+ * (S8.3.1), and tells in a status where those were too many. The exchange is in the queue before `outgoing` is free
+ * again.
  */
 void decoder_interrupt(void)
 {
@@ -51,7 +53,7 @@ void decoder_interrupt(void)
     atomic_store(&outgoing, NOTHING);
 }
 
-/* What waits in the queue from before a reset is heard by a pager that is not talking, which believes none of it. */
+/* What waits in the queue from before a reset is heard while the decoder is not talking, and none of it is believed. */
 static void reset(void)
 {
     bool told_part_id;
@@ -110,8 +112,8 @@ static void call_for_what_waits(void)
 }
 
 /*
- * Whether a packet may be handed over is asked before the queue is emptied: where it may, the exchange of the last one was
- * in the queue by then, so the mirror from which a checksum is made has followed it.
+ * Whether a packet may be handed over is asked before the queue is emptied: where it may, the exchange of the last one
+ * was in the queue by then, so the mirror from which a checksum is made has followed it.
  */
 int main(void)
 {

@@ -1,7 +1,7 @@
 /*
- * A day of a pager as a file of packets, which is read from standard input. samples/day.packets is such a file. A line is
- * a comment (`#` first), has nothing on it, or is one of these, with eight upper-case hexadecimal digits and, after a
- * space, a remark:
+ * A day of a pager as a file of packets, which is read from standard input. samples/day.packets is such a file. A line
+ * is a comment (`#` first), has nothing on it, or is one of these, with eight upper-case hexadecimal digits and, after
+ * a space, a remark:
  *
  *   reset HHHHHHHH   the host reset the decoder, which told this part ID
  *   to HHHHHHHH      the host sends it

@@ -1,12 +1,12 @@
 /*
- * The queue between the decoder's interrupt, which puts exchanges in, and the main loop, which takes them out. It takes no
- * lock and holds no interrupt off, and yet no exchange is lost or seen half-written, for these reasons:
+ * The queue between the decoder's interrupt, which puts exchanges in, and the main loop, which takes them out. It takes
+ * no lock and holds no interrupt off, and yet no exchange is lost or seen half-written, for these reasons:
  *
  *   - Each counter is written by one side alone, so no count of one side is undone by the other.
  *   - A counter is one word, which the processor reads and writes whole.
- *   - A place is written before `put` counts it, and read before `taken` gives it back; a place that is not free is never
- *     written. The counters are atomic to hold the compiler, and a processor that has several cores, to that order.
- *     `volatile` would not do: it leaves the compiler free to write a place after the counter that tells of it.
+ *   - A place is written before `put` counts it, and read before `taken` gives it back; a place that is not free is
+ *     never written. The counters are atomic to hold the compiler, and a processor that has several cores, to that
+ *     order. `volatile` would not do: it leaves the compiler free to write a place after the counter that tells of it.
  */
 #ifndef EXCHANGE_QUEUE_H
 #define EXCHANGE_QUEUE_H
