@@ -69,11 +69,15 @@ static void send(uint32_t packet)
     decoder_call();
 }
 
+/*
+ * As many exchanges as were in the queue when the turn began, and no more: a decoder that is not talking tells its part
+ * ID over and over, and would else keep the loop from ever sending the checksum.
+ */
 static void follow_exchanges(void)
 {
     struct exchange exchange;
 
-    while (queue_take(&queue, &exchange)) {
+    for (int count = 0; count < QUEUE_PLACES && queue_take(&queue, &exchange); count += 1) {
         pager_heard(&pager, exchange.came);
         pager_sent(&pager, exchange.sent);
     }
@@ -112,8 +116,8 @@ static void call_for_what_waits(void)
 }
 
 /*
- * Whether a packet may be handed over is asked before the queue is emptied: where it may, the exchange of the last one
- * was in the queue by then, so the mirror from which a checksum is made has followed it.
+ * Whether a packet may be handed over is asked before the exchanges are followed: where it may, that of the last packet
+ * is among them, and the mirror from which a checksum is made has followed it.
  */
 int main(void)
 {
