@@ -45,7 +45,7 @@ static void print_text(const uint8_t *text, size_t length)
  * After a refusal too the decoder has been reset, and nothing of before holds. The answer's mirror is then that of
  * zeros.
  */
-void pager_reset(struct pager *pager, uint32_t part_id)
+bool pager_reset(struct pager *pager, uint32_t part_id)
 {
     struct mortisevane_mirrored answer = mortisevane_mirror_reset(part_id);
 
@@ -56,30 +56,33 @@ void pager_reset(struct pager *pager, uint32_t part_id)
         print_packet("reset: part ID ", part_id);
     else
         print_refused(answer.number, part_id);
+    return answer.number == 0;
 }
 
-bool pager_sent(struct pager *pager, uint32_t packet)
+bool pager_may_send(uint32_t packet)
 {
-    bool was_talking = pager->mirror.talking != 0;
     uint32_t refused = mortisevane_may_send(packet);
-    struct mortisevane_mirrored answer;
 
     if (refused != 0) {
         printf("not sent, %lu", (unsigned long)refused);
         print_packet(": ", packet);
-        return false;
     }
-    answer = mortisevane_mirror_step(pager->mirror, packet);
-    if (answer.number != 0) {
-        print_refused(answer.number, packet);
-        return false;
-    }
+    return refused == 0;
+}
+
+/* After a refusal, which a register of the library's own never gives, the answer's mirror is the one handed in. */
+void pager_sent(struct pager *pager, uint32_t packet)
+{
+    bool was_talking = pager->mirror.talking != 0;
+    struct mortisevane_mirrored answer = mortisevane_mirror_step(pager->mirror, packet);
+
     pager->mirror = answer.mirror;
+    if (answer.number != 0)
+        print_refused(answer.number, packet);
     if (!was_talking && answer.mirror.talking != 0)
         puts("talking");
     if (was_talking && answer.mirror.talking == 0)
         puts("silent");
-    return true;
 }
 
 static void hear_address(struct pager *pager, uint32_t packet)

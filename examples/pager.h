@@ -21,11 +21,17 @@ struct pager {
     uint8_t texts[MORTISEVANE_CHAIN_BYTES];
 };
 
-/* The decoder was reset and told its part ID. Calls and chains of before are gone. */
-void pager_reset(struct pager *pager, uint32_t part_id);
+/*
+ * The decoder was reset and told its part ID. Calls and chains of before are gone. Answers whether what it told is a
+ * part ID; where it is not, nothing is known of the decoder until the next reset.
+ */
+bool pager_reset(struct pager *pager, uint32_t part_id);
 
-/* A packet for the decoder. Tells whether it may go out: only then is the decoder taken to have got it. */
-bool pager_sent(struct pager *pager, uint32_t packet);
+/* Whether a packet may go out to the decoder. */
+bool pager_may_send(uint32_t packet);
+
+/* A packet that may go out went out to the decoder. */
+void pager_sent(struct pager *pager, uint32_t packet);
 
 /* A packet from the decoder. */
 void pager_heard(struct pager *pager, uint32_t packet);
