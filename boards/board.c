@@ -1,7 +1,8 @@
 /*
  * The start of a program on an emulated board, and its standard streams. A board of one's own has its own start; this one
  * copies the variables, paints the stack so that its depth can be told, and calls main with the emulator's arguments.
- * Whatever the processor calls a fault ends the program with status 3.
+ * Whatever the processor calls a fault ends the program with status 3. Compiled with -DBOARD_TELLS_STACK the program tells
+ * at its end on standard error how deep its stack was.
  */
 #include "board.h"
 
@@ -133,8 +134,25 @@ FILE *const stdin = &input_file;
 FILE *const stdout = &output_file;
 FILE *const stderr = &error_file;
 
+/* Not by printf, which would itself be deep. */
+static void tell_stack(void)
+{
+#ifdef BOARD_TELLS_STACK
+    char digits[12];
+    size_t place = sizeof digits;
+    size_t left = board_deepest_stack();
+
+    digits[--place] = '\n';
+    for (; left > 0; left /= 10)
+        digits[--place] = (char)('0' + left % 10);
+    for (; place < sizeof digits; place++)
+        put(&errors, MODE_APPEND, digits[place]);
+#endif
+}
+
 _Noreturn void _exit(int status)
 {
+    tell_stack();
     write_out(&output, MODE_WRITE);
     write_out(&errors, MODE_APPEND);
     board_exit(status);
@@ -180,6 +198,19 @@ static int take_arguments(char *line, char **arguments)
     return count;
 }
 
+/*
+ * A Cortex-M0 takes an access that is not aligned for a fault, and larger processors do not. Code for a Cortex-M0 that runs
+ * on one of them here asks for the same (the bit UNALIGN_TRP of the register CCR).
+ */
+static void fault_where_a_small_one_would(void)
+{
+#ifdef __ARM_ARCH_6M__
+    volatile uint32_t *configuration = (volatile uint32_t *)0xE000ED14;
+
+    *configuration |= 1u << 3;
+#endif
+}
+
 void board_start(void)
 {
     static char line[80];
@@ -189,6 +220,7 @@ void board_start(void)
     memcpy(board_data_start, board_data_kept, (size_t)(board_data_end - board_data_start));
     memset(board_bss_start, 0, (size_t)(board_bss_end - board_bss_start));
     paint_stack();
+    fault_where_a_small_one_would();
     if (ask(COMMAND_LINE, block) != 0)
         line[0] = '\0';
     _exit(main(take_arguments(line, arguments), arguments));

@@ -15,11 +15,13 @@ static const uint64_t range_ends[] = { 1, 1933312, 1998848, 2009088, 2025471, 20
 
 static uint64_t some_address(void)
 {
+    uint64_t end;
     switch (random_below(4)) {
     case 0:
         return random_of_width(64);
     case 1:
-        return range_ends[random_below(sizeof range_ends / sizeof *range_ends)] + random_below(5) - 2;
+        end = range_ends[random_below(sizeof range_ends / sizeof *range_ends)];
+        return end + random_below(5) - 2;
     case 2:
         return random_between(1, 2031614);
     default:

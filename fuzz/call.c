@@ -61,9 +61,13 @@ void fuzz_call_place(void)
 /* A call that may be: before its vector, or with one and a span that mostly fits. */
 static struct mortisevane_call some_call(void)
 {
-    struct mortisevane_call call = { .phase = (uint32_t)random_below(4), .vector = (uint32_t)random_below(LAST_WORD - 8),
-        .address = (uint32_t)random_below(32), .priority = (uint32_t)random_below(2),
-        .long_address = (uint32_t)random_below(2), .has_vector = (uint32_t)random_below(3) };
+    struct mortisevane_call call = { 0 };
+    call.phase = (uint32_t)random_below(4);
+    call.vector = (uint32_t)random_below(LAST_WORD - 8);
+    call.address = (uint32_t)random_below(32);
+    call.priority = (uint32_t)random_below(2);
+    call.long_address = (uint32_t)random_below(2);
+    call.has_vector = (uint32_t)random_below(3);
     if (call.has_vector == 0)
         return call;
     call.kind = (uint32_t)random_below(8);
@@ -105,7 +109,9 @@ static struct row some_memory(void)
 
 static uint32_t some_address_packet(void)
 {
-    uint32_t index = (uint32_t)random_below(16) | (one_in(2) ? 0x80 : 0);
+    uint32_t index = (uint32_t)random_below(16);
+    if (one_in(2))
+        index |= 0x80;
     if (one_in(32))
         index = (uint32_t)random_below(256);
     uint32_t flags = (uint32_t)random_below(16) << 20;
@@ -155,7 +161,8 @@ static struct mortisevane_call_opening ask_open(struct mortisevane_calls calls, 
 void fuzz_call_open(void)
 {
     for (uint64_t turn = one_in(16) ? 12 : random_between(1, 3); turn > 0; turn--) {
-        struct mortisevane_call_opening opening = ask_open(some_calls(), some_address_packet());
+        struct mortisevane_calls calls = some_calls();
+        struct mortisevane_call_opening opening = ask_open(calls, some_address_packet());
         if (opening.answer.number != MORTISEVANE_REFUSED_STATE)
             kept_calls = opening.calls;
     }
@@ -187,7 +194,8 @@ static uint32_t word_of(const struct mortisevane_call *call)
 static uint32_t some_heard_packet(const struct mortisevane_calls *calls)
 {
     size_t open = open_in(calls);
-    uint32_t packet = (uint32_t)random_below(LAST_WORD + 2) << 24 | (uint32_t)(random_bits() >> 41);
+    uint32_t packet = (uint32_t)random_below(LAST_WORD + 2) << 24;
+    packet |= (uint32_t)(random_bits() >> 41);
     if (open > 0 && !one_in(16)) {
         const struct mortisevane_call *call = &calls->calls[random_below(open)];
         if (call->has_vector != 0 && call->words == 0)
@@ -337,7 +345,8 @@ void fuzz_call_hear(void)
         fuzz_call_open();
     for (uint64_t turn = random_between(1, 16); turn > 0; turn--) {
         struct mortisevane_calls calls = some_calls();
-        struct mortisevane_call_hearing hearing = ask_hear(calls, some_memory(), some_heard_packet(&calls));
+        struct row memory = some_memory();
+        struct mortisevane_call_hearing hearing = ask_hear(calls, memory, some_heard_packet(&calls));
         if (hearing.answer.number != MORTISEVANE_REFUSED_STATE)
             kept_calls = hearing.calls;
     }

@@ -46,9 +46,13 @@ void fuzz_chains_fresh(void)
 
 static struct mortisevane_chain some_chain(void)
 {
-    return (struct mortisevane_chain) { .is_open = 1, .address = (uint32_t)random_below(32),
-        .message_number = (uint32_t)random_below(64), .next_fragment = (uint32_t)random_below(3),
-        .sum = (uint32_t)random_below(128), .characters = random_below(MORTISEVANE_TEXT_CHARACTERS + 1) };
+    struct mortisevane_chain chain = { .is_open = 1 };
+    chain.address = (uint32_t)random_below(32);
+    chain.message_number = (uint32_t)random_below(64);
+    chain.next_fragment = (uint32_t)random_below(3);
+    chain.sum = (uint32_t)random_below(128);
+    chain.characters = random_below(MORTISEVANE_TEXT_CHARACTERS + 1);
+    return chain;
 }
 
 /* A bit of a record is changed, or the record is another chain's; or all texts are nearly as long as they may get. */
@@ -199,7 +203,8 @@ void fuzz_chain_step(void)
         size_t fragment = one_in(8) ? random_below(message->fragments) : filling ? 0 : message->next;
         uint32_t address = one_in(32) ? (uint32_t)random_of_width(32) : message->address;
         struct row words = lend_some_fragment(message, fragment);
-        struct mortisevane_chain_step step = ask_step(some_chains(), some_buffer(), address, words);
+        struct mortisevane_chains chains = some_chains();
+        struct mortisevane_chain_step step = ask_step(chains, some_buffer(), address, words);
         if (step.answer.number != MORTISEVANE_REFUSED_STATE)
             kept_chains = step.chains;
         message->next = (fragment + 1) % message->fragments;

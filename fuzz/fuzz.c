@@ -20,29 +20,12 @@
 #include <unistd.h>
 
 #include "fuzz.h"
+#include "guard.h"
 
-/* 01 has eighteen refusals, and 0 for none. WATCH is how long a call may take before it is taken to hang. */
-enum { REFUSAL_COUNT = MORTISEVANE_REFUSED_CHARACTER, WATCH_SECONDS = 10 };
-
-struct exported {
-    const char *name;
-    uint32_t refusals;
-    void (*fuzz)(void);
-};
-
-static const struct exported exports[] = {
-#define EXPORT(name, refusals) { "mortisevane_" #name, refusals, fuzz_##name },
-#include "exports.inc"
-#undef EXPORT
-};
+/* How long a call may take before it is taken to hang. */
+enum { WATCH_SECONDS = 10 };
 
 static uint64_t seed;
-static uint64_t calls_made;
-static enum export current;
-
-/* The export whose turn it is; answers are held to those of other exports, so the current call may be another's. */
-static enum export turn;
-static uint64_t counts[EXPORT_COUNT][REFUSAL_COUNT + 1];
 
 /* The few copies live to the end, and looking for leaks is not possible everywhere. */
 const char *__asan_default_options(void)
@@ -57,12 +40,12 @@ static void tell_failure(const char *what)
 {
     char line[512];
     int length = snprintf(line, sizeof line, "fuzz: call %" PRIu64 " of seed %" PRIu64 ", %s in the turn of %s: %s\n",
-        calls_made, seed, exports[current].name, exports[turn].name, what);
+        calls_made, seed, called_name(), turn_name(), what);
     if (write(STDERR_FILENO, line, (size_t)length) != length)
         _exit(2);
 }
 
-static void fail(const char *what)
+_Noreturn void fail(const char *what)
 {
     tell_failure(what);
     _exit(1);
@@ -107,70 +90,6 @@ static void catch_faults(void)
     __sanitizer_set_death_callback(tell_sanitizer);
 }
 
-/* ---- What is held of every call ---- */
-
-void begin_call(enum export called)
-{
-    current = called;
-    calls_made++;
-}
-
-void hold(bool truth, const char *what)
-{
-    if (!truth)
-        fail(what);
-}
-
-void answered(uint32_t number)
-{
-    hold(number <= REFUSAL_COUNT, "a number that 01 does not have");
-    hold(number == 0 || (exports[current].refusals >> number & 1) != 0, "a refusal that the header does not name for it");
-    counts[current][number]++;
-}
-
-void hold_room(uint32_t number, size_t lent, size_t enough)
-{
-    hold(number != MORTISEVANE_REFUSED_ROOM || lent < enough, "refuses room that is enough");
-}
-
-bool all_zero(const void *bytes, size_t length)
-{
-    const uint8_t *looked_at = bytes;
-    while (length > 0 && *looked_at == 0) {
-        looked_at++;
-        length--;
-    }
-    return length == 0;
-}
-
-/* ---- The table, and whether enough was tried ---- */
-
-static bool tell_export(enum export told)
-{
-    bool enough = counts[told][0] > 0;
-    uint64_t calls = 0;
-    for (int number = 0; number <= REFUSAL_COUNT; number++)
-        calls += counts[told][number];
-    printf("%-36s %9" PRIu64 " %9" PRIu64 " ", exports[told].name, calls, counts[told][0]);
-    for (int number = 1; number <= REFUSAL_COUNT; number++) {
-        if ((exports[told].refusals >> number & 1) == 0)
-            continue;
-        printf(" %d:%" PRIu64, number, counts[told][number]);
-        enough = enough && counts[told][number] > 0;
-    }
-    printf(enough ? "\n" : "  NOT ENOUGH\n");
-    return enough;
-}
-
-static bool tell_table(void)
-{
-    bool enough = true;
-    printf("%-36s %9s %9s  %s\n", "export", "calls", "accepted", "refused, by number");
-    for (int told = 0; told < EXPORT_COUNT; told++)
-        enough = tell_export((enum export)told) && enough;
-    return enough;
-}
-
 static uint64_t number_of(const char *text)
 {
     char *end;
@@ -185,8 +104,7 @@ static uint64_t number_of(const char *text)
 int main(int count, char **arguments)
 {
     if (count == 2 && strcmp(arguments[1], "--names") == 0) {
-        for (int named = 0; named < EXPORT_COUNT; named++)
-            puts(exports[named].name);
+        tell_names();
         return 0;
     }
     if (count != 3) {
@@ -198,11 +116,8 @@ int main(int count, char **arguments)
     random_seed(seed);
     map_memories();
     catch_faults();
-    /* Half of all turns go to the exports after those of packets, which are lent memory or handed back what they answered. */
-    while (calls_made < calls_asked) {
-        turn = (enum export)random_between(one_in(2) ? 0 : EXPORT_mirror_step, EXPORT_COUNT - 1);
-        exports[turn].fuzz();
-    }
+    while (calls_made < calls_asked)
+        take_turn();
     bool enough = tell_table();
     printf("%" PRIu64 " calls with seed %" PRIu64 ": nothing outside what was lent, every number as the header says%s\n",
         calls_made, seed, enough ? "" : "; but not every answer came that the header names");

@@ -36,11 +36,33 @@ void answered(uint32_t number);
 /* Ends the run with a failure where the truth does not hold. */
 void hold(bool truth, const char *what);
 
+/* Tells what fails and in which call, and ends the run. The program that makes the calls has it. */
+_Noreturn void fail(const char *what);
+
 /* 1 is told only where less was lent than the header calls always enough. */
 void hold_room(uint32_t number, size_t lent, size_t enough);
 
 /* Whether all bytes are 0, of a part of an answer that has no padding. */
 bool all_zero(const void *bytes, size_t length);
+
+/* ---- Turns, and what came of them (held.c) ---- */
+
+/* How many calls were made, and the names of the export that is called and of the one whose turn it is. */
+extern uint64_t calls_made;
+const char *called_name(void);
+const char *turn_name(void);
+
+/* Gives a turn to an export, by chance: half of all turns go to those that are lent memory or handed back a state. */
+void take_turn(void);
+
+/*
+ * Prints a table of the calls, how many were accepted and how many were refused by each number. Answers whether every
+ * export had an accepted call and gave each refusal that the header names for it.
+ */
+bool tell_table(void);
+
+/* Prints the names of the exports. */
+void tell_names(void);
 
 /* ---- Random numbers (random.c) ---- */
 
@@ -59,6 +81,11 @@ bool one_in(uint64_t cases);
 /* A number of at most so many bits, whose count of bits is random too: small numbers come as often as large ones. */
 uint64_t random_of_width(unsigned most_bits);
 
+/* The width of the numbers that are drawn for a size_t. A program that is held against one on a board has 32 bits too. */
+#ifndef SIZE_BITS
+#define SIZE_BITS 64
+#endif
+
 /* How many a row has: mostly up to a usual number or near it; sometimes none, sometimes up to a most. */
 size_t random_length(size_t usual, size_t most);
 
@@ -69,11 +96,20 @@ void random_flip(void *bytes, size_t length);
 
 /* ---- Lent memory (lend.c) ---- */
 
-enum { MEMORY_BYTES = 4 * 4096, MEMORY_WORDS = MEMORY_BYTES / 4 };
+/* How large each memory is. A program may have it larger, so that rows of over 65,536 words can be lent. */
+#ifndef MEMORY_PAGES
+#define MEMORY_PAGES 4
+#endif
+enum { PAGE_BYTES = 4096, MEMORY_BYTES = MEMORY_PAGES * PAGE_BYTES, MEMORY_WORDS = MEMORY_BYTES / 4 };
+
+/* How much of a memory is looked at on both sides of a row. A program may look at less than all of it. */
+#ifndef LOOKED_AT_BYTES
+#define LOOKED_AT_BYTES MEMORY_BYTES
+#endif
 
 /*
- * Pages that no byte before and no byte after can be reached from: the pages on both sides are inaccessible. They
- * are mapped twice, so that what is lent for reading cannot be written. `before` is what they held before a call.
+ * What a program lends from. What is lent for reading may lie elsewhere than what is lent for writing, and is the same
+ * memory all the same. `before` is what it held before a call.
  */
 struct memory {
     uint8_t *writable;
@@ -84,10 +120,11 @@ struct memory {
 /* What exports are lent: texts and words to read, room to write in, the buffer of chains, the words of calls. */
 extern struct memory read_memory, write_memory, chain_memory, call_memory;
 
-void map_memories(void);
+enum { MEMORY_COUNT = 4 };
+extern struct memory *const memories[MEMORY_COUNT];
 
-/* What is told of a fault at an address: which memory was left, and to which side. */
-const char *fault_told(const void *address);
+/* Fills a memory whose three parts are there with random bytes. */
+void fill_memory(struct memory *memory);
 
 /* A row: so many bytes at the front of a memory, right after the page before it, or right before the page after it. */
 struct row {
@@ -115,7 +152,7 @@ const void *as_before(struct row row);
 /* Takes what a row holds now for what it held before the next call. */
 void remember(struct row row);
 
-/* After a call: nothing in all the memory is other than it was, but so many bytes from a place of the row on. */
+/* After a call: nothing that is looked at is other than it was, but so many bytes from a place of the row on. */
 void hold_written_only(struct row row, size_t from, size_t length);
 void hold_unwritten(struct row row);
 

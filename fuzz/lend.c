@@ -1,89 +1,17 @@
 /*
- * Lent memory. The library's code knows nothing of the sanitizers, so the memory itself shows an access outside a row:
- * a row ends right before an inaccessible page or begins right after one, and a row for reading lies in pages that
- * cannot be written. What is after a row at the front, and before one at the end, is compared after each call.
+ * Lent memory: rows of it, and what is held of a memory after a call. Where the memory lies is the program's to say
+ * (guard.c, and on a board drawn_memory.c).
  */
-#define _GNU_SOURCE
-#include <stdio.h>
-#include <stdlib.h>
-#include <sys/mman.h>
-#include <unistd.h>
-
 #include "fuzz.h"
-
-enum { PAGE_BYTES = 4096 };
 
 struct memory read_memory, write_memory, chain_memory, call_memory;
 
-static struct memory *const memories[] = { &read_memory, &write_memory, &chain_memory, &call_memory };
-static const char *const memory_names[] = { "what is lent for reading", "what is lent for writing",
-    "the buffer of chains", "the words of calls" };
-enum { MEMORY_COUNT = sizeof memories / sizeof *memories };
+struct memory *const memories[MEMORY_COUNT] = { &read_memory, &write_memory, &chain_memory, &call_memory };
 
-static void must(bool done, const char *what)
+void fill_memory(struct memory *memory)
 {
-    if (!done) {
-        perror(what);
-        exit(1);
-    }
-}
-
-/* The pages of a file between two that are inaccessible. */
-static uint8_t *map_between_guards(int file, int protection)
-{
-    uint8_t *reserved = mmap(NULL, PAGE_BYTES + MEMORY_BYTES + PAGE_BYTES, PROT_NONE,
-        MAP_PRIVATE | MAP_ANONYMOUS | MAP_NORESERVE, -1, 0);
-    must(reserved != MAP_FAILED, "reserving pages");
-    uint8_t *pages = mmap(reserved + PAGE_BYTES, MEMORY_BYTES, protection, MAP_SHARED | MAP_FIXED, file, 0);
-    must(pages != MAP_FAILED, "mapping pages");
-    return pages;
-}
-
-static void map_memory(struct memory *memory)
-{
-    int file = memfd_create("lent", 0);
-    must(file >= 0 && ftruncate(file, MEMORY_BYTES) == 0, "a file in memory");
-    memory->writable = map_between_guards(file, PROT_READ | PROT_WRITE);
-    memory->read_only = map_between_guards(file, PROT_READ);
-    memory->before = malloc(MEMORY_BYTES);
-    must(memory->before != NULL, "memory for a copy");
-    close(file);
     random_fill(memory->writable, MEMORY_BYTES);
     remember(row_at_front(memory, MEMORY_BYTES));
-}
-
-void map_memories(void)
-{
-    must(sysconf(_SC_PAGESIZE) == PAGE_BYTES, "pages of 4096 bytes");
-    for (int place = 0; place < MEMORY_COUNT; place++)
-        map_memory(memories[place]);
-}
-
-/* What a fault at an address is, as seen from pages; NULL where it is far from them. Within them only a write faults. */
-static const char *fault_at(const uint8_t *pages, const uint8_t *address)
-{
-    if (address >= pages - PAGE_BYTES && address < pages)
-        return "an access before";
-    if (address >= pages && address < pages + MEMORY_BYTES)
-        return "a write to the read-only pages of";
-    if (address >= pages + MEMORY_BYTES && address < pages + MEMORY_BYTES + PAGE_BYTES)
-        return "an access after";
-    return NULL;
-}
-
-const char *fault_told(const void *address)
-{
-    static char sentence[128];
-    for (int place = 0; place < MEMORY_COUNT; place++) {
-        const char *fault = fault_at(memories[place]->writable, address);
-        if (fault == NULL)
-            fault = fault_at(memories[place]->read_only, address);
-        if (fault != NULL) {
-            snprintf(sentence, sizeof sentence, "%s %s", fault, memory_names[place]);
-            return sentence;
-        }
-    }
-    return "an access far from all that is lent";
 }
 
 struct row row_at_front(struct memory *memory, size_t length)
@@ -133,18 +61,34 @@ void remember(struct row row)
     memcpy(row.memory->before + row.place, row.memory->writable + row.place, row.length);
 }
 
+/* The row with what is looked at on both sides of it. */
+static struct row around(struct row row)
+{
+    size_t before = row.place < LOOKED_AT_BYTES ? row.place : LOOKED_AT_BYTES;
+    size_t after = MEMORY_BYTES - row.place - row.length;
+    if (after > LOOKED_AT_BYTES)
+        after = LOOKED_AT_BYTES;
+    return (struct row) { .memory = row.memory, .place = row.place - before, .length = before + row.length + after };
+}
+
+static bool is_as_before(const struct memory *memory, size_t begin, size_t end)
+{
+    return memcmp(memory->writable + begin, memory->before + begin, end - begin) == 0;
+}
+
 void hold_written_only(struct row row, size_t from, size_t length)
 {
     hold(from <= row.length && length <= row.length - from, "more is told as written than was lent");
-    const struct memory *memory = row.memory;
+    struct row looked_at = around(row);
     size_t begin = row.place + from;
     size_t end = begin + length;
-    hold(memcmp(memory->writable, memory->before, begin) == 0, "written before what is told");
-    hold(memcmp(memory->writable + end, memory->before + end, MEMORY_BYTES - end) == 0, "written after what is told");
+    hold(is_as_before(row.memory, looked_at.place, begin), "written before what is told");
+    hold(is_as_before(row.memory, end, looked_at.place + looked_at.length), "written after what is told");
     remember((struct row) { .memory = row.memory, .place = begin, .length = length });
 }
 
 void hold_unwritten(struct row row)
 {
-    hold(memcmp(row.memory->writable, row.memory->before, MEMORY_BYTES) == 0, "written although nothing is told");
+    struct row looked_at = around(row);
+    hold(is_as_before(row.memory, looked_at.place, looked_at.place + looked_at.length), "written although nothing is told");
 }

@@ -171,7 +171,8 @@ void fuzz_numeric_read(void)
 {
     uint32_t kind = some_kind();
     struct row made = lend_row(&write_memory, 4 * MORTISEVANE_PAGE_WORDS);
-    struct mortisevane_written written = ask_write(lend_some_digits(), kind, some_numbering(kind), made);
+    struct row digits = lend_some_digits();
+    struct mortisevane_written written = ask_write(digits, kind, some_numbering(kind), made);
     uint32_t check = one_in(16) ? (uint32_t)random_of_width(32) : written.check;
     struct row words = one_in(4) ? lend_some_words(MORTISEVANE_PAGE_WORDS) : lend_copy(to_fill(made), 4 * written.words);
     if (words.length > 0 && one_in(4)) {
@@ -224,17 +225,18 @@ struct row lend_fragment(const struct message *message, size_t fragment)
 struct row lend_some_fragment(const struct message *message, size_t fragment)
 {
     uint32_t words[MORTISEVANE_FRAGMENT_WORDS];
-    if (one_in(32))
+    if (one_in(16))
         return lend_some_words(MORTISEVANE_FRAGMENT_WORDS);
     struct row good = lend_fragment(message, fragment);
     if (!one_in(8))
         return good;
     size_t length = good.length;
     memcpy(words, to_read(good), length);
+    uint32_t *changed = words + random_below(length / 4);
     if (one_in(8))
         random_flip(words, length);
     else
-        words[random_below(length / 4)] ^= 1u << random_below(WORD_BITS);
+        *changed ^= 1u << random_below(WORD_BITS);
     if (one_in(16))
         length -= 4;
     if (!one_in(4))
@@ -269,14 +271,16 @@ static struct message messages[MESSAGES];
 static size_t some_largest(void)
 {
     if (one_in(32))
-        return random_of_width(64);
+        return random_of_width(SIZE_BITS);
     return one_in(4) ? random_between(0, MORTISEVANE_FRAGMENT_WORDS + 2) : random_between(20, MORTISEVANE_FRAGMENT_WORDS);
 }
 
 static struct mortisevane_marks some_marks(void)
 {
-    struct mortisevane_marks marks = { .message_number = (uint32_t)random_below(64),
-        .retrieval = (uint32_t)random_below(2), .mail_drop = (uint32_t)random_below(2) };
+    struct mortisevane_marks marks;
+    marks.message_number = (uint32_t)random_below(64);
+    marks.retrieval = (uint32_t)random_below(2);
+    marks.mail_drop = (uint32_t)random_below(2);
     if (one_in(64))
         random_flip(&marks, sizeof marks);
     return marks;
@@ -285,7 +289,7 @@ static struct mortisevane_marks some_marks(void)
 /* Any seven-bit characters but ETX, up to the longest text and more; now and then one that is refused, or any bytes. */
 static struct row lend_some_text(void)
 {
-    size_t most = one_in(64) ? MEMORY_BYTES : MORTISEVANE_TEXT_CHARACTERS + 8;
+    size_t most = one_in(16) ? MEMORY_BYTES : MORTISEVANE_TEXT_CHARACTERS + 8;
     struct row text = lend_row(&read_memory, random_length(one_in(2) ? 200 : MORTISEVANE_TEXT_CHARACTERS, most));
     uint8_t *filled = to_fill(text);
     if (one_in(32))
@@ -296,8 +300,10 @@ static struct row lend_some_text(void)
         if (filled[place] == ETX)
             filled[place] = ' ';
     }
-    if (text.length > 0 && one_in(16))
-        filled[random_below(text.length)] = one_in(2) ? ETX : (uint8_t)random_between(0x80, 0xFF);
+    if (text.length > 0 && one_in(16)) {
+        uint8_t *changed = filled + random_below(text.length);
+        *changed = one_in(2) ? ETX : (uint8_t)random_between(0x80, 0xFF);
+    }
     return text;
 }
 

@@ -14,6 +14,13 @@ static void fill_fields(uint32_t *fields, const unsigned *widths, size_t count)
         random_fill(fields, 4 * count);
 }
 
+/* A packet with one of these IDs and any data. */
+static uint32_t any_packet(uint32_t first_id, uint32_t last_id)
+{
+    uint32_t id = (uint32_t)random_between(first_id, last_id) << DATA_BITS;
+    return id | (uint32_t)(random_bits() >> 40);
+}
+
 /* A packet with one of these IDs: random data, few bits set, or good data with a bit changed or none. */
 static uint32_t some_packet(uint32_t first_id, uint32_t last_id, uint32_t good)
 {
@@ -109,7 +116,7 @@ static void hold_widths(const uint32_t *fields, const unsigned *widths, size_t c
     void fuzz_read_##kind(void) \
     { \
         static const unsigned widths[] = { __VA_ARGS__ }; \
-        uint32_t good = (uint32_t)random_between(first_id, last_id) << DATA_BITS | (uint32_t)(random_bits() >> 40); \
+        uint32_t good = any_packet(first_id, last_id); \
         struct mortisevane_##kind##_read read = CALL(read_##kind, some_packet(first_id, last_id, good)); \
         answered(read.number); \
         _Static_assert(sizeof read.fields == sizeof widths, "a width for each field"); \
@@ -127,7 +134,9 @@ ONLY_READ(message, MORTISEVANE_PACKET_FIRST_MESSAGE, MORTISEVANE_PACKET_LAST_WOR
 void fuzz_may_send(void)
 {
     uint32_t last_id = MORTISEVANE_PACKET_LAST_USER_ADDRESS;
-    ask_to_send(some_packet(0, last_id, (uint32_t)random_below(last_id) << DATA_BITS | (uint32_t)random_of_width(8)));
+    uint32_t good = (uint32_t)random_below(last_id) << DATA_BITS;
+    good |= (uint32_t)random_of_width(8);
+    ask_to_send(some_packet(0, last_id, good));
 }
 
 /* ---- The mirror ---- */
@@ -180,13 +189,13 @@ void fuzz_mirror_reset(void)
 /* Of any ID, but mostly one that the decoder knows. */
 static uint32_t some_sent_packet(void)
 {
-    uint32_t good = (uint32_t)random_below(0x28) << DATA_BITS | (uint32_t)(random_bits() >> 40);
-    return some_packet(MORTISEVANE_PACKET_CHECKSUM, MORTISEVANE_PACKET_LAST_USER_ADDRESS, good);
+    return some_packet(MORTISEVANE_PACKET_CHECKSUM, MORTISEVANE_PACKET_LAST_USER_ADDRESS, any_packet(0, 0x27));
 }
 
 void fuzz_mirror_step(void)
 {
-    struct mortisevane_mirrored then = ask_step(some_mirror(), some_sent_packet());
+    struct mortisevane_mirror mirror = some_mirror();
+    struct mortisevane_mirrored then = ask_step(mirror, some_sent_packet());
     if (then.number == 0)
         kept_mirror = then.mirror;
 }

@@ -1,4 +1,7 @@
-/* Random numbers by xorshift64*: the same for the same seed, so that a failure can be run again. */
+/*
+ * Random numbers by xorshift64*: the same for the same seed, so that a failure can be run again. What is drawn from them
+ * is drawn one by one: of two draws in one expression the compiler may choose which comes first.
+ */
 #include "fuzz.h"
 
 static uint64_t state;
@@ -40,6 +43,15 @@ uint64_t random_of_width(unsigned most_bits)
     return bits == 0 ? 0 : random_bits() >> (64 - bits);
 }
 
+/* Up to a most; and where there is room for so many, often just over what 16 bits can count. */
+static size_t rare_length(size_t usual, size_t most)
+{
+    enum { OVER_16_BITS = 65536 };
+    if (most < OVER_16_BITS + usual)
+        return one_in(4) ? random_between(0, most) : usual;
+    return OVER_16_BITS + random_between(0, usual);
+}
+
 size_t random_length(size_t usual, size_t most)
 {
     switch (random_below(16)) {
@@ -50,7 +62,7 @@ size_t random_length(size_t usual, size_t most)
     case 3:
         return random_between(usual < 2 ? 0 : usual - 2, usual + 2);
     case 4:
-        return one_in(8) ? random_between(0, most) : usual;
+        return one_in(2) ? rare_length(usual, most) : usual;
     default:
         return random_between(0, usual);
     }

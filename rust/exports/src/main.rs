@@ -1,10 +1,11 @@
 //! `exports header ROOT` writes the C header of the library to standard output, `exports rust ROOT` its Rust
-//! declarations, `exports shim ROOT` the C functions by which the module of the library serves any machine. All are made
-//! from the Rattle source of the crate `host`, with what it uses, and from nothing else, so that none can say something
-//! other than what was proved. ROOT is the folder of crates.txt. `exports module ROOT` reads the text of that module from
-//! standard input and writes it with what the shim calls made visible; it refuses one that is not as the shim takes it to
-//! be. `exports board ROOT ARCHIVE` tells how many bytes of code and of constants a board's library has and what it needs,
-//! and refuses one that has variables, that needs more than a named few, or whose functions are not the header's.
+//! declarations, `exports shim ROOT` the C functions by which the module of the library serves any machine, `exports
+//! watched ROOT` C functions that show what is seen of each call. All are made from the Rattle source of the crate `host`,
+//! with what it uses, and from nothing else, so that none can say something other than what was proved. ROOT is the folder
+//! of crates.txt. `exports module ROOT` reads the text of that module from standard input and writes it with what the shim
+//! calls made visible; it refuses one that is not as the shim takes it to be. `exports board ROOT ARCHIVE` tells how many
+//! bytes of code and of constants a board's library has and what it needs, and refuses one that has variables, that needs
+//! more than a named few, or whose functions are not the header's.
 
 mod c;
 mod layout;
@@ -20,6 +21,7 @@ mod source;
 #[cfg(test)]
 mod tests;
 mod tree;
+mod watched;
 
 use std::env;
 use std::fs;
@@ -33,12 +35,13 @@ fn written(form: &str, root: &Path) -> Result<String, String> {
         "header" => Ok(c::header(&library)),
         "rust" => Ok(rust::declarations(&library)),
         "shim" => Ok(shim::source(&library)),
+        "watched" => Ok(watched::source(&library)),
         "module" => {
             let mut text = String::new();
             io::stdin().read_to_string(&mut text).map_err(|fault| format!("standard input: {fault}"))?;
             module::visible(&library, &text)
         }
-        _ => Err(format!("{form} is none of header, rust, shim and module")),
+        _ => Err(format!("{form} is none of header, rust, shim, watched and module")),
     }
 }
 
@@ -57,7 +60,7 @@ fn main() -> ExitCode {
         ["board", root, archive] => told_of_board(Path::new(root), archive),
         [form, root] => written(form, Path::new(root)),
         _ => {
-            eprintln!("usage: exports header|rust|shim|module ROOT, or exports board ROOT ARCHIVE");
+            eprintln!("usage: exports header|rust|shim|watched|module ROOT, or exports board ROOT ARCHIVE");
             return ExitCode::from(2);
         }
     };
