@@ -3,8 +3,7 @@
  * fuzzing, accepted ones as well as refused ones, and holds them to what the header says as the fuzzing does. After each
  * thousand calls it prints two digests of what was seen: of all that went in, and of every field of every answer with all
  * lent memory. The same program with the shipped library must print the same (tools/test-board). At the end stands the
- * fuzzing's table, and on standard error a line for each export with the deepest stack of its calls and with the bytes
- * of the structs that it takes and answers by value.
+ * fuzzing's table, and on standard error a line for each export with the deepest stack of its calls.
  *
  * drawn CALLS SEED FROM TO also tells each call from the one to the other by itself, to find the first that differs.
  *
@@ -17,7 +16,7 @@
 #include "fuzz.h"
 #include "watched.h"
 
-enum { CALLS_A_LINE = 1000, MOST_WATCHED = 128, MOST_ROWS = 64, CUT_LENGTH = 65536 };
+enum { CALLS_A_LINE = 1000, MOST_WATCHED = 128, MOST_ROWS = 64 };
 
 /* ---- What is seen ---- */
 
@@ -92,7 +91,7 @@ void watch_ends(void)
     unsigned long number = (unsigned long)calls_made;
 
     if (number >= told_from && number <= told_to)
-        tell_digests(number, watched[current].name);
+        tell_digests(number, watched_names[current]);
     else if (number % CALLS_A_LINE == 0)
         tell_digests(number, "calls:");
 }
@@ -126,7 +125,7 @@ static bool tell_rows(void)
     bool enough = true;
 
     for (int row = 0; row < row_count; row++) {
-        if (longest[row] >= CUT_LENGTH)
+        if (longest[row] >= OVER_16_BITS)
             continue;
         printf("never longer than 65,535: %s\n", row_names[row]);
         enough = false;
@@ -137,8 +136,7 @@ static bool tell_rows(void)
 static void tell_stacks(void)
 {
     for (int export = 0; export < watched_count; export++)
-        fprintf(stderr, "%s %lu %lu %lu\n", watched[export].name, (unsigned long)deepest[export],
-            (unsigned long)watched[export].taken, (unsigned long)watched[export].answered);
+        fprintf(stderr, "%s %lu\n", watched_names[export], (unsigned long)deepest[export]);
 }
 
 int main(int count, char **arguments)

@@ -8,15 +8,8 @@
 
 #include "mortisevane.h"
 
-/* An export, with the bytes of the structs that it takes by value and of the one that it answers. */
-struct watched {
-    const char *name;
-    size_t taken;
-    size_t answered;
-};
-
 /* The exports, in the header's order, and the rows that they are lent. */
-extern const struct watched watched[];
+extern const char *const watched_names[];
 extern const int watched_count;
 extern const char *const row_names[];
 extern const int row_count;

@@ -205,7 +205,7 @@ static struct row lend_some_capcode(void)
         text[length++] = (char)random_bits();
     else if (length > 0 && one_in(16))
         length--;
-    return lend_copy(text, length);
+    return one_in(16) ? lend_long_copy(text, length) : lend_copy(text, length);
 }
 
 void fuzz_capcode_read(void)

@@ -81,6 +81,9 @@ bool one_in(uint64_t cases);
 /* A number of at most so many bits, whose count of bits is random too: small numbers come as often as large ones. */
 uint64_t random_of_width(unsigned most_bits);
 
+/* The first number that 16 bits cannot count. Where there is room, rows are now and then longer than this. */
+enum { OVER_16_BITS = 65536 };
+
 /* The width of the numbers that are drawn for a size_t. A program that is held against one on a board has 32 bits too. */
 #ifndef SIZE_BITS
 #define SIZE_BITS 64
@@ -145,6 +148,12 @@ void *to_write(struct row row);
 
 /* A row of the memory for reading, with a copy of these bytes. */
 struct row lend_copy(const void *bytes, size_t length);
+
+/*
+ * A row that begins with these bytes and has 65,536 bytes more, so that 16 bits would count as many as there are of
+ * these; where the memory has no room for it, these bytes alone.
+ */
+struct row lend_long_copy(const void *bytes, size_t length);
 
 /* What a row held before the call. */
 const void *as_before(struct row row);

@@ -51,6 +51,15 @@ struct row lend_copy(const void *bytes, size_t length)
     return row;
 }
 
+struct row lend_long_copy(const void *bytes, size_t length)
+{
+    struct row row = row_at_front(&read_memory, OVER_16_BITS + length);
+    if (row.length > MEMORY_BYTES)
+        return lend_copy(bytes, length);
+    memcpy(to_fill(row), bytes, length);
+    return row;
+}
+
 const void *as_before(struct row row)
 {
     return row.memory->before + row.place;

@@ -46,7 +46,6 @@ uint64_t random_of_width(unsigned most_bits)
 /* Up to a most; and where there is room for so many, often just over what 16 bits can count. */
 static size_t rare_length(size_t usual, size_t most)
 {
-    enum { OVER_16_BITS = 65536 };
     if (most < OVER_16_BITS + usual)
         return one_in(4) ? random_between(0, most) : usual;
     return OVER_16_BITS + random_between(0, usual);

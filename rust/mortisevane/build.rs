@@ -1,5 +1,5 @@
 //! Links libmortisevane.a, which `tools/build-library` makes. `MORTISEVANE_LIBRARY` names another folder than the
-//! repository's own that holds it.
+//! repository's own that holds it; for a board it is the one that `tools/build-board` made for its processor.
 
 use std::env;
 use std::path::Path;
@@ -12,7 +12,11 @@ fn main() {
     let folder = env::var("MORTISEVANE_LIBRARY").unwrap_or(own.display().to_string());
     let library = Path::new(&folder).join("libmortisevane.a");
     if !library.exists() {
-        println!("cargo:warning=there is no {}; tools/build-library makes it", library.display());
+        println!(
+            "cargo:warning=there is no {}; tools/build-library makes it, or tools/build-board for a board, whose folder \
+             MORTISEVANE_LIBRARY is to name",
+            library.display()
+        );
     }
     println!("cargo:rerun-if-env-changed=MORTISEVANE_LIBRARY");
     println!("cargo:rerun-if-changed={}", library.display());

@@ -3,7 +3,8 @@
 use crate::layout::{self, Layout};
 use crate::library::Library;
 use crate::tests::{export, read};
-use crate::{c, module, object, rust, shim};
+use crate::stacks::{told_frames, Graph};
+use crate::{c, module, object, rust, shim, watched};
 
 const STEP: &str = "mortisevane_step(kept: Kept, row: &mut [u32], most: usize) -> Answer";
 
@@ -57,6 +58,24 @@ fn the_shim_hands_structs_and_slices_by_a_pointer() {
     assert!(text.contains(step), "{text}");
     let place = "size_t mortisevane_place(struct mortisevane_kept kept)\n{\n    return (size_t)inner_place(&kept);\n}\n";
     assert!(text.contains(place), "{text}");
+}
+
+#[test]
+fn every_field_and_all_lent_memory_is_seen_of_a_call() {
+    let text = watched::source(&library());
+    let kept = "static void see_kept(const struct mortisevane_kept *seen)\n{\n    see(seen->letter);\n    \
+        see(seen->mask);\n    see(seen->count);\n    for (int place = 0; place < 3; place++)\n        \
+        see(seen->sums[place]);\n}\n";
+    let answer = "    see(seen->number);\n    see_kept(&seen->kept);\n}\n";
+    let step = "{\n    watch_inputs(WATCHED_step);\n    see_kept(&kept);\n    \
+        see_lent(ROW_step_row, row, row_length, sizeof *row);\n    see(most);\n    PAINT_STACK();\n    \
+        struct mortisevane_answer answer = __real_mortisevane_step(kept, row, row_length, most);\n    \
+        watch_answer(DEEPEST_STACK());\n    see_answer(&answer);\n    see_row(row, row_length * sizeof *row);\n    \
+        watch_ends();\n    return answer;\n}\n";
+    let names = "    \"mortisevane_step\",\n    \"mortisevane_place\",\n";
+    for part in [kept, answer, step, names, "    \"row of mortisevane_step\",\n"] {
+        assert!(text.contains(part), "{part} is not in {text}");
+    }
 }
 
 /// The module of that library, as the kit writes one.
@@ -216,4 +235,28 @@ fn what_is_no_archive_of_one_object_is_refused() {
     assert_eq!(told(&twice), "it has several members");
     let other = [&whole[..8 + 60 + 5], &[2], &whole[8 + 60 + 6..]].concat();
     assert_eq!(told(&other), "it is no little-endian ELF file");
+}
+
+#[test]
+fn the_deepest_way_of_calls_decides_the_stack() {
+    let mut graph = Graph {
+        frames: [(1, 100), (2, 20), (3, 30), (4, 8)].into(),
+        calls: [(1, [2, 3].into()), (2, [4].into())].into(),
+    };
+    let deepest = |graph: &Graph| graph.deepest(1, &mut Vec::new());
+    assert_eq!(deepest(&graph), Ok(130));
+    graph.frames.insert(4, 16);
+    assert_eq!(deepest(&graph), Ok(136));
+    graph.calls.insert(3, [5].into());
+    assert_eq!(deepest(&graph), Err("a function is called whose frame is not told".to_string()));
+    graph.calls.insert(3, [1].into());
+    assert_eq!(deepest(&graph), Err("a function calls itself".to_string()));
+}
+
+#[test]
+fn a_frame_is_told_by_the_name_of_its_function() {
+    let told = told_frames("shim.c:576:mortisevane_step\t1320\tstatic\nshim.c:call::memory::sound\t432\tstatic\n");
+    assert_eq!(told, Ok([("mortisevane_step", 1320), ("call::memory::sound", 432)].into()));
+    let grows = told_frames("shim.c:5:mortisevane_step\t16\tdynamic\n");
+    assert_eq!(grows, Err("the frame of a function has no one size: shim.c:5:mortisevane_step\t16\tdynamic".to_string()));
 }

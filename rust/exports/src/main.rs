@@ -3,9 +3,10 @@
 //! watched ROOT` C functions that show what is seen of each call. All are made from the Rattle source of the crate `host`,
 //! with what it uses, and from nothing else, so that none can say something other than what was proved. ROOT is the folder
 //! of crates.txt. `exports module ROOT` reads the text of that module from standard input and writes it with what the shim
-//! calls made visible; it refuses one that is not as the shim takes it to be. `exports board ROOT ARCHIVE` tells how many
-//! bytes of code and of constants a board's library has and what it needs, and refuses one that has variables, that needs
-//! more than a named few, or whose functions are not the header's.
+//! calls made visible; it refuses one that is not as the shim takes it to be. `exports board ROOT ARCHIVE FRAMES` tells how
+//! many bytes of code and of constants a board's library has, what it needs, and how deep the stack can get below each export
+//! by the frames that the compiler told; it refuses a library that has variables, that needs more than a named few, or
+//! whose functions are not the header's.
 
 mod c;
 mod layout;
@@ -18,6 +19,7 @@ mod object;
 mod rust;
 mod shim;
 mod source;
+mod stacks;
 #[cfg(test)]
 mod tests;
 mod tree;
@@ -46,21 +48,27 @@ fn written(form: &str, root: &Path) -> Result<String, String> {
 }
 
 /// What is told of a board's library.
-fn told_of_board(root: &Path, archive: &str) -> Result<String, String> {
+fn told_of_board(root: &Path, archive: &str, frames: &str) -> Result<String, String> {
+    let library = library::read(root)?;
     let bytes = fs::read(archive).map_err(|fault| format!("{archive}: {fault}"))?;
-    let found = object::judged(&library::read(root)?, &bytes).map_err(|fault| format!("{archive}: {fault}"))?;
+    let usage = fs::read_to_string(frames).map_err(|fault| format!("{frames}: {fault}"))?;
+    let fault = |fault| format!("{archive}: {fault}");
+    let found = object::judged(&library, &bytes).map_err(fault)?;
+    let stacks = stacks::of(&library, &bytes, &usage).map_err(fault)?;
     let needs: Vec<&str> = found.needs.iter().map(String::as_str).collect();
-    Ok(format!("code {}\nconstants {}\nneeds {}\n", found.code, found.constants, needs.join(" ")))
+    let row = |stack: &stacks::Stack| format!("stack {} {} {} {}\n", stack.name, stack.own, stack.taken, stack.answered);
+    let stacks: String = stacks.iter().map(row).collect();
+    Ok(format!("code {}\nconstants {}\nneeds {}\n{stacks}", found.code, found.constants, needs.join(" ")))
 }
 
 fn main() -> ExitCode {
     let words: Vec<String> = env::args().skip(1).collect();
     let words: Vec<&str> = words.iter().map(String::as_str).collect();
     let told = match words.as_slice() {
-        ["board", root, archive] => told_of_board(Path::new(root), archive),
+        ["board", root, archive, frames] => told_of_board(Path::new(root), archive, frames),
         [form, root] => written(form, Path::new(root)),
         _ => {
-            eprintln!("usage: exports header|rust|shim|watched|module ROOT, or exports board ROOT ARCHIVE");
+            eprintln!("usage: exports header|rust|shim|watched|module ROOT, or exports board ROOT ARCHIVE FRAMES");
             return ExitCode::from(2);
         }
     };

@@ -5,7 +5,7 @@ use crate::library::Library;
 use std::collections::BTreeSet;
 
 /// Parts of an ELF file that are looked at (the format's own numbers).
-const SYMBOL_TABLE: u64 = 2;
+pub const SYMBOL_TABLE: u64 = 2;
 const NO_BYTES: u64 = 8;
 const WRITABLE: u64 = 1;
 const LOADED: u64 = 2;
@@ -42,13 +42,20 @@ pub struct Object {
 }
 
 /// The bytes of a file, read by the width of its numbers.
-struct Bytes<'a> {
+pub struct Bytes<'a> {
     all: &'a [u8],
     is_wide: bool,
 }
 
 impl<'a> Bytes<'a> {
-    fn number(&self, place: u64, bytes: u64) -> Result<u64, String> {
+    pub fn of(all: &'a [u8]) -> Result<Bytes<'a>, String> {
+        if !all.starts_with(b"\x7FELF") || all.get(5) != Some(&1) {
+            return Err("it is no little-endian ELF file".to_string());
+        }
+        Ok(Bytes { all, is_wide: all[4] == 2 })
+    }
+
+    pub fn number(&self, place: u64, bytes: u64) -> Result<u64, String> {
         let place = usize::try_from(place).map_err(|_| "it is too large".to_string())?;
         let part = self.all.get(place..).and_then(|rest| rest.get(..bytes as usize));
         let part = part.ok_or("it is cut short".to_string())?;
@@ -61,23 +68,25 @@ impl<'a> Bytes<'a> {
         self.number(start + place, bytes)
     }
 
-    fn name(&self, place: u64) -> Result<String, String> {
+    pub fn name(&self, place: u64) -> Result<String, String> {
         let rest = self.all.get(place as usize..).ok_or("it is cut short".to_string())?;
         let end = rest.iter().position(|byte| *byte == 0).ok_or("it is cut short".to_string())?;
         String::from_utf8(rest[..end].to_vec()).map_err(|fault| fault.to_string())
     }
 }
 
-/// A section: its kind, its marks, where its bytes stand and how many they are, and the section that goes with it.
-struct Section {
-    kind: u64,
+/// A section: its kind, its marks, where its bytes stand and how many they are, the section that goes with it, and the one
+/// that it is about.
+pub struct Section {
+    pub kind: u64,
     marks: u64,
-    start: u64,
-    bytes: u64,
-    goes_with: u64,
+    pub start: u64,
+    pub bytes: u64,
+    pub goes_with: u64,
+    pub about: u64,
 }
 
-fn sections(file: &Bytes) -> Result<Vec<Section>, String> {
+pub fn sections(file: &Bytes) -> Result<Vec<Section>, String> {
     let start = file.either(0, (0x20, 4), (0x28, 8))?;
     let size = file.either(0, (0x2E, 2), (0x3A, 2))?;
     let count = file.either(0, (0x30, 2), (0x3C, 2))?;
@@ -90,6 +99,7 @@ fn sections(file: &Bytes) -> Result<Vec<Section>, String> {
                 start: file.either(at, (0x10, 4), (0x18, 8))?,
                 bytes: file.either(at, (0x14, 4), (0x20, 8))?,
                 goes_with: file.either(at, (0x18, 4), (0x28, 4))?,
+                about: file.either(at, (0x1C, 4), (0x2C, 4))?,
             })
         })
         .collect()
@@ -111,10 +121,7 @@ fn take_symbols(file: &Bytes, table: &Section, names: &Section, into: &mut Objec
 }
 
 pub fn object(all: &[u8]) -> Result<Object, String> {
-    if !all.starts_with(b"\x7FELF") || all.get(5) != Some(&1) {
-        return Err("it is no little-endian ELF file".to_string());
-    }
-    let file = Bytes { all, is_wide: all[4] == 2 };
+    let file = Bytes::of(all)?;
     let sections = sections(&file)?;
     let mut object = Object::default();
     for section in &sections {
@@ -133,7 +140,7 @@ pub fn object(all: &[u8]) -> Result<Object, String> {
 }
 
 /// The one object file of an archive.
-fn member(archive: &[u8]) -> Result<&[u8], String> {
+pub fn member(archive: &[u8]) -> Result<&[u8], String> {
     let mut rest = archive.strip_prefix(b"!<arch>\n").ok_or("it is no archive")?;
     let mut found = None;
     while rest.len() >= 60 {

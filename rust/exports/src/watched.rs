@@ -92,18 +92,6 @@ fn function(known: &Function) -> String {
     )
 }
 
-/// How many bytes go into a call by value, as structs, and how many come out so.
-fn handed(known: &Function) -> String {
-    let size = |kind: &Type| match kind {
-        Type::Plain(name) if !is_number(name) => Some(format!("sizeof({})", plain(name))),
-        _ => None,
-    };
-    let taken: Vec<String> = known.parameters.iter().filter_map(|parameter| size(&parameter.kind)).collect();
-    let taken = if taken.is_empty() { "0".to_string() } else { taken.join(" + ") };
-    let answered = size(&known.answer).unwrap_or("0".to_string());
-    format!("    {{ \"{}\", {taken}, {answered} }},\n", known.name)
-}
-
 pub fn source(library: &Library) -> String {
     let structs = library.parts.iter().flat_map(|part| &part.structs);
     let functions: Vec<&Function> = library.parts.iter().flat_map(|part| &part.functions).collect();
@@ -114,11 +102,11 @@ pub fn source(library: &Library) -> String {
     };
     format!(
         "{TOP}\nenum {{\n{}    WATCHED_COUNT\n}};\n\nenum {{\n{}    ROW_COUNT\n}};\n\n\
-         const struct watched watched[] = {{\n{}}};\nconst int watched_count = WATCHED_COUNT;\n\n\
+         const char *const watched_names[] = {{\n{}}};\nconst int watched_count = WATCHED_COUNT;\n\n\
          const char *const row_names[] = {{\n{}}};\nconst int row_count = ROW_COUNT;\n{}{}",
         each(&|known| format!("    WATCHED_{},\n", bare(known))),
         each(&rows),
-        each(&handed),
+        each(&|known| format!("    \"{}\",\n", known.name)),
         each(&names),
         structs.map(structure).collect::<String>(),
         each(&function)
