@@ -2,8 +2,11 @@
 //!
 //!     bench count [GROUP]                     runs every row, or a group's; to be run under callgrind (tools/bench)
 //!     bench show FOLDER GROUP                 writes a group's table from what callgrind wrote into the folder
-//!     bench document FOLDER ARCHIVE WHY       writes docs/BENCHMARKS.md whole; WHY is the file with its last section
+//!     bench document FOLDER ARCHIVE BOARDS WHY
+//!                                             writes docs/BENCHMARKS.md whole; BOARDS is the file with its section on boards
+//!                                             (tools/bench-board), WHY the one with its last section
 
+mod boards;
 mod bytes;
 mod callgrind;
 mod glance;
@@ -33,11 +36,14 @@ fn main() -> ExitCode {
         ["count"] => count(""),
         ["count", group] => count(group),
         ["show", folder, group] => table::show(Path::new(folder), group),
-        ["document", folder, archive, why] => {
-            table::document(Path::new(folder), Path::new(archive), Path::new(why))
-        }
+        ["document", folder, archive, boards, why] => table::document(
+            Path::new(folder),
+            Path::new(archive),
+            Path::new(boards),
+            Path::new(why),
+        ),
         _ => Err(
-            "usage: bench count [GROUP] | show FOLDER GROUP | document FOLDER ARCHIVE WHY"
+            "usage: bench count [GROUP] | show FOLDER GROUP | document FOLDER ARCHIVE BOARDS WHY"
                 .to_owned(),
         ),
     };

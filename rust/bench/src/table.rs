@@ -3,6 +3,7 @@
 use std::fmt::Write;
 use std::path::Path;
 
+use crate::boards;
 use crate::bytes;
 use crate::callgrind::{instructions, Callers};
 use crate::glance;
@@ -115,13 +116,14 @@ pub fn show(folder: &Path, wanted: &str) -> Result<(), String> {
     Ok(())
 }
 
-/// The whole document. The folder of the archive and the file that says why are given beside callgrind's.
-pub fn document(folder: &Path, archive: &Path, why: &Path) -> Result<(), String> {
+/// The whole document. The archive, the file on boards and the file that says why are given beside callgrind's folder.
+pub fn document(folder: &Path, archive: &Path, on_boards: &Path, why: &Path) -> Result<(), String> {
     let rows = counted(folder, "")?;
+    let machine = bytes::said_by("uname", &["-m"])?;
     bytes::assert_all_exports(archive, &rows)?;
     let sizes = bytes::sizes(archive)?;
     let mut text = format!("# Benchmarks\n\n{}", glance::table(&rows, &sizes)?);
-    text += &opening(&rows)?;
+    text += &opening(&rows, machine.trim())?;
     text += "\n## Instructions of each operation\n";
     for section in &OPERATIONS {
         text += &in_section(section, "###", &rows);
@@ -133,22 +135,26 @@ pub fn document(folder: &Path, archive: &Path, why: &Path) -> Result<(), String>
         }
     }
     text += &bytes::sections(&sizes, &rows);
+    text += "\n";
+    text += &boards::section(&written(on_boards)?, machine.trim(), &rows);
     text += "\n## Why rows are over the aim\n\n";
-    text += &std::fs::read_to_string(why).map_err(|error| format!("{}: {error}", why.display()))?;
+    text += &written(why)?;
     print!("{text}");
     Ok(())
 }
 
-fn opening(rows: &[Counted]) -> Result<String, String> {
+fn written(file: &Path) -> Result<String, String> {
+    std::fs::read_to_string(file).map_err(|error| format!("{}: {error}", file.display()))
+}
+
+fn opening(rows: &[Counted], machine: &str) -> Result<String, String> {
     let over = rows.iter().filter(|row| row.is_over()).count();
-    let machine = bytes::said_by("uname", &["-m"])?;
     let valgrind = bytes::said_by("valgrind", &["--version"])?;
     let rustc = bytes::said_by("rustc", &["--version"])?;
     let mut text = OPENING.to_owned();
     let _ = write!(
         text,
-        "\nMeasured on {}, with {} and {}.\n{over} of {} rows are over the aim; they are marked, and why stands at the end.\n",
-        machine.trim(),
+        "\nMeasured on {machine}, with {} and {}.\n{over} of {} rows are over the aim; they are marked, and why stands at the end.\n",
         valgrind.trim(),
         rustc.trim(),
         rows.len()

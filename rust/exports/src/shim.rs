@@ -30,25 +30,40 @@ const MEMORY: &str = "
 #if __SIZEOF_POINTER__ == 4
 #define OWN static __attribute__((used))
 #define ONCE static __attribute__((noinline, minsize))
+#define COPY __attribute__((alias(\"copy\")))
 
-/* Four words at a time where both ends are at a multiple of four bytes, and the rest byte by byte. */
+/*
+ * Four words at a time where both ends are at a multiple of four bytes, then two and one, and the rest byte by byte. A
+ * loop with its question at the end is the shorter one on a board.
+ */
 ONCE void copy(void *to, const void *from, size_t length)
 {
     uint32_t *to_words = to;
     const uint32_t *from_words = from;
 
     if ((((size_t)to | (size_t)from) & 3) == 0) {
-        for (; length >= 16; length -= 16) {
-            uint32_t first = from_words[0], second = from_words[1], third = from_words[2], fourth = from_words[3];
+        const uint32_t *end = from_words + length / 16 * 4;
+        if (from_words != end) {
+            do {
+                uint32_t first = from_words[0], second = from_words[1], third = from_words[2], fourth = from_words[3];
+                from_words += 4;
+                to_words[0] = first;
+                to_words[1] = second;
+                to_words[2] = third;
+                to_words[3] = fourth;
+                to_words += 4;
+            } while (from_words != end);
+        }
+        if ((length & 8) != 0) {
+            uint32_t first = from_words[0], second = from_words[1];
+            from_words += 2;
             to_words[0] = first;
             to_words[1] = second;
-            to_words[2] = third;
-            to_words[3] = fourth;
-            to_words += 4;
-            from_words += 4;
+            to_words += 2;
         }
-        for (; length >= 4; length -= 4)
+        if ((length & 4) != 0)
             *to_words++ = *from_words++;
+        length &= 3;
     }
     uint8_t *to_bytes = (uint8_t *)to_words;
     const uint8_t *from_bytes = (const uint8_t *)from_words;
@@ -73,20 +88,10 @@ ONCE void fill(void *to, uint8_t byte, size_t length)
 /* No floating point crosses, so the library goes with programs of either manner of handing it over. */
 __asm__(\".eabi_attribute 28, 3\");
 
-OWN void __aeabi_memcpy(void *to, const void *from, size_t length)
-{
-    copy(to, from, length);
-}
-
-OWN void __aeabi_memcpy4(void *to, const void *from, size_t length)
-{
-    copy(to, from, length);
-}
-
-OWN void __aeabi_memcpy8(void *to, const void *from, size_t length)
-{
-    copy(to, from, length);
-}
+/* The same function by the three names of Arm's convention, so that no call goes by way of another. */
+OWN COPY void __aeabi_memcpy(void *to, const void *from, size_t length);
+OWN COPY void __aeabi_memcpy4(void *to, const void *from, size_t length);
+OWN COPY void __aeabi_memcpy8(void *to, const void *from, size_t length);
 
 OWN void __aeabi_memclr(void *to, size_t length)
 {
