@@ -53,9 +53,10 @@ struct row lend_copy(const void *bytes, size_t length)
 
 struct row lend_long_copy(const void *bytes, size_t length)
 {
-    struct row row = row_at_front(&read_memory, OVER_16_BITS + length);
-    if (row.length > MEMORY_BYTES)
+    size_t room = MEMORY_BYTES - length;
+    if (room < OVER_16_BITS)
         return lend_copy(bytes, length);
+    struct row row = row_at_front(&read_memory, OVER_16_BITS + length);
     memcpy(to_fill(row), bytes, length);
     return row;
 }
