@@ -52,6 +52,7 @@ bool pager_reset(struct pager *pager, uint32_t part_id)
     pager->mirror = answer.mirror;
     pager->calls = mortisevane_calls_fresh();
     pager->chains = mortisevane_chains_fresh();
+    pager->assigned = 0;
     if (answer.number == 0)
         print_packet("reset: part ID ", part_id);
     else
@@ -98,15 +99,11 @@ static void hear_address(struct pager *pager, uint32_t packet)
     }
 }
 
-/* A status says many things, which this pager leaves; of calls it says that their frame has ended. */
-static void hear_status(struct pager *pager, uint32_t packet)
+/* The calls of a frame that has ended. */
+static void end_calls(struct pager *pager, uint32_t packet)
 {
-    struct mortisevane_status_read status = mortisevane_read_status(packet);
-    struct mortisevane_frame_end end;
+    struct mortisevane_frame_end end = mortisevane_call_end(pager->calls, pager->words, MORTISEVANE_CALL_WORDS);
 
-    if (status.fields.end_of_frame == 0)
-        return;
-    end = mortisevane_call_end(pager->calls, pager->words, MORTISEVANE_CALL_WORDS);
     pager->calls = end.calls;
     if (end.number != 0)
         print_refused(end.number, packet);
@@ -119,6 +116,37 @@ static void hear_status(struct pager *pager, uint32_t packet)
         else
             puts(", no vector");
     }
+}
+
+/*
+ * The wait for each temporary address that was assigned in a frame that has ended. Which frame it was its end tells
+ * (S8.8.4), if the decoder knows it.
+ */
+static void tell_waits(struct pager *pager, const struct mortisevane_status *ended)
+{
+    for (uint32_t place = 0; place < PAGER_TEMPORARIES; place += 1) {
+        uint32_t designated = pager->designated[place];
+        if ((pager->assigned >> place & 1) == 0)
+            continue;
+        print_address(PAGER_FIRST_TEMPORARY + place);
+        printf(": awaits frame %lu, ", (unsigned long)designated);
+        if (ended->frame_valid != 0)
+            printf("%lu frames\n", (unsigned long)mortisevane_frames_wait(ended->frame, designated).frames);
+        else
+            puts("from a frame that is not known");
+    }
+    pager->assigned = 0;
+}
+
+/* A status says many things, of which this pager looks at one: that a frame has ended. */
+static void hear_status(struct pager *pager, uint32_t packet)
+{
+    struct mortisevane_status_read status = mortisevane_read_status(packet);
+
+    if (status.fields.end_of_frame == 0)
+        return;
+    end_calls(pager, packet);
+    tell_waits(pager, &status.fields);
 }
 
 static void page_numeric(const struct mortisevane_call *call, const uint32_t *words)
@@ -160,11 +188,32 @@ static void join_fragment(struct pager *pager, const struct mortisevane_call *ca
     putchar('\n');
 }
 
-static void page(struct pager *pager, const struct mortisevane_call *call)
+/* A short instruction has no words: all of it is in its vector. Its wait is told at the end of the frame. */
+static void follow_instruction(struct pager *pager, const struct mortisevane_call *call, uint32_t vector)
+{
+    struct mortisevane_instruction instruction = mortisevane_read_vector(vector).fields.instruction;
+
+    print_address(call->address);
+    if (instruction.kind == MORTISEVANE_INSTRUCTION_TEMPORARY) {
+        uint32_t place = instruction.address - PAGER_FIRST_TEMPORARY;
+        pager->assigned |= (uint32_t)1 << place;
+        pager->designated[place] = instruction.frame;
+        printf(": temporary address %lu in frame %lu\n", (unsigned long)instruction.address,
+                (unsigned long)instruction.frame);
+    } else {
+        printf(": instruction type %lu, not read\n", (unsigned long)instruction.kind);
+    }
+}
+
+/* A call that a packet has completed: its last word, or the vector of one that has no words. */
+static void page(struct pager *pager, const struct mortisevane_call *call, uint32_t packet)
 {
     const uint32_t *words = pager->words + mortisevane_call_place(*call);
 
     switch (call->kind) {
+    case MORTISEVANE_VECTOR_INSTRUCTION:
+        follow_instruction(pager, call, packet);
+        break;
     case MORTISEVANE_VECTOR_STANDARD:
     case MORTISEVANE_VECTOR_SPECIAL:
     case MORTISEVANE_VECTOR_NUMBERED:
@@ -190,7 +239,7 @@ static void hear_word(struct pager *pager, uint32_t packet)
         print_refused(hearing.answer.number, packet);
     for (size_t place = 0; place < MORTISEVANE_CALLS; place += 1) {
         if ((hearing.answer.completed >> place & 1) != 0)
-            page(pager, &hearing.calls.calls[place]);
+            page(pager, &hearing.calls.calls[place], packet);
     }
 }
 

@@ -9,6 +9,9 @@
 
 #include <stdbool.h>
 
+/* Temporary addresses have the address numbers 16 to 31 (S8.7.2). */
+enum { PAGER_TEMPORARIES = 16, PAGER_FIRST_TEMPORARY = 16 };
+
 /*
  * The state, and the memory that the library is lent with every packet. Nothing else is kept. Zeros are a pager whose
  * decoder was not reset yet: it is not talking, so nothing that comes is believed.
@@ -19,6 +22,10 @@ struct pager {
     struct mortisevane_chains chains;
     uint32_t words[MORTISEVANE_CALL_WORDS];
     uint8_t texts[MORTISEVANE_CHAIN_BYTES];
+    /* The temporary addresses that were assigned in the present frame: bit a for address 16 + a. */
+    uint32_t assigned;
+    /* The designated frame of each of them. */
+    uint32_t designated[PAGER_TEMPORARIES];
 };
 
 /*

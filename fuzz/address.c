@@ -257,8 +257,11 @@ void fuzz_frames_wait(void)
     struct mortisevane_wait wait = CALL(frames_wait, from, to);
     answered(wait.number);
     hold((wait.number == 0) == (from <= 127 && to <= 127), "a frame over 127 taken, or another refused");
-    hold(wait.number == 0 ? wait.frames <= 127 && (from + wait.frames) % 128 == to : wait.frames == 0,
-        "the wait does not lead to the frame");
+    if (wait.number == 0)
+        hold(wait.frames >= 1 && wait.frames <= 128 && (from + wait.frames) % 128 == to,
+            "the wait does not lead to where the frame comes next");
+    else
+        hold(wait.frames == 0, "a refused wait has frames");
 }
 
 void fuzz_frames_listened(void)

@@ -333,9 +333,10 @@ struct mortisevane_frames {
 };
 
 /*
- * The wait from the present frame to a designated one.
- * Takes both frames, 0 to 127.
- * Answers the wait, 0 to 127 frames.
+ * The wait until the designated frame of a temporary address comes next (S8.8.4).
+ * Takes the present frame and the designated one, 0 to 127.
+ * Answers the wait, 1 to 128 frames. To the present frame it is 128: its next coming, in the
+ * following cycle.
  * Refuses 7: a frame over 127.
  */
 struct mortisevane_wait mortisevane_frames_wait(uint32_t from, uint32_t to);

@@ -37,9 +37,9 @@ fn wait_told(answer: Awaited) -> MortisevaneWait
     }
 }
 
-// The wait from the present frame to a designated one.
-// Takes both frames, 0 to 127.
-// Answers the wait, 0 to 127 frames.
+// The wait until the designated frame of a temporary address comes next (S8.8.4).
+// Takes the present frame and the designated one, 0 to 127.
+// Answers the wait, 1 to 128 frames. To the present frame it is 128: its next coming, in the following cycle.
 // Refuses 7: a frame over 127.
 #[no_mangle]
 pub extern "C" fn mortisevane_frames_wait(from: u32, to: u32) -> MortisevaneWait

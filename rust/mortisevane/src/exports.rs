@@ -361,11 +361,11 @@ pub struct Frames {
 }
 
 extern "C" {
-    /// The wait from the present frame to a designated one.
+    /// The wait until the designated frame of a temporary address comes next (S8.8.4).
     ///
-    /// Takes both frames, 0 to 127.
+    /// Takes the present frame and the designated one, 0 to 127.
     ///
-    /// Answers the wait, 0 to 127 frames.
+    /// Answers the wait, 1 to 128 frames. To the present frame it is 128: its next coming, in the following cycle.
     ///
     /// Refuses 7: a frame over 127.
     pub fn mortisevane_frames_wait(from: u32, to: u32) -> Wait;

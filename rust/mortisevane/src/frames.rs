@@ -11,6 +11,7 @@
 //! assert_eq!(heard.assignments()[7].build(), Ok(0x2700_0008));
 //!
 //! assert_eq!(frames::wait(120, 3), Ok(11));
+//! assert_eq!(frames::wait(3, 3), Ok(128));
 //! assert_eq!(frames::wait(128, 3), Err(Refusal::Packet));
 //! assert_eq!(frames::wait(259, 3), Err(Refusal::Packet));
 //! # Ok::<(), Refusal>(())
@@ -63,8 +64,8 @@ pub fn listened(listeners: &[Listener]) -> Result<Frames, Refusal> {
     told(frames.number, Frames { count: frames.count, masks: frames.masks })
 }
 
-/// The wait from the present frame to the designated one, 0 to 127 frames. To the present frame itself it is 0, where
-/// S8.8.4 means the next cycle.
+/// The wait from the present frame until the designated one comes next, 1 to 128 frames. To the present frame itself it
+/// is 128, for its coming in the following cycle is meant (S8.8.4).
 ///
 /// Refuses [`Refusal::Packet`]: a frame over 127.
 pub fn wait(from: u32, to: u32) -> Result<u32, Refusal> {

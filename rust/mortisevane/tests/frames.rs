@@ -46,7 +46,8 @@ fn listeners_that_are_refused() {
 fn waits() {
     assert_eq!(frames::wait(0, 127), Ok(127));
     assert_eq!(frames::wait(127, 0), Ok(1));
-    assert_eq!(frames::wait(77, 77), Ok(0));
+    assert_eq!(frames::wait(77, 77), Ok(128));
+    assert_eq!(frames::wait(0, 0), Ok(128));
     assert_eq!(frames::wait(0, 128), Err(Refusal::Packet));
     assert_eq!(frames::wait(255, 0), Err(Refusal::Packet));
 }

@@ -7,13 +7,15 @@
 //! - `to HHHHHHHH`: the host sends it;
 //! - `from HHHHHHHH`: the decoder sends it.
 
+use std::collections::BTreeMap;
 use std::fmt;
 use std::io::{self, BufRead, Write};
 
 use crate::call::{self, Call, Calls, Heard};
 use crate::chain::{self, Chains, Complete, Joined};
 use crate::fragment;
-use crate::heard::{read_status, ADDRESS, STATUS};
+use crate::frames::frames_wait;
+use crate::heard::{read_status, Status, ADDRESS, STATUS};
 use crate::layout::id_of;
 use crate::listing::append_shown;
 use crate::mirror::{self, Mirror};
@@ -21,7 +23,8 @@ use crate::numeric;
 use crate::packet::{may_send, PART_ID};
 use crate::refusal::Refusal;
 use crate::vector::{
-    ALPHANUMERIC, NUMBERED_NUMERIC, SPECIAL_NUMERIC, STANDARD_NUMERIC, VECTOR_WORDS,
+    read_vector, ALPHANUMERIC, NUMBERED_NUMERIC, SHORT_INSTRUCTION, SPECIAL_NUMERIC,
+    STANDARD_NUMERIC, TEMPORARY_ADDRESS, VECTOR_WORDS,
 };
 
 const DIGITS: usize = 8;
@@ -115,6 +118,9 @@ pub struct Pager {
     words: Vec<u32>,
     chains: Chains,
     texts: Vec<u8>,
+    /// The temporary addresses that were assigned in the present frame, each with
+    /// its designated frame.
+    assigned: BTreeMap<u32, u32>,
 }
 
 /// The lines that are told of a packet, or its refusal.
@@ -129,6 +135,7 @@ impl Pager {
             words: vec![0; call::MEMORY],
             chains: Chains::default(),
             texts: vec![0; chain::BUFFER],
+            assigned: BTreeMap::new(),
         }
     }
 
@@ -199,11 +206,19 @@ impl Pager {
     }
 
     fn hear_status(&mut self, packet: u32) -> Told {
-        if read_status(packet)?.end_of_frame == 0 {
+        let status = read_status(packet)?;
+        if status.end_of_frame == 0 {
             return Ok(Vec::new());
         }
         let incomplete = self.calls.end_frame(&self.words)?;
-        Ok(incomplete.open_calls().iter().map(lacking).collect())
+        let mut told: Vec<String> = incomplete.open_calls().iter().map(lacking).collect();
+        for (address, designated) in std::mem::take(&mut self.assigned) {
+            let wait = wait_told(&status, designated)?;
+            told.push(format!(
+                "address {address}: awaits frame {designated}, {wait}"
+            ));
+        }
+        Ok(told)
     }
 
     /// Each call that the packet completes is paged, in the order opened.
@@ -217,16 +232,39 @@ impl Pager {
         let calls = self.calls.open_calls().to_vec();
         let is_paged = |place: usize| completed >> place & 1 == 1;
         let paged = (0..calls.len()).filter(|place| is_paged(*place));
-        Ok(paged.map(|place| self.page(&calls[place])).collect())
+        paged
+            .map(|place| self.page(&calls[place], packet))
+            .collect()
     }
 
-    fn page(&mut self, call: &Call) -> String {
+    /// A call that the packet completes.
+    fn page(&mut self, call: &Call, packet: u32) -> Result<String, Refusal> {
+        if call.kind == SHORT_INSTRUCTION {
+            return self.follow_instruction(call.address, packet);
+        }
         let words = &self.words[call.place()..][..call.words as usize];
-        match call.kind {
+        Ok(match call.kind {
             STANDARD_NUMERIC | SPECIAL_NUMERIC | NUMBERED_NUMERIC => numeric_page(call, words),
             ALPHANUMERIC => join(&mut self.chains, &mut self.texts, call.address, words),
             kind => format!("address {}: vector type {kind}, not read", call.address),
+        })
+    }
+
+    /// A short instruction is whole in its vector (Table 37). Which frame is the
+    /// present one is told at its end, and the wait then (S8.8.4).
+    fn follow_instruction(&mut self, address: u32, vector: u32) -> Result<String, Refusal> {
+        let instruction = read_vector(vector)?.instruction;
+        if instruction.kind != TEMPORARY_ADDRESS {
+            let kind = instruction.kind;
+            return Ok(format!(
+                "address {address}: instruction type {kind}, not read"
+            ));
         }
+        let (temporary, frame) = (instruction.address, instruction.frame);
+        self.assigned.insert(temporary, frame);
+        Ok(format!(
+            "address {address}: temporary address {temporary} in frame {frame}"
+        ))
     }
 
     /// What is told at the end of the file.
@@ -240,6 +278,15 @@ impl Pager {
         })
         .collect()
     }
+}
+
+/// How long it is from a frame that has ended to the designated one. Without FIV
+/// the frame number of a status is not guaranteed (S8.4.9).
+fn wait_told(ended: &Status, designated: u32) -> Result<String, Refusal> {
+    if ended.frame_valid == 0 {
+        return Ok("from a frame that is not known".to_string());
+    }
+    Ok(format!("{} frames", frames_wait(ended.frame, designated)?))
 }
 
 /// A call that the end of its frame found incomplete.
@@ -506,6 +553,55 @@ mod tests {
         pager.heard(0x0500_0000, &["address 5: vector type 6, not read"]);
         pager.heard(0x0600_0000, &["address 5: vector type 0, not read"]);
         pager.heard(0x7F00_0004, &[]);
+    }
+
+    /// Address 16 is assigned in frame 13 for frame 13 itself, address 31 for frame 12.
+    /// Addresses are told in their order, and only by the end of the frame.
+    #[test]
+    fn temporary_addresses() {
+        let mut pager = talking();
+        pager.heard(0x0100_0002, &[]);
+        pager.heard(0x0100_0003, &[]);
+        // 15 in d10 to d7 and 12 in d6 to d0 stand from bit 3 on: 3C60H. 13 there: 68H.
+        let last = "address 0: temporary address 31 in frame 12";
+        pager.heard(0x0201_3C60, &[last]);
+        let first = "address 0: temporary address 16 in frame 13";
+        pager.heard(0x0301_0068, &[first]);
+        pager.heard(0x7F8D_8400, &[]);
+        let waits = [
+            "address 16: awaits frame 13, 128 frames",
+            "address 31: awaits frame 12, 127 frames",
+        ];
+        pager.heard(0x7F8D_8404, &waits);
+        pager.heard(0x7F8D_8504, &[]);
+        // AI 80H: the page, in shared words or not, is one of address 16.
+        pager.heard(0x0100_8002, &[]);
+        pager.heard(0x0203_0003 | CHECK_OF_0417, &[]);
+        pager.heard(0x0300_0000 | WORD_OF_0417, &["address 16: numeric [0417]"]);
+    }
+
+    /// FIV is clear; a reset forgets; an instruction of a reserved type assigns nothing.
+    #[test]
+    fn waits_that_cannot_be_told() {
+        let mut pager = talking();
+        pager.heard(0x0100_0002, &[]);
+        pager.heard(
+            0x0201_0068,
+            &["address 0: temporary address 16 in frame 13"],
+        );
+        let unknown = "address 16: awaits frame 13, from a frame that is not known";
+        pager.heard(0x7F0D_8404, &[unknown]);
+        pager.heard(0x0100_0002, &[]);
+        pager.heard(
+            0x0201_0068,
+            &["address 0: temporary address 16 in frame 13"],
+        );
+        pager.told("reset FF000106", &["reset: part ID FF000106"]);
+        pager.told("to 00000106", &["talking"]);
+        pager.heard(0x7F8D_8404, &[]);
+        pager.heard(0x0100_0002, &[]);
+        pager.heard(0x0201_006F, &["address 0: instruction type 7, not read"]);
+        pager.heard(0x7F8D_8404, &[]);
     }
 
     #[test]

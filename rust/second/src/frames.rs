@@ -72,12 +72,14 @@ fn masks_of(marked: u128) -> [u16; MASKS] {
     masks
 }
 
-/// How many frames pass from frame `from` until frame `to` (01, house rule).
+/// How many frames it is from frame `from` to the next occurrence of frame `to`: later in this cycle,
+/// or else in the following one (S8.8.4).
 pub fn frames_wait(from: u32, to: u32) -> Result<u32, Refusal> {
     if from > LARGEST_FRAME || to > LARGEST_FRAME {
         return Err(Refusal::Packet);
     }
-    Ok((128 + to - from) % 128)
+    let occurrence = if to > from { to } else { to + 128 };
+    Ok(occurrence - from)
 }
 
 #[cfg(test)]
@@ -169,7 +171,10 @@ mod tests {
         assert_eq!(frames_wait(3, 5), Ok(2));
         assert_eq!(frames_wait(5, 3), Ok(126));
         assert_eq!(frames_wait(127, 0), Ok(1));
-        assert_eq!(frames_wait(64, 64), Ok(0));
+        assert_eq!(frames_wait(0, 127), Ok(127));
+        for frame in 0..=LARGEST_FRAME {
+            assert_eq!(frames_wait(frame, frame), Ok(128));
+        }
         assert_eq!(frames_wait(128, 0), Err(Refusal::Packet));
         assert_eq!(frames_wait(0, 128), Err(Refusal::Packet));
     }

@@ -18,7 +18,7 @@ pub(crate) const LAST_WORD: u32 = 87;
 pub const MESSAGE_WORDS: RangeInclusive<u32> = 3..=LAST_WORD;
 
 /// Address numbers (01): 0 to 15 are the user addresses, 16 to 31 the temporary.
-pub(crate) const FIRST_TEMPORARY: u32 = 16;
+pub const FIRST_TEMPORARY: u32 = 16;
 
 packet! {
     /// The status packet (Table 12).

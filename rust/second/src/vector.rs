@@ -180,6 +180,9 @@ fn short_message(packet: u32) -> ShortMessage {
     }
 }
 
+/// i of the instruction that assigns a temporary address (Table 38).
+pub const TEMPORARY_ADDRESS: u32 = 0;
+
 /// Table 38.
 fn instruction(packet: u32) -> Instruction {
     let kind = INSTRUCTION_TYPE.of(packet);
@@ -188,7 +191,7 @@ fn instruction(packet: u32) -> Instruction {
         ..Instruction::default()
     };
     match kind {
-        0 => Instruction {
+        TEMPORARY_ADDRESS => Instruction {
             address: FIRST_TEMPORARY + TEMPORARY_INDEX.of(packet),
             frame: DESIGNATED_FRAME.of(packet),
             ..nothing

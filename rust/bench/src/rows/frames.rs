@@ -10,6 +10,7 @@ use crate::told::{answer, told, words_of};
 pub fn rows(measure: &mut Measure) {
     measure.group("frames");
     wait(measure, "from 127 to 3", 127, 3);
+    wait(measure, "from 13 to 13", 13, 13);
     wait(measure, "refused 7: to 128", 3, 128);
     let listeners = core::array::from_fn(|place| SecondListener {
         frame: 7 * place as u32,

@@ -6,7 +6,7 @@ use second::address::{address_words, Words};
 use second::capcode::read_with_place;
 use second::fragment::{cut, Marks};
 use second::frames::{frames_listened, Listener, MASKS, MOST_LISTENERS};
-use second::heard::{AddressPacket, Message, Status};
+use second::heard::{AddressPacket, Message, Status, FIRST_TEMPORARY};
 use second::layout::{build, Kind};
 use second::mirror::{self, Mirror};
 use second::numeric::{write, Numbering, MOST_WORDS};
@@ -14,7 +14,9 @@ use second::packet::{
     may_send, AddressEnable, AllFrameMode, Configuration, Control, FrameAssignment, PartId,
     UserAddress,
 };
-use second::vector::{VectorHead, ALPHANUMERIC, NUMBERED_NUMERIC, STANDARD_NUMERIC};
+use second::vector::{
+    VectorHead, ALPHANUMERIC, NUMBERED_NUMERIC, SHORT_INSTRUCTION, STANDARD_NUMERIC,
+};
 
 /// The picker's own address and the one of the group. Both have the frames 13, 45,
 /// 77 and 109; the first is any-phase and short, the second of phase A and long.
@@ -22,9 +24,12 @@ const PICKER: &[u8] = b"5E0001234";
 const GROUP: &[u8] = b"5A0002101457";
 /// The location of the picker's address, and those of the group's: a long address
 /// is told by its second (S8.7.2).
-const PICKER_INDEX: u32 = 0;
+const PICKER_ADDRESS: u32 = 0;
 const GROUP_LOCATIONS: [u32; 2] = [2, 3];
-const GROUP_INDEX: u32 = GROUP_LOCATIONS[1];
+const GROUP_ADDRESS: u32 = GROUP_LOCATIONS[1];
+/// Two groups that are formed for a page each (S8.8.4): temporary addresses.
+const NEXT_CYCLE_GROUP: u32 = FIRST_TEMPORARY;
+const LATER_FRAME_GROUP: u32 = FIRST_TEMPORARY + 1;
 
 /// Enough for every list here.
 const MOST_CUT_WORDS: usize = 16;
@@ -33,27 +38,49 @@ const MOST_CUT_WORDS: usize = 16;
 const A: u32 = 0;
 const C: u32 = 2;
 
-/// A message to the picker, and how many words its fragments have at most.
+/// A message, and how many words its fragments have at most.
 struct List {
+    name: &'static str,
+    address: u32,
     text: &'static [u8],
     message_number: u32,
+    retrieval: u32,
     largest: usize,
 }
 
 const LONG_LIST: List = List {
+    name: "list 4",
+    address: PICKER_ADDRESS,
     text: b"A04 EMMA 2, B17 KIM 10",
     message_number: 4,
+    retrieval: 1,
     largest: 4,
 };
 const FIRST_SHORT_LIST: List = List {
+    name: "list 5",
+    address: PICKER_ADDRESS,
     text: b"C03 IT 2",
     message_number: 5,
+    retrieval: 1,
     largest: 3,
 };
 const SECOND_SHORT_LIST: List = List {
+    name: "list 6",
+    address: PICKER_ADDRESS,
     text: b"D09 IF 4",
     message_number: 6,
+    retrieval: 1,
     largest: 3,
+};
+/// To a temporary address, with which message numbers are not used: R is clear
+/// (chapter 15.3.1).
+const GROUP_TEXT: List = List {
+    name: "the group's text",
+    address: LATER_FRAME_GROUP,
+    text: b"ALL TO DOCK 3",
+    message_number: 0,
+    retrieval: 0,
+    largest: 6,
 };
 
 const HEAD: &str = "\
@@ -72,23 +99,34 @@ fn main() {
     day.reset();
     day.set_up();
     day.numeric_pages();
+    day.short_instructions();
+    day.page_in_a_later_frame();
+    day.page_in_the_next_cycle();
     day.noon();
     day.first_frame_of_lists();
     day.second_frame_of_lists();
     day.third_frame_of_lists();
 }
 
-/// A call in a frame: its phase, its address and the word of its vector.
+/// A call in a frame: its phase, its address number and the word of its vector.
 #[derive(Clone, Copy)]
 struct Call {
     phase: u32,
-    index: u32,
+    address: u32,
     vector: u32,
 }
 
 impl Call {
     fn is_long(self) -> bool {
-        self.index == GROUP_INDEX
+        self.address == GROUP_ADDRESS
+    }
+
+    /// AI: that of a temporary address counts from 80H (S8.7.2).
+    fn index(self) -> u32 {
+        match self.address.checked_sub(FIRST_TEMPORARY) {
+            Some(temporary) => 0x80 + temporary,
+            None => self.address,
+        }
     }
 }
 
@@ -215,7 +253,7 @@ impl Day {
             unreachable!("the group's address is long")
         };
         self.assign(
-            PICKER_INDEX,
+            PICKER_ADDRESS,
             0,
             word,
             "the picker's, short, CAPCODE 5E0001234",
@@ -228,7 +266,7 @@ impl Day {
             "the group's first word, CAPCODE 5A0002101457",
         );
         self.assign(second_location, 1, second, "the group's second word");
-        let enabled = 1 << PICKER_INDEX | 1 << first_location | 1 << second_location;
+        let enabled = 1 << PICKER_ADDRESS | 1 << first_location | 1 << second_location;
         self.to(
             packet(&AddressEnable { enabled }),
             "user address enable: locations 0, 2 and 3",
@@ -262,6 +300,65 @@ impl Day {
         self.words(&own);
         self.words(&bin);
         self.end_frame(13, 4);
+    }
+
+    /// The picker's address comes at words 1 and 2, once for each group. The first
+    /// is paged in the frame in which it is formed: that of the next cycle is meant.
+    fn short_instructions(&self) {
+        self.part(
+            "Frame 13 of cycle 5: two groups are formed, one for this same frame and one for frame 45",
+        );
+        let call = |vector| Call {
+            phase: A,
+            address: PICKER_ADDRESS,
+            vector,
+        };
+        for vector in [3, 4] {
+            self.open(call(vector));
+        }
+        self.instruct(call(3), NEXT_CYCLE_GROUP, 13);
+        self.instruct(call(4), LATER_FRAME_GROUP, 45);
+        self.end_frame(13, 5);
+    }
+
+    fn page_in_a_later_frame(&mut self) {
+        self.part("Frame 45 of cycle 5, 32 frames on: a text to the second group");
+        self.send(&[sent(&GROUP_TEXT, 0, A, 2, 3)]);
+        self.end_frame(45, 5);
+        let ended = AllFrameMode {
+            decrement: 1,
+            force: 1,
+            decrement_temporary: 1 << (LATER_FRAME_GROUP - FIRST_TEMPORARY),
+        };
+        self.to(
+            packet(&ended),
+            "all frame mode: one off the fragmented messages and one off address 17, for the text is whole",
+        );
+        self.close("checksum: the register");
+    }
+
+    fn page_in_the_next_cycle(&mut self) {
+        self.part(
+            "Frame 13 of cycle 6, 128 frames after its group was formed: a page to the first group",
+        );
+        let call = Call {
+            phase: A,
+            address: NEXT_CYCLE_GROUP,
+            vector: 2,
+        };
+        let unnumbered = Numbering::default();
+        self.send(&[numeric("0945-07-12", STANDARD_NUMERIC, unnumbered, call, 3)]);
+        self.end_frame(13, 6);
+        let ended = AllFrameMode {
+            force: 1,
+            decrement_temporary: 1 << (NEXT_CYCLE_GROUP - FIRST_TEMPORARY),
+            ..AllFrameMode::default()
+        };
+        self.to(
+            packet(&ended),
+            "all frame mode: one off address 16, whose page has come",
+        );
+        self.close("checksum: the register");
     }
 
     fn noon(&mut self) {
@@ -333,15 +430,33 @@ impl Day {
         let address = AddressPacket {
             phase: call.phase,
             long_address: u32::from(call.is_long()),
-            index: call.index,
+            index: call.index(),
             word: call.vector,
             ..AddressPacket::default()
         };
-        let Call { index, vector, .. } = call;
         let phase = ['A', 'B', 'C', 'D'][call.phase as usize];
         self.from(
             packet(&address),
-            &format!("address {index} on phase {phase}, its vector at word {vector}"),
+            &format!(
+                "address {} on phase {phase}, its vector at word {}",
+                call.address, call.vector
+            ),
+        );
+    }
+
+    /// Tables 37 and 38: i is 0, then the frame from bit 3 on and the temporary address
+    /// from bit 10 on.
+    fn instruct(&self, call: Call, temporary: u32, frame: u32) {
+        let head = VectorHead {
+            word: call.vector,
+            damaged: 0,
+            phase: call.phase,
+            kind: SHORT_INSTRUCTION,
+        };
+        let assigned = (temporary - FIRST_TEMPORARY) << 10 | frame << 3;
+        self.from(
+            packet(&head) | assigned,
+            &format!("short instruction: temporary address {temporary} in frame {frame}"),
         );
     }
 
@@ -437,9 +552,9 @@ fn masks() -> [u16; MASKS] {
 /// picker's own address too, and both calls share its words: that of the long address
 /// has its first word right after its vector, and names the place of the second.
 fn bin_and_group_pages() -> [Sent; 3] {
-    let call = |index, vector| Call {
+    let call = |address, vector| Call {
         phase: A,
-        index,
+        address,
         vector,
     };
     let numbering = Numbering {
@@ -447,12 +562,12 @@ fn bin_and_group_pages() -> [Sent; 3] {
         retrieval: 1,
         special_format: 0,
     };
-    let bin_call = call(PICKER_INDEX, 5);
+    let bin_call = call(PICKER_ADDRESS, 5);
     let bin = numeric("0417", STANDARD_NUMERIC, Numbering::default(), bin_call, 10);
-    let own_call = call(PICKER_INDEX, 6);
+    let own_call = call(PICKER_ADDRESS, 6);
     let own = numeric("0930-003", NUMBERED_NUMERIC, numbering, own_call, 8);
     let group = Sent {
-        call: call(GROUP_INDEX, 7),
+        call: call(GROUP_ADDRESS, 7),
         start: 9,
         ..own.clone()
     };
@@ -479,11 +594,11 @@ fn numeric(text: &str, kind: u32, numbering: Numbering, call: Call, start: u32) 
     }
 }
 
-/// A fragment of a list, counted from 0, to the picker.
+/// A fragment of a list, counted from 0.
 fn sent(list: &List, place: usize, phase: u32, vector: u32, start: u32) -> Sent {
     let marks = Marks {
         message_number: list.message_number,
-        retrieval: 1,
+        retrieval: list.retrieval,
         mail_drop: 0,
     };
     let mut words = [0; MOST_CUT_WORDS];
@@ -494,13 +609,13 @@ fn sent(list: &List, place: usize, phase: u32, vector: u32, start: u32) -> Sent 
     Sent {
         call: Call {
             phase,
-            index: PICKER_INDEX,
+            address: list.address,
             vector,
         },
         kind: ALPHANUMERIC,
         check: 0,
         start,
-        name: format!("list {}, fragment {}", list.message_number, place + 1),
+        name: format!("{}, fragment {}", list.name, place + 1),
         words: words.to_vec(),
         remarks: (0..words.len())
             .map(|word| remark(list, before, word))
