@@ -250,10 +250,11 @@ static uint32_t some_frame(void)
     return one_in(4) ? (uint32_t)random_bits() : (uint32_t)random_below(512);
 }
 
+/* The designated frame is the present one often enough to show its own rule. */
 void fuzz_frames_wait(void)
 {
     uint32_t from = some_frame();
-    uint32_t to = some_frame();
+    uint32_t to = one_in(8) ? from : some_frame();
     struct mortisevane_wait wait = CALL(frames_wait, from, to);
     answered(wait.number);
     hold((wait.number == 0) == (from <= 127 && to <= 127), "a frame over 127 taken, or another refused");

@@ -178,6 +178,14 @@ STANDS_BEFORE(struct mortisevane_frames, frames_listened, struct mortisevane_lis
     return __real_mortisevane_frames_listened(listeners);
 }
 
+STANDS_BEFORE(struct mortisevane_wait, frames_wait, uint32_t from, uint32_t to)
+{
+    struct mortisevane_wait wait = __real_mortisevane_frames_wait(from, to);
+    if (is_fault("awaits_the_present_frame_at_once") && wait.frames == 128)
+        wait.frames = 0;
+    return wait;
+}
+
 STANDS_BEFORE(struct mortisevane_mirrored, mirror_step, struct mortisevane_mirror mirror, uint32_t packet)
 {
     while (is_fault("does_not_return"))
