@@ -99,25 +99,6 @@ static void hear_address(struct pager *pager, uint32_t packet)
     }
 }
 
-/* The calls of a frame that has ended. */
-static void end_calls(struct pager *pager, uint32_t packet)
-{
-    struct mortisevane_frame_end end = mortisevane_call_end(pager->calls, pager->words, MORTISEVANE_CALL_WORDS);
-
-    pager->calls = end.calls;
-    if (end.number != 0)
-        print_refused(end.number, packet);
-    for (size_t place = 0; place < end.incomplete.size; place += 1) {
-        const struct mortisevane_call *call = &end.incomplete.calls[place];
-        printf("incomplete: ");
-        print_address(call->address);
-        if (call->has_vector != 0)
-            printf(", %lu words\n", (unsigned long)call->words);
-        else
-            puts(", no vector");
-    }
-}
-
 /*
  * The wait for each temporary address that was assigned in a frame that has ended. Which frame it was its end tells
  * (S8.8.4), if the decoder knows it.
@@ -142,10 +123,23 @@ static void tell_waits(struct pager *pager, const struct mortisevane_status *end
 static void hear_status(struct pager *pager, uint32_t packet)
 {
     struct mortisevane_status_read status = mortisevane_read_status(packet);
+    struct mortisevane_frame_end end;
 
     if (status.fields.end_of_frame == 0)
         return;
-    end_calls(pager, packet);
+    end = mortisevane_call_end(pager->calls, pager->words, MORTISEVANE_CALL_WORDS);
+    pager->calls = end.calls;
+    if (end.number != 0)
+        print_refused(end.number, packet);
+    for (size_t place = 0; place < end.incomplete.size; place += 1) {
+        const struct mortisevane_call *call = &end.incomplete.calls[place];
+        printf("incomplete: ");
+        print_address(call->address);
+        if (call->has_vector != 0)
+            printf(", %lu words\n", (unsigned long)call->words);
+        else
+            puts(", no vector");
+    }
     tell_waits(pager, &status.fields);
 }
 
@@ -196,8 +190,8 @@ static void follow_instruction(struct pager *pager, const struct mortisevane_cal
     print_address(call->address);
     if (instruction.kind == MORTISEVANE_INSTRUCTION_TEMPORARY) {
         uint32_t place = instruction.address - PAGER_FIRST_TEMPORARY;
-        pager->assigned |= (uint32_t)1 << place;
-        pager->designated[place] = instruction.frame;
+        pager->assigned |= (uint16_t)(1u << place);
+        pager->designated[place] = (uint8_t)instruction.frame;
         printf(": temporary address %lu in frame %lu\n", (unsigned long)instruction.address,
                 (unsigned long)instruction.frame);
     } else {

@@ -22,10 +22,10 @@ struct pager {
     struct mortisevane_chains chains;
     uint32_t words[MORTISEVANE_CALL_WORDS];
     uint8_t texts[MORTISEVANE_CHAIN_BYTES];
-    /* The temporary addresses that were assigned in the present frame: bit a for address 16 + a. */
-    uint32_t assigned;
-    /* The designated frame of each of them. */
-    uint32_t designated[PAGER_TEMPORARIES];
+    /* The temporary addresses that were assigned in the present frame, bit a for address 16 + a. */
+    uint16_t assigned;
+    /* The designated frame of each of them, 0 to 127. */
+    uint8_t designated[PAGER_TEMPORARIES];
 };
 
 /*
