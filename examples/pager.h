@@ -29,7 +29,7 @@ struct pager {
 };
 
 /*
- * The decoder was reset and told its part ID. Calls and chains of before are gone. Answers whether what it told is a
+ * The decoder was reset and told its part ID. Calls, chains and assignments of before are gone. Answers whether what it told is a
  * part ID; where it is not, nothing is known of the decoder until the next reset.
  */
 bool pager_reset(struct pager *pager, uint32_t part_id);

@@ -574,7 +574,7 @@ mod tests {
         ];
         pager.heard(0x7F8D_8404, &waits);
         pager.heard(0x7F8D_8504, &[]);
-        // AI 80H: the page, in shared words or not, is one of address 16.
+        // AI 80H is address 16.
         pager.heard(0x0100_8002, &[]);
         pager.heard(0x0203_0003 | CHECK_OF_0417, &[]);
         pager.heard(0x0300_0000 | WORD_OF_0417, &["address 16: numeric [0417]"]);
