@@ -211,12 +211,17 @@ static void call_class(any_function *export)
     class_answer = ((class_function *)export)(address);
 }
 
-static void address_class(const char *input, uint64_t wanted, uint32_t number, uint32_t class)
+static struct counted count_class(const char *input, uint64_t wanted, uint32_t number, uint32_t class)
 {
     address = wanted;
     struct counted counted = count(call_class, (any_function *)mortisevane_address_class);
     expect(class_answer.number == number && class_answer.address_class == class, "address_class", input);
-    tell_export("address_class", input, counted);
+    return counted;
+}
+
+static void address_class(const char *input, uint64_t wanted, uint32_t number, uint32_t class)
+{
+    tell_export("address_class", input, count_class(input, wanted, number, class));
 }
 
 typedef struct mortisevane_words words_function(uint64_t address);
@@ -227,12 +232,77 @@ static void call_words(any_function *export)
     words_answer = ((words_function *)export)(address);
 }
 
-static void address_words(const char *input, uint64_t wanted, const struct mortisevane_words *expected)
+static struct counted count_words(const char *input, uint64_t wanted, const struct mortisevane_words *expected)
 {
     address = wanted;
     struct counted counted = count(call_words, (any_function *)mortisevane_address_words);
     expect(memcmp(&words_answer, expected, sizeof words_answer) == 0, "address_words", input);
-    tell_export("address_words", input, counted);
+    return counted;
+}
+
+static void address_words(const char *input, uint64_t wanted, const struct mortisevane_words *expected)
+{
+    tell_export("address_words", input, count_words(input, wanted, expected));
+}
+
+typedef struct mortisevane_assignment assign_function(uint8_t letter, uint32_t frame, uint32_t collapse, uint64_t address);
+static struct mortisevane_assignment assignment;
+
+static void call_assign(any_function *export)
+{
+    assignment = ((assign_function *)export)('E', 0, 4, address);
+}
+
+/* The CAPCODE of an address whose letter takes nothing off it: any phase, and the base frame by S8.6.5. */
+static struct counted count_assign(const char *input, uint64_t wanted)
+{
+    address = wanted;
+    struct counted counted = count(call_assign, (any_function *)mortisevane_capcode_assign);
+    expect(assignment.number == 0 && assignment.phase == 4 && assignment.base == wanted / 16 % 128, "capcode_assign", input);
+    return counted;
+}
+
+static const struct {
+    uint64_t address;
+    uint32_t class;
+    struct mortisevane_words words;
+} sixteen[] = {
+#include "sixteen-addresses.h"
+};
+
+static const char together[] = "16 addresses, together", dearest[] = "16 addresses, the dearest";
+
+/* What sixteen calls took together, and the dearest of them. */
+struct several {
+    uint32_t together;
+    uint32_t dearest;
+};
+
+static void add_call(struct several *several, struct counted counted)
+{
+    several->together += counted.export;
+    if (several->dearest < counted.export)
+        several->dearest = counted.export;
+}
+
+static void tell_several(const char *operation, struct several several)
+{
+    tell(operation, together, several.together, 0);
+    tell(operation, dearest, several.dearest, 0);
+}
+
+static void sixteen_addresses(void)
+{
+    struct several classes = { 0, 0 }, words = { 0, 0 }, assignments = { 0, 0 };
+
+    for (size_t place = 0; place < sizeof sixteen / sizeof *sixteen; place++) {
+        add_call(&words, count_words(together, sixteen[place].address, &sixteen[place].words));
+        add_call(&classes, count_class(together, sixteen[place].address, 0, sixteen[place].class));
+        add_call(&assignments, count_assign(together, sixteen[place].address));
+    }
+    tell_several("address_words", words);
+    tell_several("address_class", classes);
+    tell_several("capcode_assign", assignments);
 }
 
 typedef struct mortisevane_capcode capcode_function(const uint8_t *text, size_t length);
@@ -271,6 +341,7 @@ static void addresses(void)
     address_class("the first short one", 1, 0, MORTISEVANE_CLASS_SHORT);
     address_class("the last long one", last, 0, MORTISEVANE_CLASS_SET_23_INFORMATION_SERVICE);
     address_class("refused 5: of no range", last + 1, MORTISEVANE_REFUSED_RANGE, 0);
+    sixteen_addresses();
 }
 
 /* ---- Frames and the mirror ---- */

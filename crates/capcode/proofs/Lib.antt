@@ -2,6 +2,7 @@ pub mod Bounds
 pub mod Course
 pub mod Examples
 pub mod Fits
+pub mod HalvingLaws
 pub mod Heard
 pub mod Judging
 pub mod Laws

@@ -1,4 +1,5 @@
 pub mod Assigned
+pub mod Halving
 pub mod Printed
 pub mod Ranges
 pub mod Reads

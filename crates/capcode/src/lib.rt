@@ -1,11 +1,11 @@
 // CAPCODEs (document 01, "CAPCODE text"; S8.6): from the text on a label to the words that the decoder is given, and back.
 // A CAPCODE is characters: its zeros stay.
 //
-// The definitions, in the order of the paper: which addresses are accepted (specs/Ranges), the words of an address
-// (specs/Words), what a CAPCODE assigns (specs/Assigned), its text (specs/Text), how a text is read (specs/Reads, and
-// specs/Underway for a reader in the middle of one) and printed (specs/Printed). The laws: proofs/RangeLaws and
-// proofs/Bounds, proofs/WordLaws, proofs/Laws and proofs/Places (which texts are read as what, and where a wrong one goes
-// wrong), proofs/PrintLaws.
+// The definitions, in the order of the paper: which addresses are accepted (specs/Ranges, and specs/Halving for how their
+// table is searched), the words of an address (specs/Words), what a CAPCODE assigns (specs/Assigned), its text (specs/Text),
+// how a text is read (specs/Reads, and specs/Underway for a reader in the middle of one) and printed (specs/Printed). The
+// laws: proofs/RangeLaws, proofs/HalvingLaws and proofs/Bounds, proofs/WordLaws, proofs/Laws and proofs/Places (which texts
+// are read as what, and where a wrong one goes wrong), proofs/PrintLaws.
 
 ghost use mathlib.Core.Path.{_≡_};
 ghost use Rattle.capcode.specs.Ranges.{classNumber};

@@ -1,6 +1,6 @@
 // The ranges of addresses that are accepted (S8.6.3, Table 22), and the class of an address.
 ghost use mathlib.Core.Path.{_≡_};
-ghost use Rattle.capcode.specs.Ranges.{classOf};
+ghost use Rattle.capcode.specs.Ranges.{holds, classOf};
 use crate::Class;
 use crate::Classed;
 use refusal::Refusal;
@@ -61,19 +61,58 @@ const ROWS: [Row; 9] = [
     },
 ];
 
-// The class of an address: that of the row that holds it.
+// Whether a row holds an address.
+fn is_in_row(row: Row, address: u64) -> bool
+    ensures { λ r. ⌜ r ≡ holds row address ⌝ }
+{
+    (row.from <= address) & (address <= row.to)
+}
+
+// The class that a row names.
+fn row_class(row: Row) -> Class
+    ensures { λ r. ⌜ r ≡ row .class ⌝ }
+{
+    row.class
+}
+
+// The class of an address: that of the row that holds it. The table is halved, and each half again; one or two rows are
+// then left. Every place in the table is a constant, so that the compiler makes comparisons of it: at a place that has to
+// be worked out it lays the whole table on the stack.
 pub fn class_of(address: u64) -> Classed
     ensures { λ r. ⌜ r ≡ classOf address ⌝ }
 {
     let rows = ROWS;
-    let mut i = 0;
-    while i < 9 {
-        let row = rows[i];
-        if (row.from <= address) & (address <= row.to) {
-            let class = row.class;
-            return Classed::In(class);
+    if address < rows[4].from {
+        if address < rows[1].from {
+            if is_in_row(rows[0], address) {
+                return Classed::In(row_class(rows[0]));
+            }
+            return Classed::Refused(Refusal::Range);
         }
-        i += 1;
+        if address <= rows[1].to {
+            return Classed::In(row_class(rows[1]));
+        } else if is_in_row(rows[2], address) {
+            return Classed::In(row_class(rows[2]));
+        } else if is_in_row(rows[3], address) {
+            return Classed::In(row_class(rows[3]));
+        }
+        return Classed::Refused(Refusal::Range);
+    }
+    if address <= rows[4].to {
+        return Classed::In(row_class(rows[4]));
+    }
+    if address < rows[6].from {
+        if is_in_row(rows[5], address) {
+            return Classed::In(row_class(rows[5]));
+        }
+        return Classed::Refused(Refusal::Range);
+    }
+    if address <= rows[6].to {
+        return Classed::In(row_class(rows[6]));
+    } else if is_in_row(rows[7], address) {
+        return Classed::In(row_class(rows[7]));
+    } else if is_in_row(rows[8], address) {
+        return Classed::In(row_class(rows[8]));
     }
     Classed::Refused(Refusal::Range)
 }

@@ -2,8 +2,9 @@
 //!
 //!     bench count [GROUP]                     runs every row, or a group's; to be run under callgrind (tools/bench)
 //!     bench show FOLDER GROUP                 writes a group's table from what callgrind wrote into the folder
-//!     bench document FOLDER ARCHIVE BOARDS WHY
-//!                                             writes docs/BENCHMARKS.md whole; BOARDS is the file with its section on boards
+//!     bench document FOLDER ARCHIVE RANGES BOARDS WHY
+//!                                             writes docs/BENCHMARKS.md whole; RANGES is the file that says what the search
+//!                                             in the range table cost before, BOARDS the one with its section on boards
 //!                                             (tools/bench-board), WHY the one with its last section
 
 mod boards;
@@ -36,14 +37,13 @@ fn main() -> ExitCode {
         ["count"] => count(""),
         ["count", group] => count(group),
         ["show", folder, group] => table::show(Path::new(folder), group),
-        ["document", folder, archive, boards, why] => table::document(
+        ["document", folder, archive, ranges, boards, why] => table::document(
             Path::new(folder),
             Path::new(archive),
-            Path::new(boards),
-            Path::new(why),
+            [Path::new(ranges), Path::new(boards), Path::new(why)],
         ),
         _ => Err(
-            "usage: bench count [GROUP] | show FOLDER GROUP | document FOLDER ARCHIVE BOARDS WHY"
+            "usage: bench count [GROUP] | show FOLDER GROUP | document FOLDER ARCHIVE RANGES BOARDS WHY"
                 .to_owned(),
         ),
     };

@@ -15,6 +15,7 @@ mod sums;
 mod worst;
 
 use crate::measure::Measure;
+pub use addresses::SIXTEEN;
 pub use joining::AGAINST_SECOND;
 
 pub fn all(measure: &mut Measure) {

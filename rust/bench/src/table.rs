@@ -8,7 +8,7 @@ use crate::bytes;
 use crate::callgrind::{instructions, Callers};
 use crate::glance;
 use crate::measure::{Purpose, Row};
-use crate::rows::AGAINST_SECOND;
+use crate::rows::{AGAINST_SECOND, SIXTEEN};
 
 /// No operation over so many times the second program's instructions.
 const AIM: f64 = 1.2;
@@ -55,8 +55,9 @@ const fn section(group: &'static str, title: &'static str, about: &'static str) 
     }
 }
 
-const OPERATIONS: [Section; 10] = [
+const OPERATIONS: [Section; 11] = [
     section("addresses", "Addresses", ""),
+    section(SIXTEEN, "Each of sixteen addresses", ""),
     section("capcodes", "CAPCODEs", ""),
     section("frames", "Frames", ""),
     section("packets", "Packets", ""),
@@ -68,9 +69,17 @@ const OPERATIONS: [Section; 10] = [
     section("calls", "Calls", ""),
 ];
 
+/// What the sixteen addresses cost in all.
+const IN_ALL: &str = "all sixteen addresses";
 const WORST: &str = "worst packet";
 
-const FURTHER: [Section; 5] = [
+const FURTHER: [Section; 6] = [
+    section(
+        IN_ALL,
+        "Sixteen addresses",
+        "As many as a pager holds: two at each end of the range table, the others spread over its rows\n\
+         (`boards/sixteen-addresses.h`). Each of them stands above.",
+    ),
     section(
         WORST,
         "The worst packet",
@@ -106,7 +115,44 @@ fn counted(folder: &Path, wanted: &str) -> Result<Vec<Counted>, String> {
             other,
         })
     };
-    rows.into_iter().enumerate().map(count).collect()
+    let mut rows: Vec<Counted> = rows
+        .into_iter()
+        .enumerate()
+        .map(count)
+        .collect::<Result<_, String>>()?;
+    rows.extend(in_all(&rows));
+    Ok(rows)
+}
+
+/// What the sixteen addresses cost together, and the dearest of them, for each operation that is asked of them. The
+/// boards have these rows under the same names.
+fn in_all(rows: &[Counted]) -> Vec<Counted> {
+    let sixteen = || rows.iter().filter(|counted| counted.row.group == SIXTEEN);
+    let mut operations: Vec<&str> = sixteen().map(|one| one.row.operation.as_str()).collect();
+    operations.dedup();
+    let row = |operation: &str, input: &str, costs: (u64, u64)| Counted {
+        row: Row {
+            group: IN_ALL,
+            operation: operation.to_owned(),
+            input: input.to_owned(),
+            depths: None,
+        },
+        library: costs.0,
+        other: costs.1,
+    };
+    let summed = |operation: &str| {
+        let costs = || {
+            let of_it = sixteen().filter(|one| one.row.operation == operation);
+            of_it.map(|one| (one.library, one.other))
+        };
+        let together = costs().fold((0, 0), |all, one| (all.0 + one.0, all.1 + one.1));
+        let dearest = costs().fold((0, 0), |most, one| (most.0.max(one.0), most.1.max(one.1)));
+        [
+            row(operation, "16 addresses, together", together),
+            row(operation, "16 addresses, the dearest", dearest),
+        ]
+    };
+    operations.into_iter().flat_map(summed).collect()
 }
 
 /// One group alone, for whoever mends it.
@@ -116,8 +162,10 @@ pub fn show(folder: &Path, wanted: &str) -> Result<(), String> {
     Ok(())
 }
 
-/// The whole document. The archive, the file on boards and the file that says why are given beside callgrind's folder.
-pub fn document(folder: &Path, archive: &Path, on_boards: &Path, why: &Path) -> Result<(), String> {
+/// The whole document. The archive and the three files that are part of it are given beside callgrind's folder: on the range
+/// table, on boards, and on what is over the aim.
+pub fn document(folder: &Path, archive: &Path, files: [&Path; 3]) -> Result<(), String> {
+    let [on_ranges, on_boards, why] = files;
     let rows = counted(folder, "")?;
     let machine = bytes::said_by("uname", &["-m"])?;
     bytes::assert_all_exports(archive, &rows)?;
@@ -130,8 +178,10 @@ pub fn document(folder: &Path, archive: &Path, on_boards: &Path, why: &Path) -> 
     }
     for section in &FURTHER {
         text += &in_section(section, "##", &rows);
-        if section.group == WORST {
-            text += &dearest(&rows);
+        match section.group {
+            IN_ALL => text += &format!("\n{}", written(on_ranges)?),
+            WORST => text += &dearest(&rows),
+            _ => {}
         }
     }
     text += &bytes::sections(&sizes, &rows);

@@ -1,11 +1,25 @@
-//! Addresses and their words.
+//! Addresses and their words. Sixteen addresses, as many as a pager holds, have a group of their own.
 
 use mortisevane::exports::*;
 use second::address::{self, Class as SecondClass, Words as SecondWords};
 use second::refusal::Refusal;
 
+use super::capcodes::assign_address;
 use crate::measure::{side, Measure, Told};
 use crate::told::{answer, told, words_of};
+
+/// The group of the sixteen addresses that the boards count too.
+pub const SIXTEEN: &str = "sixteen addresses";
+
+/// The list that boards/count.c includes: an address stands first in each of its rows.
+const LIST: &str = include_str!("../../../../boards/sixteen-addresses.h");
+
+fn sixteen() -> Vec<u64> {
+    let rows = LIST.lines().filter_map(|line| line.strip_prefix("{ "));
+    let firsts = rows.filter_map(|row| row.split(',').next());
+    let addresses: Result<Vec<u64>, _> = firsts.map(str::parse).collect();
+    addresses.expect("every row begins with an address")
+}
 
 pub fn rows(measure: &mut Measure) {
     measure.group("addresses");
@@ -25,6 +39,17 @@ pub fn rows(measure: &mut Measure) {
     pair(measure, "of set 1-2", 0x00_0001, 0x1F_FFFE);
     pair(measure, "of set 2-3", 0x1F_8001, 0x1E_0001);
     pair(measure, "refused 5: of no address", 0x1F_7FFF, 0x1E_0001);
+    measure.group(SIXTEEN);
+    let sixteen = sixteen();
+    for &address in &sixteen {
+        class(measure, &address.to_string(), address);
+    }
+    for &address in &sixteen {
+        words(measure, &address.to_string(), address);
+    }
+    for &address in &sixteen {
+        assign_address(measure, address);
+    }
 }
 
 fn class(measure: &mut Measure, input: &str, number: u64) {
@@ -106,4 +131,19 @@ fn pair(measure: &mut Measure, input: &str, first_word: u32, second_word: u32) {
             |_, address| answer(address, |address| vec![*address], 1),
         ),
     );
+}
+
+#[cfg(test)]
+mod tests {
+    use super::*;
+
+    #[test]
+    fn the_list_has_sixteen_addresses() {
+        let sixteen = sixteen();
+        assert_eq!(sixteen.len(), 16);
+        assert_eq!(
+            (sixteen[0], sixteen[2], sixteen[15]),
+            (1, 1_933_312, 4_291_000_000)
+        );
+    }
 }

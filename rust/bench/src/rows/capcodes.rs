@@ -56,6 +56,12 @@ pub fn rows(measure: &mut Measure) {
     );
 }
 
+/// The CAPCODE of an address whose letter takes nothing off it.
+pub fn assign_address(measure: &mut Measure, address: u64) {
+    let capcode = SecondCapcode { address, ..SHORT.1 };
+    assign(measure, &address.to_string(), capcode);
+}
+
 fn read(measure: &mut Measure, input: &str, text: &[u8]) {
     type Read = fn(&[u8]) -> Result<(SecondCapcode, Place), Refusal>;
     let second = capcode::read_with_place as Read;

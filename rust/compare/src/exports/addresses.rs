@@ -8,7 +8,8 @@ use crate::host::{MortisevaneClass, MortisevaneWords};
 use crate::random::Random;
 use crate::yardstick;
 
-const COUNT: usize = 1_000_000;
+/// So many addresses are drawn, beside the fixed ones.
+const DRAWN: usize = 1_000_000;
 
 struct AddressClass {
     address: u64,
@@ -72,7 +73,7 @@ fn addresses(seed: u64) -> impl Iterator<Item = u64> + Send {
     let mut random = Random::new(seed);
     let near_ends = addresses_near_ends();
     let seeded = std::iter::repeat_with(move || seeded_address(&mut random, &near_ends));
-    fixed_addresses().into_iter().chain(seeded).take(COUNT)
+    fixed_addresses().into_iter().chain(seeded.take(DRAWN))
 }
 
 /// Every range end, every power of two and of ten, and their neighbours; and
