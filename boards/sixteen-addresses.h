@@ -1,7 +1,8 @@
 /*
  * The sixteen addresses by which the search in the range table is measured, each with its class and its words by 01: two at
- * each end of the table, the middle of each row between its first and its last, the last short address, and the first of
- * sets 1-2, 1-3, 1-4 and of the table's last row. boards/count.c includes this list, and rust/bench reads the addresses in it.
+ * each end of the table, one in the middle of each of the seven rows between its first row and its last, the last short
+ * address, and the first of sets 1-2, 1-3 and 1-4 and of the table's last row. boards/count.c includes this list, and
+ * rust/bench reads the addresses in it.
  */
 { 1, MORTISEVANE_CLASS_SHORT, { 0, 1, 0x008001, 0 } },
 { 2, MORTISEVANE_CLASS_SHORT, { 0, 1, 0x008002, 0 } },
