@@ -2,7 +2,7 @@
 use Prim.Native.Nat.{ℕ, zero, suc, _≤_, _<_}
 use mathlib.Core.Bool.{Bool, true, false, _&&_, and-eq-true-iff}
 use mathlib.Core.Path.{_≡_, refl, ap, sym, _∙_}
-use mathlib.Core.List.{List, [], _∷_, _++_}
+use mathlib.Core.List.{List, [], _∷_, _++_, map}
 use lib.Dec.{leb, ltb}
 use lib.ListN.{getD, take, drop}
 use lib.Seq.{split-at}
@@ -10,7 +10,8 @@ use native.Mathlib.Omega.{arith}
 use borrow.Author.Tests.{leb-true, leb-false, ltb-true, ltb-false, le-leb, lt-leb}
 use Rattle.laws.specs.Choice.{pick}
 use Rattle.refusal.specs.declared.Refusal.the-variants.{Range}
-use Rattle.capcode.specs.declared.Class.the-variants.{Short, Network, Operator}
+use Rattle.capcode.specs.declared.Class.the-variants.{Short, InformationService, Network, Operator, Set12}
+use Rattle.capcode.specs.declared.Class.the-variants.{Set23InformationService}
 use Rattle.capcode.specs.declared.ranges.Row.{Row}
 use Rattle.capcode.specs.declared.Classed.{Classed}
 use Rattle.capcode.specs.Ranges.{rows, holds, classIn, classOf}
@@ -146,6 +147,21 @@ rows-ascend = refl
 pub halved-twice : (address : ℕ) → halvedIn 2 rows address ≡ classOf address
 unfolding classOf
 halved-twice address = halving-finds 2 rows address rows-ascend
+
+-- what halving gives the ends of the table and of its middle row, the first address of its second row, and addresses of no row
+pub halving-worked :
+    map {A = ℕ} {B = Classed} (halvedIn 2 rows) (1 ∷ 2009088 ∷ 2101249 ∷ 1075843072 ∷ 4291000000 ∷ 0 ∷ 1933313 ∷ 4291000001 ∷ [])
+    ≡ Classed.In Short
+    ∷ Classed.In InformationService
+    ∷ Classed.In Set12
+    ∷ Classed.In Set12
+    ∷ Classed.In Set23InformationService
+    ∷ Classed.Refused Range
+    ∷ Classed.Refused Range
+    ∷ Classed.Refused Range
+    ∷ []
+unfolding halvedIn classIn rows
+halving-worked = refl
 
 -- a table in the wrong order, and one with a row inside another
 unfoldable pub descending : List Row
