@@ -6,8 +6,8 @@
  * machine is another.
  *
  * A request is one byte, which names the export, and the arguments in their
- * order. The answer is the fields of the result in their order; document 01
- * gives their meaning, and `number` is 0 or its number of the refusal. Every
+ * order. The answer is the fields of the result in their order; the header
+ * gives their meaning, and `number` is 0 or the number of the refusal. Every
  * number is little-endian in as many bytes as its type has, without padding.
  *
  *   1  address_class     u64 address
@@ -453,6 +453,7 @@ static void serve_capcode_read(void)
     give_u32(answer.collapse);
     give_u8(answer.phase);
     give_u8(answer.base);
+    give_u8(answer.place);
     give_u64(answer.address);
 }
 

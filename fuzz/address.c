@@ -157,6 +157,36 @@ static size_t ask_print(struct mortisevane_capcode capcode, struct row out)
     return printed.length;
 }
 
+static bool is_digit(uint8_t byte)
+{
+    return byte >= '0' && byte <= '9';
+}
+
+/* Whether the number says that a text is not in the form; a place is told beside it. */
+static bool goes_wrong(uint32_t number)
+{
+    return number == MORTISEVANE_REFUSED_TEXT || number >= MORTISEVANE_REFUSED_DIGIT_BEFORE_LETTER;
+}
+
+/* The number is that of the byte at the place where a text goes wrong. */
+static void hold_place(struct row text, uint32_t number, size_t place)
+{
+    const uint8_t *bytes = to_read(text);
+    hold(place <= MORTISEVANE_CAPCODE_BYTES && place <= text.length, "a place that no CAPCODE has, or not this text");
+    bool letter_before = false;
+    for (size_t before = 0; before < place; before++)
+        letter_before = letter_before || !is_digit(bytes[before]);
+    uint32_t right = MORTISEVANE_REFUSED_TEXT;
+    if (place == text.length)
+        right = MORTISEVANE_REFUSED_DIGIT_AFTER_LETTER;
+    else if (is_digit(bytes[place]))
+        right = letter_before ? MORTISEVANE_REFUSED_DIGIT_AFTER_LETTER : MORTISEVANE_REFUSED_DIGIT_BEFORE_LETTER;
+    if (text.length > 0 && bytes[0] == '4')
+        right = MORTISEVANE_REFUSED_LEADING_FOUR;
+    hold(number == right, "not the number of the byte at the place");
+    hold(number != MORTISEVANE_REFUSED_LEADING_FOUR || place == 0, "a leading 4 at another place than 0");
+}
+
 static struct mortisevane_capcode ask_capcode(struct row text)
 {
     struct mortisevane_capcode capcode = CALL(capcode_read, to_read(text), text.length);
@@ -164,7 +194,20 @@ static struct mortisevane_capcode ask_capcode(struct row text)
     hold(capcode.number == 0
             || (capcode.letter | capcode.frame | capcode.collapse | capcode.phase | capcode.base | capcode.address) == 0,
         "fields told although refused");
+    if (goes_wrong(capcode.number))
+        hold_place(text, capcode.number, capcode.place);
+    else
+        hold(capcode.place == 0, "a place told of a text in the form");
     return capcode;
+}
+
+/* What stands before the place where a text goes wrong is in the form, or only stops too soon. */
+static void hold_beginning(struct row text, size_t place)
+{
+    uint8_t beginning[MORTISEVANE_CAPCODE_BYTES];
+    memcpy(beginning, to_fill(text), place);
+    struct mortisevane_capcode read = ask_capcode(lend_copy(beginning, place));
+    hold(!goes_wrong(read.number) || read.place == place, "the text goes wrong before the place");
 }
 
 /* A text in the form, of any letter and address, so that what it says may still be refused; with its length. */
@@ -182,7 +225,10 @@ static size_t form_capcode(char text[64])
     return (size_t)length;
 }
 
-/* A text that was printed, one in the form, or characters of the form in any order; perhaps changed a little. */
+/*
+ * A text that was printed, one in the form, or characters of the form in any order; perhaps changed a little, now and then
+ * at its start, to a 4.
+ */
 static struct row lend_some_capcode(void)
 {
     static const char signs[] = "0123456789ABCDEFGHIUVWXYZ";
@@ -201,6 +247,8 @@ static struct row lend_some_capcode(void)
     }
     if (length > 0 && one_in(8))
         random_flip(text, length);
+    else if (length > 0 && one_in(32))
+        text[0] = '4';
     if (one_in(16))
         text[length++] = (char)random_bits();
     else if (length > 0 && one_in(16))
@@ -214,6 +262,8 @@ void fuzz_capcode_read(void)
     if (one_in(64))
         random_fill(to_fill(text), text.length);
     struct mortisevane_capcode capcode = ask_capcode(text);
+    if (goes_wrong(capcode.number))
+        hold_beginning(text, capcode.place);
     if (capcode.number != 0)
         return;
     struct mortisevane_assignment assignment = ask_assignment(capcode);

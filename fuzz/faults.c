@@ -59,6 +59,19 @@ STANDS_BEFORE(struct mortisevane_length, capcode_print, uint8_t letter, uint32_t
     return printed;
 }
 
+STANDS_BEFORE(struct mortisevane_capcode, capcode_read, const uint8_t *text, size_t text_length)
+{
+    struct mortisevane_capcode read = __real_mortisevane_capcode_read(text, text_length);
+    if (is_fault("tells_the_place_one_late") && read.number == MORTISEVANE_REFUSED_DIGIT_AFTER_LETTER
+        && read.place + 1u < text_length)
+        read.place++;
+    if (is_fault("tells_a_place_with_5") && read.number == MORTISEVANE_REFUSED_RANGE)
+        read.place = (uint8_t)text_length;
+    if (is_fault("tells_a_leading_4_by_19") && read.number == MORTISEVANE_REFUSED_LEADING_FOUR)
+        read.number = MORTISEVANE_REFUSED_DIGIT_BEFORE_LETTER;
+    return read;
+}
+
 STANDS_BEFORE(struct mortisevane_page_read, numeric_read, uint32_t kind, uint32_t check, const uint32_t *words,
     size_t words_length, uint8_t *text, size_t text_length)
 {
@@ -73,8 +86,8 @@ STANDS_BEFORE(struct mortisevane_page_read, numeric_read, uint32_t kind, uint32_
 STANDS_BEFORE(struct mortisevane_class, address_class, uint64_t address)
 {
     struct mortisevane_class class = __real_mortisevane_address_class(address);
-    if (is_fault("answers_19") && address == 0)
-        class.number = 19;
+    if (is_fault("answers_22") && address == 0)
+        class.number = 22;
     return class;
 }
 

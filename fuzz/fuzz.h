@@ -28,8 +28,8 @@ enum export {
 void begin_call(enum export called);
 
 /*
- * To be called after every call: the number must be one that 01 has and that the header names for the export. An
- * export without a `number` is told by 0.
+ * To be called after every call: the number must be one that the header has and names for the export. An export
+ * without a `number` is told by 0.
  */
 void answered(uint32_t number);
 

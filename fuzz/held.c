@@ -4,8 +4,8 @@
 
 #include "fuzz.h"
 
-/* 01 has eighteen refusals, and 0 for none. */
-enum { REFUSAL_COUNT = MORTISEVANE_REFUSED_CHARACTER };
+/* 01 has refusals 1 to 18 and 02's first item 19 to 21; 0 is for none. */
+enum { REFUSAL_COUNT = MORTISEVANE_REFUSED_DIGIT_AFTER_LETTER };
 
 struct exported {
     const char *name;
@@ -58,7 +58,7 @@ void hold(bool truth, const char *what)
 
 void answered(uint32_t number)
 {
-    hold(number <= REFUSAL_COUNT, "a number that 01 does not have");
+    hold(number <= REFUSAL_COUNT, "a number that no refusal has");
     hold(number == 0 || (exports[current].refusals >> number & 1) != 0, "a refusal that the header does not name for it");
     counts[current][number]++;
 }

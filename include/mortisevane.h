@@ -30,13 +30,19 @@ extern "C" {
 /* A length, a count or a place in a struct. It is as wide on a board of 32 bits as anywhere else. */
 typedef uint64_t mortisevane_size;
 
-/* The refusals, by the paper's numbers. A `number` of 0 says that nothing was refused. */
+/*
+ * The refusals, by their numbers: 1 to 18 are the paper's, and those from 19 on came with later
+ * requests. A `number` of 0 says that nothing was refused.
+ */
 enum mortisevane_refused_numbers {
     /* A lent buffer is too short for what is to stand in it. */
     MORTISEVANE_REFUSED_ROOM = 1,
     /* A register or a record that was handed back is outside its limits. */
     MORTISEVANE_REFUSED_STATE = 2,
-    /* A CAPCODE text that is not in the form. */
+    /*
+     * A CAPCODE text that is not in the form, and the byte where it goes wrong is no digit; a
+     * letter that no CAPCODE has.
+     */
     MORTISEVANE_REFUSED_TEXT = 3,
     /* A CAPCODE of an all-phase letter, I to L or Z. */
     MORTISEVANE_REFUSED_TYPE = 4,
@@ -71,6 +77,12 @@ enum mortisevane_refused_numbers {
     MORTISEVANE_REFUSED_NO_CALL = 17,
     /* A character that is not in the set or is over 7FH, or ETX in a text to write. */
     MORTISEVANE_REFUSED_CHARACTER = 18,
+    /* A CAPCODE text that goes wrong at a digit before its letter. */
+    MORTISEVANE_REFUSED_DIGIT_BEFORE_LETTER = 19,
+    /* A CAPCODE text that begins with a 4, which no CAPCODE does: no digit means 4. */
+    MORTISEVANE_REFUSED_LEADING_FOUR = 20,
+    /* A CAPCODE text that goes wrong at a digit after its letter, or stops too soon. */
+    MORTISEVANE_REFUSED_DIGIT_AFTER_LETTER = 21,
 };
 
 /* The classes of addresses. */
@@ -238,12 +250,16 @@ struct mortisevane_found mortisevane_pair_address(uint32_t first, uint32_t secon
 
 /*
  * CAPCODEs, as C and Rust link them: numbers, slices and structs by value. Every function takes any
- * input. `number` is 0, or 01's number of the refusal; every other field is then 0.
+ * input. `number` is 0, or the number of the refusal; every other field is then 0, but for the
+ * place where a text goes wrong.
  */
 
 /*
  * A CAPCODE: its letter, the three frame digits of U to Y (0 with A to H), its collapse and
- * address; and the phase (0 to 3 for A to D, 4 for any-phase) and base frame that it assigns.
+ * address; and the phase (0 to 3 for A to D, 4 for any-phase) and base frame that it assigns. With
+ * a `number` of 3 or 19 to 21 `place` is that of the first byte, counted from 0, at which no
+ * correct text could go on: the text's length where it only stops too soon, and 15 at most. Else it
+ * is 0.
  */
 struct mortisevane_capcode {
     uint32_t number;
@@ -252,6 +268,7 @@ struct mortisevane_capcode {
     uint32_t collapse;
     uint8_t phase;
     uint8_t base;
+    uint8_t place;
     uint64_t address;
 };
 
@@ -273,7 +290,9 @@ struct mortisevane_length {
  * Takes the text, without a line's end.
  * Answers its letter, frame digits, collapse and address, and the phase and base frame that it
  * assigns.
- * Refuses 3, 4, 5, 6, the first that applies.
+ * Refuses 3, 19, 20, 21, with the place at which the text goes wrong, then 4, 5, 6, the first that
+ * applies. By the byte at that place 20 is a 4 at the start, 19 any other digit before the letter,
+ * 21 a digit after the letter, 3 any other byte; a text that only stops too soon is 21.
  */
 struct mortisevane_capcode mortisevane_capcode_read(const uint8_t *text, size_t text_length);
 
@@ -1306,6 +1325,7 @@ MORTISEVANE_PLACED(capcode, frame, 8);
 MORTISEVANE_PLACED(capcode, collapse, 12);
 MORTISEVANE_PLACED(capcode, phase, 16);
 MORTISEVANE_PLACED(capcode, base, 17);
+MORTISEVANE_PLACED(capcode, place, 18);
 MORTISEVANE_PLACED(capcode, address, 24);
 
 MORTISEVANE_LARGE(assignment, 8);

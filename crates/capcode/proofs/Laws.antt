@@ -4,23 +4,24 @@ use mathlib.Core.Bool.{Bool, true, false, _&&_}
 use mathlib.Core.Path.{_≡_, refl, sym, ap, _∙_}
 use mathlib.Core.List.{List}
 use native.Mathlib.Omega.{arith}
-use lib.ListN.{getD}
+use lib.ListN.{length, getD}
 use borrow.Author.Tests.{leb-true, eqb-false, not-false}
-use lib.Dec.{leb}
+use lib.Dec.{leb, eqb}
+use Rattle.laws.specs.Choice.{pick}
 use Rattle.laws.proofs.Tests.{first-of, second-of, other-of, neither}
 use Rattle.refusal.specs.Told.{Told}
-use Rattle.refusal.proofs.Laws.{toldValues, given-not-refused, refused-tells}
+use Rattle.refusal.proofs.Laws.{toldValues, given-not-told, given-not-refused, refused-tells, refused-at-tells, placed-not-refused}
 use Rattle.capcode.proofs.Bounds.{accepted-below}
 use Rattle.capcode.specs.declared.Capcode.{Capcode}
 use Rattle.capcode.specs.declared.AssignAnswer.{AssignAnswer}
 use Rattle.capcode.specs.declared.ReadAnswer.{ReadAnswer}
 use Rattle.capcode.specs.declared.reading.Form.{Form}
 use Rattle.capcode.specs.Assigned.{Fine, standard, framed, anyPhase, fieldsFit, phaseOf, baseOf, toldAssign}
-use Rattle.capcode.specs.Text.{textOf, Sayable}
+use Rattle.capcode.specs.Text.{headWidth, widthOf, textOf, Sayable}
 use Rattle.capcode.specs.Reads.{formOf, toldRead}
 use Rattle.capcode.proofs.Spoken.{read-of-printed}
 use Rattle.capcode.proofs.Heard.{printed-of-read}
-use Rattle.laws.proofs.Tests.{first-of, second-of, other-of, neither}
+use Rattle.capcode.proofs.Writes.{length-text}
 
 -- a CAPCODE of which nothing is refused is one that a text could have
 pub fine-sayable : (c : Capcode) → Fine c → Sayable c
@@ -36,6 +37,30 @@ form-exactly text c = (printed-of-read text c, λ both. ap formOf (sym (both .0)
 -- two different texts never say the same CAPCODE
 pub one-text : (text other : List ℕ) (c : Capcode) → formOf text ≡ Form.Says c → formOf other ≡ Form.Says c → text ≡ other
 one-text text other c e f = sym (printed-of-read text c e .0) ∙ printed-of-read other c f .0
+
+-- a choice between two numbers is at most what both are
+pick-upto : (b : Bool) (x y n : ℕ) → x ≤ n → y ≤ n → pick b x y ≤ n
+pick-upto true x y n first second = first
+pick-upto false x y n first second = second
+
+-- the collapse of a CAPCODE that a text could have is one digit
+pub collapse-digit : (c : Capcode) → Sayable c → c .collapse ≤ 9
+collapse-digit c sayable =
+    let small = leb-true (c .collapse) 5 (first-of _ _ (sayable .fields)) in
+    omega arith
+
+-- a correct text has four digits at most, the letter, and ten digits at most
+pub text-upto : (c : Capcode) → Sayable c → length (textOf c) ≤ 15
+text-upto c sayable =
+    let before : headWidth c ≤ 4 = pick-upto (standard (c .letter)) _ 4 4 (pick-upto (eqb (c .collapse) 4) 0 1 4 (omega arith) (omega arith)) (omega arith) in
+    let after : widthOf (c .address) ≤ 10 = pick-upto (leb (c .address) 2031614) 7 10 10 (omega arith) (omega arith) in
+    omega (arith, length-text c (collapse-digit c sayable))
+
+-- a text that says a CAPCODE has fifteen bytes at most
+pub said-length : (text : List ℕ) (c : Capcode) → formOf text ≡ Form.Says c → length text ≤ 15
+said-length text c e =
+    let said = printed-of-read text c e in
+    omega (arith, ap length (said .0), text-upto c (said .1))
 
 -- the value at a place of a telling
 abbrev valueAt : Told → ℕ → ℕ
@@ -58,8 +83,15 @@ read-tells (ReadAnswer.Whole c a) (ReadAnswer.Whole d b) e =
       collapse = valueAt t 2;
       address = valueAt t 3;
     }) (record { phase = valueAt t 4; frame = valueAt t 5 })) e
+read-tells (ReadAnswer.Whole c a) (ReadAnswer.Wrong r n) e = absurd (given-not-told _ _ r e)
 read-tells (ReadAnswer.Whole c a) (ReadAnswer.Refused r) e = absurd (given-not-refused _ r e)
+read-tells (ReadAnswer.Wrong r n) (ReadAnswer.Whole d b) e = absurd (given-not-told _ _ r (sym e))
+read-tells (ReadAnswer.Wrong r n) (ReadAnswer.Wrong q m) e =
+    let same = refused-at-tells r q n m e in
+    rw (same .0, same .1)
+read-tells (ReadAnswer.Wrong r n) (ReadAnswer.Refused q) e = absurd (placed-not-refused r q n e)
 read-tells (ReadAnswer.Refused r) (ReadAnswer.Whole d b) e = absurd (given-not-refused _ r (sym e))
+read-tells (ReadAnswer.Refused r) (ReadAnswer.Wrong q m) e = absurd (placed-not-refused q r m (sym e))
 read-tells (ReadAnswer.Refused r) (ReadAnswer.Refused q) e = ap ReadAnswer.Refused (refused-tells r q e)
 
 -- the base frame of letters A to L is one of the 128 of a cycle, and so is the frame of the others where no field is too large

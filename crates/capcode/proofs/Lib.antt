@@ -1,6 +1,8 @@
+pub mod AdviceLaws
 pub mod Bounds
 pub mod Course
 pub mod Examples
+pub mod Faults
 pub mod Fits
 pub mod HalvingLaws
 pub mod Heard

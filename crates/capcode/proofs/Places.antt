@@ -1,29 +1,36 @@
 -- Where a text goes wrong: the first place at which no text in the form could go on.
+use Prim.Native.Char.{code}
 use Prim.Native.Nat.{ℕ, zero, suc, _+_, _-_, _*_, _%_, _≤_, _<_}
 use mathlib.Core.Bool.{Bool, true, false, _&&_, _||_}
 use mathlib.Core.Path.{_≡_, refl, sym, ap, _∙_}
-use mathlib.Core.Logic.{_⊎_, inl, inr}
-use mathlib.Core.List.{List, [], _∷_, _++_}
+use mathlib.Core.Logic.{_↔_, _⊎_, inl, inr, ⊎-elim}
+use mathlib.Core.List.{List, [], _∷_, _++_, append-assoc, append-nil}
 use native.Mathlib.Omega.{arith}
 use lib.Dec.{leb, eqb}
-use lib.ListN.{length, take}
-use lib.Seq.{take-length}
+use lib.ListN.{length, take, drop, length-append, take-append-drop}
+use lib.Seq.{take-length, take-take, length-take-le}
 use borrow.Author.Tests.{le-leb, leb-true, leb-false, eqb-true, eqb-false, ne-eqb}
 use Rattle.laws.specs.Choice.{pick}
-use Rattle.laws.proofs.Tests.{first-of, second-of, one-of}
+use Rattle.laws.proofs.Tests.{decided, first-of, second-of, one-of}
+use Rattle.refusal.specs.declared.Refusal.{Refusal}
+use Rattle.refusal.specs.declared.Refusal.the-variants.{LeadingFour}
+use Rattle.refusal.specs.Told.{refusedAt}
 use Rattle.capcode.specs.declared.Capcode.{Capcode}
 use Rattle.capcode.specs.declared.reading.Reading.{Reading}
 use Rattle.capcode.specs.declared.reading.Step.{Step}
 use Rattle.capcode.specs.declared.reading.Form.{Form}
 use Rattle.capcode.specs.Reads.{isDigit, headGoesOn, letterGoesOn, addressGoesOn, withHead, withLetter}
 use Rattle.capcode.specs.Reads.{withAddress, addressDigit, stepOf, Course, going, stopped, onward, follow}
-use Rattle.capcode.specs.Reads.{blank, isWhole, saidBy, endOf, formOf}
+use Rattle.capcode.specs.Reads.{blank, isWhole, saidBy, endOf, formOf, faultAt, readBy, readOf}
+use Rattle.capcode.specs.Text.{textOf, Sayable}
 use Rattle.capcode.specs.Underway.{Digits, Sound}
 use Rattle.capcode.proofs.Steps.{step-head, step-letter, step-address}
 use Rattle.capcode.proofs.Sound.{sound-blank}
 use Rattle.capcode.proofs.Course.{follow-stopped}
-use Rattle.capcode.proofs.Spoken.{follow-append, digit-byte}
-use Rattle.capcode.proofs.Heard.{heard}
+use Rattle.capcode.proofs.Spoken.{follow-append, digit-byte, read-of-printed}
+use Rattle.capcode.proofs.Heard.{heard, printed-of-read}
+use Rattle.capcode.proofs.Faults.{leading-four}
+use Rattle.capcode.proofs.Laws.{text-upto}
 
 -- some bytes end the reading in the form
 abbrev Completes : Reading → Type 0
@@ -223,3 +230,101 @@ first-wrong text place e = by-course (follow (going 0 blank) text) refl e
           before = rw same at (going-could (take (r .past) text) place (r .reading) (r .before));
           there = λ short. rw same at (stopped-could-not (take (suc (r .past)) text) place (r .there));
         }
+
+-- ---- 02's sentence
+
+-- a correct text is one in 01's form: the text of a CAPCODE that a text could have, I to L and Z among its letters
+abbrev pub Correct : List ℕ → Type 0
+Correct text = (c : Capcode) × (textOf c ≡ text) × Sayable c
+
+-- some correct text begins so
+abbrev pub Begins : List ℕ → Type 0
+Begins text = (rest : List ℕ) × Correct (text ++ rest)
+
+-- 02, item 1: "the first byte at which no correct text could go on". Its place is the length of the longest beginning of the text with which some
+-- correct text begins
+pub record Longest (text : List ℕ) (place : ℕ) : Type 0 where
+  pub within : place ≤ length text
+  pub begins : Begins (take place text)
+  pub longest : (n : ℕ) → n ≤ length text → Begins (take n text) → n ≤ place
+
+-- a text that could go on is one with which some correct text begins
+could-begins : (text : List ℕ) → CouldGoOn text → Begins text
+could-begins text could =
+    let said = printed-of-read (text ++ could .0) (could .1) (could .2) in
+    (could .0, (could .1, said .0, said .1))
+
+-- a text that is wrong is no correct one
+wrong-not-correct : (text : List ℕ) (place : ℕ) → formOf text ≡ Form.Wrong place → Correct text → ⊥
+wrong-not-correct text place e correct =
+    let says : formOf text ≡ Form.Says (correct .0) = ap formOf (sym (correct .1)) ∙ read-of-printed (correct .0) (correct .2) in
+    let no : _≡_ {A = ℕ} 0 1 = cc in
+    absurd (omega arith)
+
+-- no beginning that reaches past the place is one with which a correct text begins
+past-not-begins : (text : List ℕ) (place n : ℕ) → FirstWrong text place → n ≤ length text → place < n → Begins (take n text) → ⊥
+past-not-begins text place n first within past begins =
+    let rest : List ℕ = drop (suc place) (take n text) ++ begins .0 in
+    let parts : take (suc place) text ++ rest ≡ take n text ++ begins .0 =
+    sym (append-assoc (take (suc place) text) (drop (suc place) (take n text)) (begins .0))
+    ∙ ap (λ (l : List ℕ). (l ++ drop (suc place) (take n text)) ++ begins .0) (sym (take-take (suc place) n text (omega arith)))
+    ∙ ap (λ (l : List ℕ). l ++ begins .0) (take-append-drop (suc place) (take n text)) in
+    wrong-not-correct (take n text ++ begins .0) place (ap formOf (sym parts) ∙ first .there (omega arith) rest) (begins .1)
+
+-- the place where a text is wrong is that of the sentence
+wrong-longest : (text : List ℕ) (place : ℕ) → formOf text ≡ Form.Wrong place → Longest text place
+wrong-longest text place e =
+    let first = first-wrong text place e in
+    record {
+      within = first .within;
+      begins = could-begins (take place text) (first .before);
+      longest = λ n within begins. ⊎-elim (λ (few : leb n place ≡ true). leb-true n place few) (λ (past : leb n place ≡ false). absurd
+          (past-not-begins text place n first within (leb-false n place past) begins)) (decided (leb n place));
+    }
+
+-- one text has one such place
+longest-one : (text : List ℕ) (n m : ℕ) → Longest text n → Longest text m → n ≡ m
+longest-one text n m p q = omega (arith, q .longest n (p .within) (p .begins), p .longest m (q .within) (q .begins))
+
+-- a text is wrong at a place exactly if it is no correct one and the place is that of the sentence
+pub wrong-exactly : (text : List ℕ) (place : ℕ) → (formOf text ≡ Form.Wrong place) ↔ ((Correct text → ⊥) × Longest text place)
+wrong-exactly text place = (λ e. (wrong-not-correct text place e, wrong-longest text place e), by-form (formOf text) refl)
+  where
+    by-form : (form : Form) → formOf text ≡ form → (Correct text → ⊥) × Longest text place → form ≡ Form.Wrong place
+    by-form (Form.Says c) e both =
+        let said = printed-of-read text c e in
+        absurd (both .0 (c, said .0, said .1))
+    by-form (Form.Wrong n) e both = ap Form.Wrong (longest-one text n place (wrong-longest text n e) (both .1))
+
+-- a text that is no correct one is refused by the byte at that place, and the place is told
+pub refused-there : (text : List ℕ) (place : ℕ) → (Correct text → ⊥) → Longest text place → readOf text ≡ refusedAt (faultAt text place) place
+refused-there text place other longest = ap (readBy text) (wrong-exactly text place .1 (other, longest))
+
+-- a correct text has such a place too, its end, and is not refused there: so it must be known that the text is no correct one
+pub correct-longest : (text : List ℕ) → Correct text → Longest text (length text)
+correct-longest text correct =
+    let all : take (length text) text ++ [] ≡ text = append-nil _ ∙ take-length text in
+    record {
+      within = omega arith;
+      begins = ([], (correct .0, correct .1 ∙ sym all, correct .2));
+      longest = λ n within begins. within;
+    }
+
+-- no place is over 15, since no correct text is longer
+pub place-upto : (text : List ℕ) (place : ℕ) → formOf text ≡ Form.Wrong place → place ≤ 15
+place-upto text place e =
+    let longest = wrong-longest text place e in
+    let begins = longest .begins in
+    omega (
+      arith,
+      ap length (begins .1 .1),
+      text-upto (begins .1 .0) (begins .1 .2),
+      length-append (take place text) (begins .0),
+      length-take-le place text (longest .within),
+    )
+
+-- a text that begins with a 4 is refused 20 at place 0, whatever follows
+pub four-first : (text : List ℕ) → readOf (code "4" ∷ text) ≡ refusedAt LeadingFour 0
+unfolding formOf follow stepOf
+four-first text =
+    rw (follow-stopped 0 text) (ap (λ (r : Refusal). refusedAt r 0) (sym (leading-four (code "4" ∷ text) 0 (λ e. omega arith) refl refl)))

@@ -20,7 +20,7 @@ pub printed-is-read : (c : Capcode) (room : ℕ) (values : List ℕ) → printOf
     → readOf (textOf c) ≡ given (c .letter ∷ c .frame ∷ c .collapse ∷ c .address ∷ phaseOf c ∷ baseOf c ∷ [])
 printed-is-read c room values e =
     let fine = given-fine c _ values e .0 in
-    ap readBy (read-of-printed c (fine-sayable c fine)) ∙ sym (fine-asked c _ fine)
+    ap (readBy (textOf c)) (read-of-printed c (fine-sayable c fine)) ∙ sym (fine-asked c _ fine)
 
 -- one telling, one answer to `print`
 pub print-tells : (a b : PrintAnswer) → toldPrint a ≡ toldPrint b → a ≡ b

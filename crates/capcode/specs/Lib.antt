@@ -1,3 +1,4 @@
+pub mod Advice
 pub mod Assigned
 pub mod Halving
 pub mod Printed

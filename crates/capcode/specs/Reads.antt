@@ -4,9 +4,12 @@ use Prim.Native.Char.{code}
 use mathlib.Core.Bool.{Bool, true, false, not, _&&_, _||_}
 use mathlib.Core.List.{List, [], _∷_}
 use lib.Dec.{leb, eqb}
+use lib.ListN.{length, take, getD}
 use Rattle.laws.specs.Choice.{pick}
-use Rattle.refusal.specs.declared.Refusal.the-variants.{Text}
-use Rattle.refusal.specs.Told.{Told, refused, given}
+use Rattle.laws.specs.Lists.{all}
+use Rattle.refusal.specs.declared.Refusal.{Refusal}
+use Rattle.refusal.specs.declared.Refusal.the-variants.{Text, DigitBeforeLetter, LeadingFour, DigitAfterLetter}
+use Rattle.refusal.specs.Told.{Told, refused, refusedAt, given}
 use Rattle.capcode.specs.declared.Capcode.{Capcode}
 use Rattle.capcode.specs.declared.ReadAnswer.{ReadAnswer}
 use Rattle.capcode.specs.declared.reading.Reading.{Reading}
@@ -131,17 +134,35 @@ endOf (stopped place) = Form.Wrong place
 unfoldable pub formOf : List ℕ → Form
 formOf text = endOf (follow (going 0 blank) text)
 
--- 3 for a text not in the form; then what is asked of every CAPCODE
-abbrev pub readBy : Form → Told
-readBy (Form.Says c) = asked c (given (c .letter ∷ c .frame ∷ c .collapse ∷ c .address ∷ phaseOf c ∷ baseOf c ∷ []))
-readBy (Form.Wrong place) = refused Text
+-- what is answered for a text that says `c`: what is asked of every CAPCODE, then letter, frame, collapse, address, phase and base frame
+abbrev pub readAs : Capcode → Told
+readAs c = asked c (given (c .letter ∷ c .frame ∷ c .collapse ∷ c .address ∷ phaseOf c ∷ baseOf c ∷ []))
+
+-- a place before the letter: only digits stand before it
+abbrev pub beforeLetter : List ℕ → ℕ → Bool
+beforeLetter text place = all isDigit (take place text)
+
+-- 02, item 1, of the byte at which a text goes wrong: "20 for a 4 at place 0, 19 for any other digit before the letter, 21 for a digit after the
+-- letter, 3 for all else. A text that only stops too soon is 21, its place the text's length"
+unfoldable pub faultAt : List ℕ → ℕ → Refusal
+faultAt text place =
+    pick (eqb place (length text)) DigitAfterLetter
+    (pick (not (isDigit (getD text place 0))) Text
+    (pick (eqb place 0 && eqb (getD text place 0) (code "4")) LeadingFour
+    (pick (beforeLetter text place) DigitBeforeLetter DigitAfterLetter)))
+
+-- a text that says a CAPCODE is answered by that; one that does not is refused by the byte where it goes wrong, and the place is told
+abbrev pub readBy : List ℕ → Form → Told
+readBy text (Form.Says c) = readAs c
+readBy text (Form.Wrong place) = refusedAt (faultAt text place) place
 
 -- what a text is read as
 abbrev pub readOf : List ℕ → Told
-readOf text = readBy (formOf text)
+readOf text = readBy text (formOf text)
 
 -- how a reading is told
 abbrev pub toldRead : ReadAnswer → Told
 toldRead (ReadAnswer.Whole c a) =
     given (c .letter ∷ c .frame ∷ c .collapse ∷ c .address ∷ a .phase ∷ a .frame ∷ [])
+toldRead (ReadAnswer.Wrong r place) = refusedAt r place
 toldRead (ReadAnswer.Refused r) = refused r

@@ -3,9 +3,10 @@
 //
 // The definitions, in the order of the paper: which addresses are accepted (specs/Ranges, and specs/Halving for how their
 // table is searched), the words of an address (specs/Words), what a CAPCODE assigns (specs/Assigned), its text (specs/Text),
-// how a text is read (specs/Reads, and specs/Underway for a reader in the middle of one) and printed (specs/Printed). The
-// laws: proofs/RangeLaws, proofs/HalvingLaws and proofs/Bounds, proofs/WordLaws, proofs/Laws and proofs/Places (which texts
-// are read as what, and where a wrong one goes wrong), proofs/PrintLaws.
+// how a text is read (specs/Reads, and specs/Underway for a reader in the middle of one), what a person is told of one that
+// is refused (specs/Advice), and how one is printed (specs/Printed). The laws: proofs/RangeLaws, proofs/HalvingLaws and
+// proofs/Bounds, proofs/WordLaws, proofs/Laws, proofs/Places and proofs/Faults (which texts are read as what, where a wrong one
+// goes wrong, and by which number), proofs/PrintLaws.
 
 ghost use mathlib.Core.Path.{_≡_};
 ghost use Rattle.capcode.specs.Ranges.{classNumber};
@@ -22,9 +23,13 @@ mod assigning;
 // A text read as a CAPCODE.
 mod reading;
 
+// What a person is told of a text that is refused.
+mod advising;
+
 // A CAPCODE printed as text.
 mod printing;
 
+pub use advising::advise;
 pub use assigning::assign;
 pub use printing::print;
 pub use ranges::class_of;
@@ -107,10 +112,19 @@ pub enum AssignAnswer {
     Refused(Refusal),
 }
 
-// What a text says, or the refusal.
+// What a text says; or, of a text that is not in the form, the refusal and the place at which it goes wrong, 0 to 15; or the
+// refusal of the CAPCODE that it says.
 pub enum ReadAnswer {
     Whole(Capcode, Assignment),
+    Wrong(Refusal, u8),
     Refused(Refusal),
+}
+
+// What a person is told of a text: a row of the table of sentences in `refusal`, and a letter to write after the sentence, 0
+// where there is none.
+pub struct Advice {
+    pub row: u32,
+    pub letter: u8,
 }
 
 // 01: "An address up to 2031614 is seven digits; a larger one is ten".

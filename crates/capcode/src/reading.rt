@@ -1,9 +1,10 @@
 // CAPCODEs, from text to value (document 01, "CAPCODE text"; S8.6.2).
 ghost use mathlib.Core.Path.{_≡_};
-ghost use lib.ListN.{drop};
+ghost use Prim.Native.Nat.{_≤_};
+ghost use lib.ListN.{length, drop};
 ghost use Rattle.capcode.specs.Reads.{isDigit, headGoesOn, letterGoesOn, addressGoesOn, Bounded, headDigit, theLetter};
-ghost use Rattle.capcode.specs.Reads.{addressDigit, stepOf, going, follow, isWhole, saidBy, endOf, formOf, readBy};
-ghost use Rattle.capcode.specs.Reads.{readOf, toldRead};
+ghost use Rattle.capcode.specs.Reads.{addressDigit, stepOf, going, follow, isWhole, saidBy, endOf, formOf, readAs};
+ghost use Rattle.capcode.specs.Reads.{beforeLetter, faultAt, readOf, toldRead};
 ghost use Rattle.capcode.specs.Underway.{Sound};
 use crate::AssignAnswer;
 use crate::Capcode;
@@ -34,7 +35,7 @@ pub enum Form {
     Wrong(usize),
 }
 
-fn is_digit(byte: u8) -> bool
+pub(crate) fn is_digit(byte: u8) -> bool
     ensures { λ r. ⌜ r ≡ isDigit byte ⌝ }
 {
     (b'0' <= byte) & (byte <= b'9')
@@ -56,7 +57,7 @@ fn head_goes_on(count: u32, number: u32) -> bool
     (count == 4) & (number % 10 <= 5)
 }
 
-fn letter_goes_on(count: u32, letter: u8) -> bool
+pub(crate) fn letter_goes_on(count: u32, letter: u8) -> bool
     ensures { λ r. ⌜ r ≡ letterGoesOn count letter ⌝ }
 {
     let standard = crate::assigning::is_standard(letter);
@@ -170,10 +171,10 @@ fn said_collapse(s: Reading) -> u32
     if s.before == 0 { 4 } else { s.number % 10 }
 }
 
-// The form of a text that was read to its end, `place`.
-fn form_at_end(s: Reading, place: usize) -> Form
+// The form of a text that was read to its end.
+fn form_at_end(s: Reading, end: usize) -> Form
     requires { ⌜ Bounded s ⌝ }
-    ensures { λ r. ⌜ r ≡ endOf (going place s) ⌝ }
+    ensures { λ r. ⌜ r ≡ endOf (going end s) ⌝ }
 {
     if is_whole(s) {
         return Form::Says(Capcode {
@@ -183,7 +184,7 @@ fn form_at_end(s: Reading, place: usize) -> Form
             address: s.address,
         });
     }
-    Form::Wrong(place)
+    Form::Wrong(end)
 }
 
 // One byte more after the letter: a digit, or no correct text goes on so.
@@ -203,20 +204,21 @@ fn form_after_letter(start: Reading, text: &[u8], from: usize) -> Form
     ensures { λ r. ⌜ r ≡ endOf (follow (going from start) (drop from (now (text .entry)))) ⌝ }
 {
     let mut s = start;
-    let mut i = from;
-    while i < text.len() {
-        let Step::On(next) = step_after_letter(s, text[i]) else {
-            return Form::Wrong(i);
+    let mut here = from;
+    while here < text.len() {
+        let one_later = here + 1;
+        let Step::On(next) = step_after_letter(s, text[here]) else {
+            return Form::Wrong(here);
         };
         s = next;
-        i += 1;
+        here = one_later;
     }
-    form_at_end(s, i)
+    form_at_end(s, here)
 }
 
 // What a text says, or the first place at which no correct text goes on as it does. The digits after the
 // letter have a loop of their own, since they are most of a text.
-fn form_of(text: &[u8]) -> Form
+pub(crate) fn form_of(text: &[u8]) -> Form
     ensures { λ r. ⌜ r ≡ formOf (now (text .entry)) ⌝ }
 {
     let mut s = Reading {
@@ -245,7 +247,7 @@ fn form_of(text: &[u8]) -> Form
 
 // What is answered for a text that says `c`.
 fn read_as(c: Capcode) -> ReadAnswer
-    ensures { λ r. ⌜ toldRead r ≡ readBy (Form.Says c) ⌝ }
+    ensures { λ r. ⌜ toldRead r ≡ readAs c ⌝ }
 {
     match crate::assigning::assign(c) {
         AssignAnswer::Assigned(a) => ReadAnswer::Whole(c, a),
@@ -253,12 +255,49 @@ fn read_as(c: Capcode) -> ReadAnswer
     }
 }
 
-// What a text says, with the phase and base frame that it assigns, or the first refusal.
+// Whether a place is before the letter: only digits stand before it.
+pub(crate) fn is_before_letter(text: &[u8], place: usize) -> bool
+    requires { ⌜ place ≤ length (now text) ⌝ }
+    ensures { λ r. ⌜ r ≡ beforeLetter (now (text .entry)) place ⌝ }
+{
+    let mut i = 0;
+    while i < place {
+        if !is_digit(text[i]) {
+            return false;
+        }
+        i += 1;
+    }
+    true
+}
+
+// The refusal of a text that goes wrong at a place, by the byte that stands there, if one does.
+pub(crate) fn fault_at(text: &[u8], place: usize) -> Refusal
+    requires { ⌜ place ≤ length (now text) ⌝ }
+    ensures { λ r. ⌜ r ≡ faultAt (now (text .entry)) place ⌝ }
+{
+    if place == text.len() {
+        return Refusal::DigitAfterLetter;
+    }
+    let byte = text[place];
+    if !is_digit(byte) {
+        return Refusal::Text;
+    }
+    if (place == 0) & (byte == b'4') {
+        return Refusal::LeadingFour;
+    }
+    if is_before_letter(text, place) {
+        return Refusal::DigitBeforeLetter;
+    }
+    Refusal::DigitAfterLetter
+}
+
+// What a text says, with the phase and base frame that it assigns, or the first refusal, with the place where the text goes
+// wrong if it is not in the form.
 pub fn read(text: &[u8]) -> ReadAnswer
     ensures { λ r. ⌜ toldRead r ≡ readOf (now (text .entry)) ⌝ }
 {
     match form_of(text) {
         Form::Says(c) => read_as(c),
-        Form::Wrong(_) => ReadAnswer::Refused(Refusal::Text),
+        Form::Wrong(place) => ReadAnswer::Wrong(fault_at(text, place), place as u8),
     }
 }

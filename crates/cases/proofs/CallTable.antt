@@ -73,8 +73,8 @@ calls-kept s ended =
 
 -- the lines stand in the table's order: its numbers, some left out
 pub call-lines-in-order : (s : State) (event : Event)
-    → isPartOf (map {A = Line} {B = ℕ} (λ line. numberOf (line .refusal)) (callLinesFor s event)) (map numberOf order) ≡ true
-unfolding isPartOf order
+    → isPartOf (map {A = Line} {B = ℕ} (λ line. numberOf (line .refusal)) (callLinesFor s event)) (map (map numberOf) order) ≡ true
+unfolding isPartOf anyOf order
 call-lines-in-order s (addressed n) = refl
 call-lines-in-order s (heard n) = refl
 call-lines-in-order s ended = refl

@@ -9,6 +9,7 @@ use borrow.Author.Tests.{leb-true, leb-false, le-leb}
 use lib.Dec.{leb, ltb, eqb}
 use lib.ListN.{length, set}
 use Rattle.laws.specs.Choice.{pick}
+use Rattle.laws.specs.Lists.{anyOf}
 use Rattle.laws.proofs.Tests.{decided}
 use Rattle.refusal.specs.declared.Refusal.{Refusal}
 use Rattle.refusal.specs.declared.Refusal.the-variants as refusals
@@ -37,11 +38,11 @@ use Rattle.cases.specs.Demands.{Line, numberBy, linesFor, AsTheTable, wh
 
 -- ---- demand 1: the table
 
--- whether a row is another with some left out
-unfoldable pub isPartOf : List ℕ → List ℕ → Bool
-isPartOf [] all = true
+-- whether the numbers of a row stand at places of an order that follow each other, some left out
+unfoldable pub isPartOf : List ℕ → List (List ℕ) → Bool
+isPartOf [] order = true
 isPartOf (a ∷ row) [] = false
-isPartOf (a ∷ row) (b ∷ all) = pick (eqb a b) (isPartOf row all) (isPartOf (a ∷ row) all)
+isPartOf (a ∷ row) (place ∷ order) = pick (anyOf (eqb a) place) (isPartOf row order) (isPartOf (a ∷ row) order)
 
 -- what becomes of a chain has the number of the first of 14, 15, 16 and 12 that is given
 of-chain : (row : List Chain) (address : ℕ) (h : FragmentRead) (c : Chain) (late over on wrong : Bool)
@@ -120,8 +121,8 @@ state-kept s (dropped address n) some =
 
 -- the lines stand in the table's order: its numbers, some left out
 pub lines-in-order : (s : State) (event : Event)
-    → isPartOf (map {A = Line} {B = ℕ} (λ line. numberOf (line .refusal)) (linesFor s event)) (map numberOf order) ≡ true
-unfolding isPartOf order
+    → isPartOf (map {A = Line} {B = ℕ} (λ line. numberOf (line .refusal)) (linesFor s event)) (map (map numberOf) order) ≡ true
+unfolding isPartOf anyOf order
 lines-in-order s (came address words) = refl
 lines-in-order s (dropped address n) = refl
 

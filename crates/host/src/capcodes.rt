@@ -1,7 +1,8 @@
 // CAPCODEs, as C and Rust link them: numbers, slices and structs by value. Every function takes any input. `number` is 0,
-// or 01's number of the refusal; every other field is then 0.
+// or the number of the refusal; every other field is then 0, but for the place where a text goes wrong.
 ghost use mathlib.Core.Path.{_≡_};
 ghost use lib.ListN.{length};
+ghost use Rattle.refusal.specs.Told.{refusedAt};
 ghost use Rattle.capcode.specs.Assigned.{assigned, toldAssign};
 ghost use Rattle.capcode.specs.Reads.{readOf, toldRead};
 ghost use Rattle.capcode.specs.Printed.{printOf, bufferAfter, toldPrint};
@@ -10,9 +11,12 @@ use capcode::AssignAnswer;
 use capcode::Capcode;
 use capcode::PrintAnswer;
 use capcode::ReadAnswer;
+use refusal::Refusal;
 
 // A CAPCODE: its letter, the three frame digits of U to Y (0 with A to H), its collapse and address; and
-// the phase (0 to 3 for A to D, 4 for any-phase) and base frame that it assigns.
+// the phase (0 to 3 for A to D, 4 for any-phase) and base frame that it assigns. With a `number` of 3 or 19 to 21 `place` is
+// that of the first byte, counted from 0, at which no correct text could go on: the text's length where it only stops too
+// soon, and 15 at most. Else it is 0.
 #[repr(C)]
 pub struct MortisevaneCapcode {
     pub number: u32,
@@ -21,6 +25,7 @@ pub struct MortisevaneCapcode {
     pub collapse: u32,
     pub phase: u8,
     pub base: u8,
+    pub place: u8,
     pub address: u64,
 }
 
@@ -39,6 +44,21 @@ pub struct MortisevaneLength {
     pub length: usize,
 }
 
+fn capcode_refused(refusal: Refusal, place: u8) -> MortisevaneCapcode
+    ensures { λ r. ⌜ r ≡ capcodeFrom (refusedAt refusal place) ⌝ }
+{
+    MortisevaneCapcode {
+        number: refusal.number(),
+        letter: 0,
+        frame: 0,
+        collapse: 0,
+        phase: 0,
+        base: 0,
+        place,
+        address: 0,
+    }
+}
+
 fn capcode_told(answer: ReadAnswer) -> MortisevaneCapcode
     ensures { λ r. ⌜ r ≡ capcodeFrom (toldRead answer) ⌝ }
 {
@@ -50,24 +70,20 @@ fn capcode_told(answer: ReadAnswer) -> MortisevaneCapcode
             collapse: c.collapse,
             phase: a.phase,
             base: a.frame,
+            place: 0,
             address: c.address,
         },
-        ReadAnswer::Refused(refusal) => MortisevaneCapcode {
-            number: refusal.number(),
-            letter: 0,
-            frame: 0,
-            collapse: 0,
-            phase: 0,
-            base: 0,
-            address: 0,
-        },
+        ReadAnswer::Wrong(refusal, place) => capcode_refused(refusal, place),
+        ReadAnswer::Refused(refusal) => capcode_refused(refusal, 0),
     }
 }
 
 // What a CAPCODE text says.
 // Takes the text, without a line's end.
 // Answers its letter, frame digits, collapse and address, and the phase and base frame that it assigns.
-// Refuses 3, 4, 5, 6, the first that applies.
+// Refuses 3, 19, 20, 21, with the place at which the text goes wrong, then 4, 5, 6, the first that applies. By the byte at
+// that place 20 is a 4 at the start, 19 any other digit before the letter, 21 a digit after the letter, 3 any other byte; a
+// text that only stops too soon is 21.
 #[no_mangle]
 pub extern "C" fn mortisevane_capcode_read(text: &[u8]) -> MortisevaneCapcode
     ensures { λ r. ⌜ r ≡ capcodeFrom (readOf (now (text .entry))) ⌝ }

@@ -2,6 +2,7 @@
 use Prim.Native.Nat.{ℕ, zero, suc, _+_, _*_, _≤_, _<_}
 use mathlib.Core.Bool.{Bool, true, false, _&&_, and-assoc, and-true, and-eq-true-iff}
 use mathlib.Core.List.{List, [], _∷_, _++_, map}
+use mathlib.Core.Logic.{⊎-elim}
 use mathlib.Core.Path.{_≡_, refl, sym, ap, _∙_}
 use native.Mathlib.Nat.{add-assoc, zero-add}
 use native.Mathlib.Numerals.{add-one}
@@ -9,9 +10,10 @@ use native.Mathlib.Omega.{arith}
 use borrow.Author.Tests.{eqb-true}
 use lib.Dec.{eqb}
 use lib.ListN.{length, getD, take, drop, replicate, drop-of-length-le, take-append-drop}
-use lib.Seq.{take-add, drop-cons, drop-drop}
+use lib.Seq.{take-add, take-suc, drop-cons, drop-drop, getD-take, length-take-le}
 use Rattle.laws.specs.Lists.{placeIn, all, sumBy}
 use Rattle.laws.proofs.Searches.{first-passes}
+use Rattle.laws.proofs.Tests.{decided, not-both}
 
 -- all of what is joined pass a test if all of both rows do
 pub all-append : (test : ℕ → Bool) (xs ys : List ℕ) → all test (xs ++ ys) ≡ (all test xs && all test ys)
@@ -57,6 +59,21 @@ all-map test rule [] = refl
 all-map test rule (x ∷ row) = rw (all-map test rule row)
 
 module _ (test : ℕ → Bool) (row : List ℕ) (i : ℕ) where
+  -- where all before a place pass and the number there does, all up to it pass
+  pub all-grows : i < length row → all test (take i row) ≡ true → test (getD row i 0) ≡ true → all test (take (i + 1) row) ≡ true
+  unfolding all
+  all-grows within before here = rw (add-one i, take-suc row i 0 within, all-append test (take i row) (getD row i 0 ∷ []), before, here)
+
+  -- a number that does not pass stands before every later place
+  pub all-fails : (n : ℕ) → i < n → n ≤ length row → test (getD row i 0) ≡ false → all test (take n row) ≡ false
+  all-fails n earlier within other =
+      ⊎-elim
+      (λ (passed : all test (take n row) ≡ true).
+      let long : i < length (take n row) = omega (arith, length-take-le n row within) in
+      absurd (not-both (test (getD row i 0)) (rw (getD-take n row i 0 earlier) at (all-at test (take n row) i passed long)) other))
+      (λ (failed : all test (take n row) ≡ false). failed)
+      (decided (all test (take n row)))
+
   -- the number there, and all after it
   all-from : i < length row → all test (drop i row) ≡ (test (getD row i 0) && all test (drop (i + 1) row))
   unfolding all

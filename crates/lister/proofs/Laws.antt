@@ -9,15 +9,13 @@ use lib.ListN.{length, take, length-append}
 use borrow.Author.Tests.{leb-true, le-leb}
 use Rattle.laws.specs.Choice.{pick}
 use Rattle.laws.specs.Texts.{bytesOf}
-use Rattle.refusal.specs.declared.Refusal.the-variants.{Text}
-use Rattle.refusal.specs.Told.{refused}
 use Rattle.capcode.specs.Ranges.{rows, classIn, classOf}
 use Rattle.capcode.specs.Words.{wordsOf}
 use Rattle.capcode.specs.Assigned.{asked}
 use Rattle.capcode.specs.Text.{digits}
 use Rattle.capcode.specs.declared.Capcode.{Capcode}
 use Rattle.capcode.specs.declared.reading.Form.{Form}
-use Rattle.capcode.specs.Reads.{stepOf, follow, formOf, readOf}
+use Rattle.capcode.specs.Reads.{stepOf, follow, formOf, faultAt, readOf}
 use Rattle.lister.specs.Stands.{Stand, standOf, fresh}
 use Rattle.lister.specs.Texts.{header}
 use Rattle.lister.specs.declared.Fed.{Fed}
@@ -28,10 +26,10 @@ use Rattle.lister.proofs.Lengths.{writes-short}
 use Rattle.lister.proofs.Progress.{next-joined, writes-joined}
 use Rattle.lister.proofs.Said.{said-shown}
 use Rattle.lister.proofs.Listed.{listed}
-use Rattle.lister.proofs.Reading.{too-long, kept-read, kept-verdict}
+use Rattle.lister.proofs.Reading.{RefusedEarly, too-long, kept-read, kept-verdict}
 
--- a text of sixteen bytes or more is refused 3
-pub long-refused : (text : List ℕ) → 16 ≤ length text → readOf text ≡ refused Text
+-- a text of sixteen bytes or more is not in the form, and goes wrong within its first sixteen bytes
+pub long-refused : (text : List ℕ) → 16 ≤ length text → RefusedEarly text
 long-refused = too-long
 
 -- the sixteen bytes that are kept of a text are read as the whole text is, and the listing shows the same after them
@@ -108,6 +106,6 @@ pub sample :
     ≡ bytesOf "ADDRESS FIRST SECOND PHASE FRAME COLLAPSE\n"
     ++ bytesOf "E0001234 0084D2 ------ * 077 4\n"
     ++ bytesOf "A0002101249 000001 1FFFFE A 000 4\n"
-    ++ bytesOf "E1234 REFUSED 3\n"
-unfolding header shown verdictOf withoutReturn listedFrom formOf follow stepOf asked wordsOf classOf classIn rows digits
+    ++ bytesOf "E1234 REFUSED 21 5\n"
+unfolding header shown verdictOf withoutReturn listedFrom formOf follow stepOf faultAt asked wordsOf classOf classIn rows digits
 sample = refl

@@ -1,4 +1,4 @@
--- What is known of a text that says a CAPCODE: how long it is, and that it is shown as it is.
+-- A text that says a CAPCODE is shown as it is.
 use Prim.Native.Nat.{ℕ, zero, suc, _+_, _/_, _%_, _*_, _≤_}
 use mathlib.Core.Bool.{Bool, true, false}
 use mathlib.Core.Path.{_≡_, refl, sym, ap, ap₂, _∙_}
@@ -14,32 +14,13 @@ use Rattle.capcode.specs.declared.Capcode.{Capcode}
 use Rattle.capcode.specs.declared.reading.Form.{Form}
 use Rattle.capcode.specs.Assigned.{standard, framed}
 use Rattle.capcode.specs.Text.{digits, headWidth, widthOf, textOf, Sayable}
-use Rattle.capcode.specs.Reads.{formOf, readBy, readOf}
-use Rattle.refusal.specs.declared.Refusal.the-variants.{Text}
+use Rattle.capcode.specs.Reads.{formOf, faultAt, readBy, readOf}
 use Rattle.refusal.specs.Told.{numberTold}
 use Rattle.refusal.proofs.Laws.{number-positive}
 use Rattle.capcode.proofs.Heard.{printed-of-read}
-use Rattle.capcode.proofs.Writes.{text-numbers, length-text}
+use Rattle.capcode.proofs.Laws.{collapse-digit}
+use Rattle.capcode.proofs.Writes.{text-numbers}
 use Rattle.lister.specs.Lines.{shownByte, shown}
-
--- a choice between two numbers is at most what both are
-pick-upto : (b : Bool) (x y n : ℕ) → x ≤ n → y ≤ n → pick b x y ≤ n
-pick-upto true x y n first second = first
-pick-upto false x y n first second = second
-
--- the collapse of a CAPCODE that a text could have is one digit
-collapse-digit : (c : Capcode) → Sayable c → c .collapse ≤ 9
-collapse-digit c sayable =
-    let small = leb-true (c .collapse) 5 (first-of _ _ (sayable .fields)) in
-    omega arith
-
--- a text that says a CAPCODE has four digits at most, the letter, and ten digits at most
-pub said-length : (text : List ℕ) (c : Capcode) → formOf text ≡ Form.Says c → length text ≤ 15
-said-length text c e =
-    let said = printed-of-read text c e in
-    let before : headWidth c ≤ 4 = pick-upto (standard (c .letter)) _ 4 4 (pick-upto (eqb (c .collapse) 4) 0 1 4 (omega arith) (omega arith)) (omega arith) in
-    let after : widthOf (c .address) ≤ 10 = pick-upto (leb (c .address) 2031614) 7 10 10 (omega arith) (omega arith) in
-    omega (arith, ap length (said .0), length-text c (collapse-digit c (said .1)))
 
 -- a byte up to `[` that is no control is shown as it is
 plain-shown : (byte : ℕ) → 32 ≤ byte → byte ≤ 91 → shownByte byte ≡ byte ∷ []
@@ -93,6 +74,6 @@ said-shown text c e =
 pub read-shown : (text : List ℕ) → numberTold (readOf text) ≡ 0 → shown text ≡ text
 read-shown text e = by-form (formOf text) refl e
   where
-    by-form : (form : Form) → formOf text ≡ form → numberTold (readBy form) ≡ 0 → shown text ≡ text
+    by-form : (form : Form) → formOf text ≡ form → numberTold (readBy text form) ≡ 0 → shown text ≡ text
     by-form (Form.Says d) same none = said-shown text d same
-    by-form (Form.Wrong place) same none = absurd (omega (arith, none, number-positive Text))
+    by-form (Form.Wrong place) same none = absurd (omega (arith, none, number-positive (faultAt text place)))

@@ -56,13 +56,14 @@ acceptedEnd values =
 abbrev pub plain : ℕ → List ℕ
 plain n = pick (ltb n 10) ((code "0" + n) ∷ []) ((code "0" + n / 10 % 10) ∷ (code "0" + n % 10) ∷ [])
 
--- what stands after a refused text: the word, and 01's number
-abbrev pub refusedEnd : ℕ → List ℕ
-refusedEnd n = bytesOf " REFUSED " ++ plain n
+-- what stands after a refused text: the word and the number; 02, item 1: "The listing prints the number and the place after REFUSED"
+abbrev pub refusedEnd : ℕ → List ℕ → List ℕ
+refusedEnd n [] = bytesOf " REFUSED " ++ plain n
+refusedEnd n (place ∷ more) = bytesOf " REFUSED " ++ plain n ++ code " " ∷ plain place
 
 -- what stands after a text, by what it was read as
 abbrev pub verdictBy : Told → List ℕ
-verdictBy (told n values) = pick (eqb n 0) (acceptedEnd values) (refusedEnd n)
+verdictBy (told n values) = pick (eqb n 0) (acceptedEnd values) (refusedEnd n values)
 
 -- what stands after a text in the listing, the end of the line with it
 unfoldable pub verdictOf : List ℕ → List ℕ

@@ -1,4 +1,5 @@
 // The end of a listing of CAPCODE lines (document 01, "The listing program"): what stands after its last byte.
+ghost use mathlib.Core.Bool.{false};
 ghost use mathlib.Core.Path.{_≡_};
 ghost use mathlib.Core.List.{_++_};
 ghost use Prim.Native.Nat.{_+_, _≤_};
@@ -14,9 +15,9 @@ use crate::line_end::Verdict;
 use crate::writing::copy;
 use refusal::Refusal;
 
-// Where a listing stands once the carriage return that was held back is a byte of the line.
-fn with_return(lister: Lister) -> Lister
-    ensures { λ r. ⌜ (keptOf r ≡ kept (keptOf lister ++ heldBytes (lister .held))) × (length (r .line) ≡ 16) ⌝ }
+// Where a listing stands at the end of the input: the carriage return that was held back is a byte of the line.
+pub fn with_return(lister: Lister) -> Lister
+    ensures { λ r. ⌜ (keptOf r ≡ kept (keptOf lister ++ heldBytes (lister .held))) × (length (r .line) ≡ 16) × (r .held ≡ false) ⌝ }
 {
     let mut line = lister.line;
     let count = lister.count;

@@ -22,6 +22,7 @@ mod feeding;
 mod closing;
 
 pub use closing::close;
+pub use closing::with_return;
 pub use feeding::feed;
 use refusal::Refusal;
 pub use starting::start;

@@ -1,11 +1,14 @@
 // What the listing shows after a text (document 01, "The listing program").
 ghost use mathlib.Core.Path.{_≡_};
 ghost use mathlib.Core.List.{[], _∷_, _++_};
-ghost use Prim.Native.Nat.{_≤_, _<_};
+ghost use Prim.Native.Nat.{_+_, _≤_, _<_};
+ghost use lib.ListN.{length};
 ghost use Rattle.capcode.specs.Text.{digits};
-ghost use Rattle.refusal.specs.Told.{refused};
+ghost use Rattle.refusal.specs.Told.{refused, refusedAt};
 ghost use Rattle.capcode.specs.Reads.{readOf, toldRead};
-ghost use Rattle.lister.specs.Verdicts.{lineFeed, sixDigits, phaseShown, verdictBy, verdictAs};
+ghost use Rattle.lister.specs.Texts.{Wrote};
+ghost use Rattle.lister.specs.Verdicts.{lineFeed, sixDigits, phaseShown, plain, verdictBy, verdictAs};
+use crate::writing::copy;
 use crate::writing::hex_digit;
 use capcode::Assignment;
 use capcode::Capcode;
@@ -87,28 +90,44 @@ fn accepted_end(c: Capcode, a: Assignment) -> [u8; 23]
     }
 }
 
+// Writes a number of at most two digits, with no zero before it.
+fn write_plain(n: u32, out: &mut [u8], place: usize) -> usize
+    requires { ⌜ place + 2 ≤ length (now out) ⌝ }
+    ensures { λ r. ⌜ Wrote (now (out .entry)) place (plain n) r (now (out .exit)) ⌝ }
+{
+    let low = b'0' + (n % 10) as u8;
+    if n < 10 {
+        return copy(&[low], out, place);
+    }
+    copy(&[b'0' + (n / 10 % 10) as u8, low], out, place)
+}
+
 // What stands after a refused text: " REFUSED n".
 fn refused_end(refusal: Refusal) -> Verdict
     ensures { λ r. ⌜ r ≡ verdictAs (refused refusal) ⌝ }
 {
-    let n = refusal.number();
-    let low = b'0' + (n % 10) as u8;
     let mut end = *b" REFUSED \0\0\0\0\0\0\0\0\0\0\0\0\0\0";
-    if n < 10 {
-        end[9] = low;
-        end[10] = b'\n';
-        return Verdict {
-            is_accepted: false,
-            size: 11,
-            end,
-        };
-    }
-    end[9] = b'0' + (n / 10 % 10) as u8;
-    end[10] = low;
-    end[11] = b'\n';
+    let feed = write_plain(refusal.number(), &mut end, 9);
+    let size = copy(b"\n", &mut end, feed);
     Verdict {
         is_accepted: false,
-        size: 12,
+        size,
+        end,
+    }
+}
+
+// What stands after a text that goes wrong at a place: " REFUSED n place".
+fn wrong_end(refusal: Refusal, place: u8) -> Verdict
+    ensures { λ r. ⌜ r ≡ verdictAs (refusedAt refusal place) ⌝ }
+{
+    let mut end = *b" REFUSED \0\0\0\0\0\0\0\0\0\0\0\0\0\0";
+    let blank = write_plain(refusal.number(), &mut end, 9);
+    let after_blank = copy(b" ", &mut end, blank);
+    let feed = write_plain(place as u32, &mut end, after_blank);
+    let size = copy(b"\n", &mut end, feed);
+    Verdict {
+        is_accepted: false,
+        size,
         end,
     }
 }
@@ -123,6 +142,7 @@ pub(crate) fn judge(text: &[u8]) -> Verdict
             size: 23,
             end: accepted_end(c, a),
         },
+        ReadAnswer::Wrong(r, place) => wrong_end(r, place),
         ReadAnswer::Refused(r) => refused_end(r),
     }
 }

@@ -3,7 +3,8 @@ use Prim.Native.Nat.{ℕ, _<_}
 use mathlib.Core.Bool.{Bool, true, false}
 use mathlib.Core.Path.{_≡_, refl, ap, sym, _∙_}
 use mathlib.Core.List.{List, [], _∷_}
-use lib.ListN.{getD}
+use lib.Dec.{eqb}
+use lib.ListN.{length, getD}
 use mathlib.Core.Logic.{_⊎_, inr}
 use native.Mathlib.Omega.{arith}
 use borrow.Author.Tests.{eq-eqb, ne-eqb}
@@ -14,14 +15,15 @@ use Rattle.refusal.specs.declared.Refusal.{Refusal}
 use Rattle.refusal.specs.declared.Refusal.the-variants.{Room, State, Text, «Type», Range, Offset, Packet}
 use Rattle.refusal.specs.declared.Refusal.the-variants.{Address, Size, Damaged, Checksum, Full, NoChain}
 use Rattle.refusal.specs.declared.Refusal.the-variants.{OutOfTurn, TooLong, Signature, NoCall, Character}
-use Rattle.refusal.specs.Told.{numberOf, numberUnless, Told, told, refused, given, ask, numberTold, writtenBy}
+use Rattle.refusal.specs.declared.Refusal.the-variants.{DigitBeforeLetter, LeadingFour, DigitAfterLetter}
+use Rattle.refusal.specs.Told.{numberOf, numberUnless, Told, told, refused, refusedAt, given, ask, numberTold, writtenBy}
 
 -- the refusal of a number
 abbrev ofNumber : ℕ → Refusal
 ofNumber n =
     getD
     (Room ∷ Room ∷ State ∷ Text ∷ «Type» ∷ Range ∷ Offset ∷ Packet ∷ Address ∷ Size ∷ Damaged ∷ Checksum ∷ Full
-    ∷ NoChain ∷ OutOfTurn ∷ TooLong ∷ Signature ∷ NoCall ∷ Character ∷ [])
+    ∷ NoChain ∷ OutOfTurn ∷ TooLong ∷ Signature ∷ NoCall ∷ Character ∷ DigitBeforeLetter ∷ LeadingFour ∷ DigitAfterLetter ∷ [])
     n
     Room
 
@@ -44,6 +46,9 @@ ofNumber-back TooLong = refl
 ofNumber-back Signature = refl
 ofNumber-back NoCall = refl
 ofNumber-back Character = refl
+ofNumber-back DigitBeforeLetter = refl
+ofNumber-back LeadingFour = refl
+ofNumber-back DigitAfterLetter = refl
 
 -- two refusals of one number are the same
 pub number-tells : (a b : Refusal) → numberOf a ≡ numberOf b → a ≡ b
@@ -69,20 +74,41 @@ number-positive TooLong = omega arith
 number-positive Signature = omega arith
 number-positive NoCall = omega arith
 number-positive Character = omega arith
+number-positive DigitBeforeLetter = omega arith
+number-positive LeadingFour = omega arith
+number-positive DigitAfterLetter = omega arith
 
 -- the values of an answer
 abbrev pub toldValues : Told → List ℕ
 toldValues (told n values) = values
 
--- an answer that is no refusal is never told as one
-pub given-not-refused : (values : List ℕ) (r : Refusal) → given values ≡ refused r → ⊥
-given-not-refused values r e =
+-- a refusal's number is told as no 0
+pub number-some : (r : Refusal) → eqb (numberOf r) 0 ≡ false
+number-some r = ne-eqb (numberOf r) 0 (λ none. omega (arith, number-positive r))
+
+-- an answer that is no refusal is never told as one, whatever is told besides the number
+pub given-not-told : (values more : List ℕ) (r : Refusal) → given values ≡ told (numberOf r) more → ⊥
+given-not-told values more r e =
     let n : 0 ≡ numberOf r = ap numberTold e in
     omega (arith, number-positive r)
+
+-- an answer that is no refusal is never told as one that tells its number alone
+pub given-not-refused : (values : List ℕ) (r : Refusal) → given values ≡ refused r → ⊥
+given-not-refused values r = given-not-told values [] r
 
 -- two refusals told alike are the same
 pub refused-tells : (a b : Refusal) → refused a ≡ refused b → a ≡ b
 refused-tells a b e = number-tells a b (ap numberTold e)
+
+-- two refusals with a place told alike are the same, at the same place
+pub refused-at-tells : (a b : Refusal) (n m : ℕ) → refusedAt a n ≡ refusedAt b m → (a ≡ b) × (n ≡ m)
+refused-at-tells a b n m e = (number-tells a b (ap numberTold e), ap (λ (t : Told). getD (toldValues t) 0 0) e)
+
+-- a refusal with a place is never told as one without
+pub placed-not-refused : (a b : Refusal) (n : ℕ) → refusedAt a n ≡ refused b → ⊥
+placed-not-refused a b n e =
+    let one : _≡_ {A = ℕ} 1 0 = ap (λ (t : Told). length (toldValues t)) e in
+    omega arith
 
 -- a single value told alike is the same
 pub given-head : (a b : ℕ) → given (a ∷ []) ≡ given (b ∷ []) → a ≡ b

@@ -1,1 +1,2 @@
+pub mod Sentences
 pub mod Told

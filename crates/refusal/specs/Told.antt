@@ -10,8 +10,10 @@ use Rattle.refusal.specs.declared.Refusal.{Refusal}
 use Rattle.refusal.specs.declared.Refusal.the-variants.{Room, State, Text, «Type», Range, Offset, Packet}
 use Rattle.refusal.specs.declared.Refusal.the-variants.{Address, Size, Damaged, Checksum, Full, NoChain}
 use Rattle.refusal.specs.declared.Refusal.the-variants.{OutOfTurn, TooLong, Signature, NoCall, Character}
+use Rattle.refusal.specs.declared.Refusal.the-variants.{DigitBeforeLetter, LeadingFour, DigitAfterLetter}
 
--- 01, "The eighteen answers of no": the column No
+-- 01, "The eighteen answers of no": the column No; 02, item 1: "20 for a 4 at place 0, 19 for any other digit before the letter, 21 for a digit after
+-- the letter"
 abbrev pub numberOf : Refusal → ℕ
 numberOf Room = 1
 numberOf State = 2
@@ -31,6 +33,9 @@ numberOf TooLong = 15
 numberOf Signature = 16
 numberOf NoCall = 17
 numberOf Character = 18
+numberOf DigitBeforeLetter = 19
+numberOf LeadingFour = 20
+numberOf DigitAfterLetter = 21
 
 -- an answer as 01 tells it: the number of its refusal, or 0 where nothing is refused, and its values
 pub data Told : Type 0 where
@@ -39,6 +44,10 @@ pub data Told : Type 0 where
 -- a refusal that tells nothing besides its number
 abbrev pub refused : Refusal → Told
 refused r = told (numberOf r) []
+
+-- a refusal that tells a place besides its number
+abbrev pub refusedAt : Refusal → ℕ → Told
+refusedAt r place = told (numberOf r) (place ∷ [])
 
 -- an answer that is no refusal, with its values
 abbrev pub given : List ℕ → Told
@@ -57,11 +66,13 @@ numberUnless r good = pick good 0 (numberOf r)
 abbrev pub kept : Bool → ℕ → ℕ
 kept good n = pick good n 0
 
--- 01, "Order": the order in which the questions are asked. The first Room is the one for the chains' bytes, the last the one for every other buffer
-unfoldable pub order : List Refusal
+-- 01, "Order": the order in which the questions are asked, with the refusals that share a place. The first Room is the one for the chains' bytes, the
+-- last the one for every other buffer. 02, item 1: "19, 20 and 21 share 3's place in the order"
+unfoldable pub order : List (List Refusal)
 order =
-    Room ∷ State ∷ Text ∷ «Type» ∷ Range ∷ Offset ∷ Packet ∷ Address ∷ Size ∷ Damaged ∷ Checksum ∷ NoChain ∷ OutOfTurn
-    ∷ TooLong ∷ Character ∷ Signature ∷ Full ∷ NoCall ∷ Room ∷ []
+    (Room ∷ []) ∷ (State ∷ []) ∷ (Text ∷ DigitBeforeLetter ∷ LeadingFour ∷ DigitAfterLetter ∷ []) ∷ («Type» ∷ []) ∷ (Range ∷ []) ∷ (Offset ∷ [])
+    ∷ (Packet ∷ []) ∷ (Address ∷ []) ∷ (Size ∷ []) ∷ (Damaged ∷ []) ∷ (Checksum ∷ []) ∷ (NoChain ∷ []) ∷ (OutOfTurn ∷ []) ∷ (TooLong ∷ [])
+    ∷ (Character ∷ []) ∷ (Signature ∷ []) ∷ (Full ∷ []) ∷ (NoCall ∷ []) ∷ (Room ∷ []) ∷ []
 
 -- the number that is told
 abbrev pub numberTold : Told → ℕ

@@ -1,7 +1,47 @@
-// The eighteen answers of no (document 01, "The eighteen answers of no"), each under the paper's
-// word and with the paper's number.
+// The answers of no: 1 to 18 (document 01, "The eighteen answers of no"), each under the paper's word and with the paper's
+// number, and 19 to 21, into which 02, item 1 splits 3.
 ghost use mathlib.Core.Path.{_≡_};
 ghost use Rattle.refusal.specs.Told.{numberOf, numberUnless, kept};
+
+// The sentences for people, in one table.
+mod sentences;
+
+pub use sentences::in_words;
+
+// A sentence for a person: so many bytes, and zeros after them.
+pub struct Sentence {
+    pub bytes: [u8; 96],
+    pub length: usize,
+}
+
+impl Sentence {
+    // Rows of the table that tell where a CAPCODE's text goes wrong, and how to mend it.
+    pub const EMPTY_LINE: u32 = 40;
+
+    pub const NO_LETTER: u32 = 41;
+
+    pub const TOO_FEW_OF_SEVEN: u32 = 42;
+
+    pub const TOO_FEW_OF_TEN: u32 = 43;
+
+    pub const TOO_MANY_OF_SEVEN: u32 = 44;
+
+    pub const TOO_MANY_OF_TEN: u32 = 45;
+
+    pub const BYTE_ORDER_MARK: u32 = 46;
+
+    pub const BLANK_AT_THE_END: u32 = 47;
+
+    pub const BLANK: u32 = 48;
+
+    pub const LOWER_CASE: u32 = 49;
+
+    pub const LETTER_O: u32 = 50;
+
+    pub const DIGITS_BEFORE: u32 = 51;
+
+    pub const CHARACTER: u32 = 52;
+}
 
 // One refusal. When each is given is 01's table; the order in which several are asked is in specs/Told.
 pub enum Refusal {
@@ -9,7 +49,7 @@ pub enum Refusal {
     Room,
     // A register or a record that was handed back is outside its limits.
     State,
-    // A CAPCODE text that is not in the form.
+    // A CAPCODE text that is not in the form, and the byte where it goes wrong is no digit; a letter that no CAPCODE has.
     Text,
     // A CAPCODE of an all-phase letter, I to L or Z.
     Type,
@@ -41,10 +81,16 @@ pub enum Refusal {
     NoCall,
     // A character that is not in the set or is over 7FH, or ETX in a text to write.
     Character,
+    // A CAPCODE text that goes wrong at a digit before its letter.
+    DigitBeforeLetter,
+    // A CAPCODE text that begins with a 4, which no CAPCODE does: no digit means 4.
+    LeadingFour,
+    // A CAPCODE text that goes wrong at a digit after its letter, or stops too soon.
+    DigitAfterLetter,
 }
 
 impl Refusal {
-    // 01's number of a refusal, 1 to 18.
+    // The number of a refusal: 1 to 18 are 01's, 19 to 21 are 02's.
     pub fn number(self) -> u32
         ensures { λ r. ⌜ r ≡ numberOf self ⌝ }
     {
@@ -67,6 +113,9 @@ impl Refusal {
             Refusal::Signature => 16,
             Refusal::NoCall => 17,
             Refusal::Character => 18,
+            Refusal::DigitBeforeLetter => 19,
+            Refusal::LeadingFour => 20,
+            Refusal::DigitAfterLetter => 21,
         }
     }
 

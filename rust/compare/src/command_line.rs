@@ -2,7 +2,10 @@
 
 use crate::packets::Extent;
 
-const DEFAULT_LINES: u64 = 200_000;
+/// The fixed texts are fewer than 50,000, so that over 200,000 drawn ones follow.
+const DEFAULT_LINES: u64 = 250_000;
+/// The fixed texts, and as many drawn ones.
+const DEFAULT_EXPLAINED: u64 = 100_000;
 const DEFAULT_SEED: u64 = 5008;
 
 pub const USAGE: &str = "usage: compare exports EXCHANGE_COMMAND.. [--seed NUMBER]
@@ -14,6 +17,7 @@ pub const USAGE: &str = "usage: compare exports EXCHANGE_COMMAND.. [--seed NUMBE
        compare calls EXCHANGE_COMMAND.. [--seed NUMBER]
        compare start-up FILE EXCHANGE_COMMAND..
        compare lines LISTING_COMMAND.. [--count NUMBER] [--seed NUMBER]
+       compare explained LISTING_COMMAND.. [--count NUMBER] [--seed NUMBER]
        compare edges LISTING_COMMAND..
        compare write-lines COUNT [SEED]
        compare write-capcodes COUNT [SEED]
@@ -58,6 +62,11 @@ pub enum Task {
         exchange: Vec<String>,
     },
     Lines {
+        listing: Vec<String>,
+        count: u64,
+        seed: u64,
+    },
+    Explained {
         listing: Vec<String>,
         count: u64,
         seed: u64,
@@ -107,19 +116,27 @@ pub fn read(words: &[String]) -> Option<Task> {
         }
         "start-up" => read_start_up(rest),
         "lines" => read_lines(rest),
+        "explained" => read_explained(rest),
         "edges" => {
             let (listing, []) = command_and_numbers(rest, [])?;
             Some(Task::Edges { listing })
         }
+        other => read_writing(other, rest),
+    }
+}
+
+/// Of lines that are only written.
+fn read_writing(task: &str, words: &[String]) -> Option<Task> {
+    match task {
         "write-lines" => {
-            let (count, seed) = count_and_seed(rest)?;
+            let (count, seed) = count_and_seed(words)?;
             Some(Task::WriteLines { count, seed })
         }
         "write-capcodes" => {
-            let (count, seed) = count_and_seed(rest)?;
+            let (count, seed) = count_and_seed(words)?;
             Some(Task::WriteCapcodes { count, seed })
         }
-        "copy-lines" if rest.is_empty() => Some(Task::CopyLines),
+        "copy-lines" if words.is_empty() => Some(Task::CopyLines),
         _ => None,
     }
 }
@@ -152,6 +169,15 @@ fn read_lines(words: &[String]) -> Option<Task> {
     Some(Task::Lines {
         listing,
         count: count.unwrap_or(DEFAULT_LINES),
+        seed: seed.unwrap_or(DEFAULT_SEED),
+    })
+}
+
+fn read_explained(words: &[String]) -> Option<Task> {
+    let (listing, [count, seed]) = command_and_numbers(words, ["--count", "--seed"])?;
+    Some(Task::Explained {
+        listing,
+        count: count.unwrap_or(DEFAULT_EXPLAINED),
         seed: seed.unwrap_or(DEFAULT_SEED),
     })
 }
@@ -206,6 +232,22 @@ mod tests {
             seed: 7,
         };
         assert_eq!(read(&words(line)), Some(task));
+    }
+
+    #[test]
+    fn explained_lines_have_a_number_of_their_own() {
+        let explained = |count, seed| Task::Explained {
+            listing: words("run listing"),
+            count,
+            seed,
+        };
+        let task = explained(DEFAULT_EXPLAINED, DEFAULT_SEED);
+        assert_eq!(read(&words("explained run listing")), Some(task));
+        let line = "explained run listing --count 9 --seed 7";
+        assert_eq!(read(&words(line)), Some(explained(9, 7)));
+        for line in ["explained", "explained --seed 5", "explained run --count"] {
+            assert_eq!(read(&words(line)), None, "{line}");
+        }
     }
 
     #[test]

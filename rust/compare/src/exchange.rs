@@ -25,6 +25,8 @@ const BETWEEN_CHECKS: Duration = Duration::from_millis(20);
 pub trait Request: Send {
     /// The byte that names the export to the exchange program.
     const EXPORT: u8;
+    /// What the library is held against, as a difference tells it.
+    const YARDSTICK: &'static str = "second";
     type Answer: PartialEq + Debug;
 
     /// The same byte; only where one row of requests goes to several exports has
@@ -37,6 +39,7 @@ pub trait Request: Send {
     fn arguments(&self, bytes: &mut Vec<u8>);
     /// Takes the library's answer, field by field.
     fn library(&self, fields: &mut Fields) -> io::Result<Self::Answer>;
+    /// The second program's answer, or that of another yardstick.
     fn second(&self) -> Self::Answer;
     /// What is asked, in words; needed only where the answers differ.
     fn question(&self) -> String;
@@ -144,7 +147,7 @@ pub fn append_row<I: Item>(bytes: &mut Vec<u8>, row: &[I]) {
 
 /// Why the answers were not compared to their end.
 enum Break {
-    /// The library and the second program differ: the question and both answers.
+    /// The library and the yardstick differ: the question and both answers.
     Difference(String),
     /// The exchange program failed, in words.
     Fault(String),
@@ -250,8 +253,9 @@ fn compare_answer<R: Request>(
         return Ok(library);
     }
     Err(Break::Difference(format!(
-        "{}\n  library {library:?}\n  second  {second:?}",
-        request.question()
+        "{}\n  library {library:?}\n  {:<7} {second:?}",
+        request.question(),
+        R::YARDSTICK
     )))
 }
 

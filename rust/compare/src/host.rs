@@ -1,6 +1,6 @@
 //! The answers of the proved library's exports, as the exchange program hands
 //! them over. Every answer has the refusal's number first, 0 where nothing is
-//! refused; on refusal all other fields are 0.
+//! refused; on refusal all other fields are 0 unless the struct says otherwise.
 
 use std::fmt::{self, Debug, Formatter};
 use std::io;
@@ -66,6 +66,8 @@ impl MortisevaneAddress {
     }
 }
 
+/// What a CAPCODE text says. With 3 and 19 to 21 the place where it goes wrong is
+/// told beside the number; it is 0 else.
 #[derive(Clone, Copy, Debug, Default, PartialEq, Eq)]
 pub struct MortisevaneCapcode {
     pub number: u32,
@@ -74,6 +76,7 @@ pub struct MortisevaneCapcode {
     pub collapse: u32,
     pub phase: u8,
     pub base: u8,
+    pub place: u8,
     pub address: u64,
 }
 
@@ -86,6 +89,7 @@ impl MortisevaneCapcode {
             collapse: fields.u32()?,
             phase: fields.u8()?,
             base: fields.u8()?,
+            place: fields.u8()?,
             address: fields.u64()?,
         })
     }

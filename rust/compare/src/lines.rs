@@ -12,19 +12,26 @@ const INPUTS: u64 = 8;
 const BUFFER_BYTES: usize = 1 << 16;
 
 pub fn compare(listing: &[String], count: u64, seed: u64) -> Result<String, String> {
-    let mut texts = Texts::new(seed);
     let mut bytes = 0;
-    for index in 0..INPUTS {
-        let size = count * (index + 1) / INPUTS - count * index / INPUTS;
-        let mut input = Vec::new();
-        write_lines(&mut texts, size, &mut input).map_err(|error| error.to_string())?;
-        change_end(&mut input, index);
+    for input in inputs(count, seed) {
         agree(listing, &input, Feeding::AtOnce)?;
         bytes += input.len();
     }
     Ok(format!(
         "lines: {count} lines ({bytes} bytes, seed {seed}) compared, all agree"
     ))
+}
+
+/// The lines in several inputs with different ends.
+pub fn inputs(count: u64, seed: u64) -> impl Iterator<Item = Vec<u8>> {
+    let mut texts = Texts::new(seed);
+    (0..INPUTS).map(move |index| {
+        let size = count * (index + 1) / INPUTS - count * index / INPUTS;
+        let mut input = Vec::new();
+        write_lines(&mut texts, size, &mut input).expect("memory takes all");
+        change_end(&mut input, index);
+        input
+    })
 }
 
 /// Writes such lines as are compared, as one input.

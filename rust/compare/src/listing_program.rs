@@ -19,8 +19,7 @@ pub enum Feeding {
 /// Feeds the input to the program; the first line on which it and the second
 /// program differ is the error.
 pub fn agree(command: &[String], input: &[u8], feeding: Feeding) -> Result<(), String> {
-    let told = output_of(command, input, feeding)
-        .map_err(|error| format!("{}: {error}", command.join(" ")))?;
+    let told = output_of(command, input, feeding)?;
     let mut expected = Vec::new();
     list(input, &mut expected).map_err(|error| error.to_string())?;
     if told == expected {
@@ -30,7 +29,12 @@ pub fn agree(command: &[String], input: &[u8], feeding: Feeding) -> Result<(), S
     }
 }
 
-fn output_of(command: &[String], input: &[u8], feeding: Feeding) -> io::Result<Vec<u8>> {
+/// All that the program writes to standard output.
+pub fn output_of(command: &[String], input: &[u8], feeding: Feeding) -> Result<Vec<u8>, String> {
+    run(command, input, feeding).map_err(|error| format!("{}: {error}", command.join(" ")))
+}
+
+fn run(command: &[String], input: &[u8], feeding: Feeding) -> io::Result<Vec<u8>> {
     let mut child = start(command)?;
     let mut output = Vec::new();
     // Feeding and reading go side by side: a pipe holds only so much.

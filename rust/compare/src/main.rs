@@ -10,6 +10,7 @@ mod command_line;
 mod counted;
 mod edges;
 mod exchange;
+mod explained;
 mod exports;
 mod fragments;
 mod host;
@@ -63,20 +64,26 @@ fn carry_out(task: &Task) -> Result<(), String> {
             count,
             seed,
         } => lines::compare(listing, *count, *seed)?,
+        Task::Explained {
+            listing,
+            count,
+            seed,
+        } => explained::compare(listing, *count, *seed)?,
         Task::Edges { listing } => edges::compare(listing)?,
         Task::WriteLines { count, seed } => {
-            return lines::write(io::stdout().lock(), *count, *seed)
-                .map_err(|error| format!("the lines cannot be written: {error}"));
+            return all_written(lines::write(io::stdout().lock(), *count, *seed));
         }
         Task::WriteCapcodes { count, seed } => {
-            return lines::write_capcodes(io::stdout().lock(), *count, *seed)
-                .map_err(|error| format!("the lines cannot be written: {error}"));
+            return all_written(lines::write_capcodes(io::stdout().lock(), *count, *seed));
         }
         Task::CopyLines => {
-            return lines::copy(io::stdin().lock(), io::stdout().lock())
-                .map_err(|error| format!("the lines cannot be copied: {error}"));
+            return all_written(lines::copy(io::stdin().lock(), io::stdout().lock()));
         }
     };
     println!("{compared}");
     Ok(())
+}
+
+fn all_written(lines: io::Result<()>) -> Result<(), String> {
+    lines.map_err(|error| format!("the lines cannot be written: {error}"))
 }

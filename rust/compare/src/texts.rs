@@ -37,13 +37,15 @@ impl Texts {
         if let Some(text) = self.fixed.next() {
             return text;
         }
-        let mut text = match self.random.below(16) {
-            0..=5 => self.well_formed(),
+        let mut text = match self.random.below(17) {
+            0..=4 => self.well_formed(),
+            5 => self.cut_short(),
             6..=9 => self.pieced_together(),
             10..=11 => self.damaged(),
             12 => self.with_carriage_returns(),
             13 => self.bytes(24),
             14 => self.bytes(3),
+            15 => self.mistyped(),
             _ => self.printable(),
         };
         replace_line_feeds(&mut text);
@@ -95,6 +97,13 @@ impl Texts {
         let address = self.address();
         let width = if address <= 2_031_614 { 7 } else { 10 };
         text_of(&prefix, letter, address, width)
+    }
+
+    /// A text that only stops too soon, or a shorter one that is right.
+    fn cut_short(&mut self) -> Vec<u8> {
+        let mut text = self.well_formed();
+        text.truncate(self.random.below(text.len() as u64) as usize);
+        text
     }
 
     /// Every piece right or wrong by itself.
@@ -149,6 +158,29 @@ impl Texts {
             _ => {
                 let place = self.random.below(text.len() as u64) as usize;
                 text.insert(place, b'\r');
+            }
+        }
+        text
+    }
+
+    /// A good text as a hand may get it wrong: with blanks after it or a blank
+    /// within, in lower case, or with O for some of its zeros.
+    fn mistyped(&mut self) -> Vec<u8> {
+        let mut text = self.well_formed();
+        match self.random.below(4) {
+            0 => {
+                let length = text.len() + self.random.between(1, 8) as usize;
+                text.resize_with(length, || self.random.choose(b"  \t"));
+            }
+            1 => {
+                let place = self.random.below(text.len() as u64) as usize;
+                text.insert(place, b' ');
+            }
+            2 => text.make_ascii_lowercase(),
+            _ => {
+                for zero in text.iter_mut().filter(|byte| **byte == b'0') {
+                    *zero = self.random.choose(b"00Oo");
+                }
             }
         }
         text
@@ -289,6 +321,12 @@ mod tests {
             assert!(!texts.next_text().contains(&b'\n'));
         }
         assert!(!texts.long_text().contains(&b'\n'));
+    }
+
+    /// The lines that are compared unless told otherwise count on it.
+    #[test]
+    fn the_fixed_texts_are_fewer_than_50_000() {
+        assert!(fixed_texts().len() < 50_000);
     }
 
     #[test]

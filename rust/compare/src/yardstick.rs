@@ -2,7 +2,7 @@
 
 use second::address::{self, Words};
 use second::call::{Heard, Opened};
-use second::capcode::{self, Capcode};
+use second::capcode::{self, Capcode, Refused};
 use second::chain::{Joined, NotJoined};
 use second::frames::{self, Listener};
 use second::mirror::Mirror;
@@ -71,10 +71,18 @@ pub fn capcode_read(text: &[u8]) -> MortisevaneCapcode {
             collapse: capcode.collapse,
             phase: place.phase.number(),
             base: place.base_frame as u8,
+            place: 0,
             address: capcode.address,
         },
-        Err(refusal) => refused!(MortisevaneCapcode, refusal),
+        Err(Refused { refusal, place }) => MortisevaneCapcode {
+            place: place.map_or(0, as_byte),
+            ..refused!(MortisevaneCapcode, refusal)
+        },
     }
+}
+
+fn as_byte(place: usize) -> u8 {
+    u8::try_from(place).expect("no place is over 15")
 }
 
 pub fn capcode_assign(capcode: &Capcode) -> MortisevaneAssignment {

@@ -1,5 +1,5 @@
 //! The library: the exports of the crate `host`, file by file in the order of its `mod` lines, with the structs that
-//! they need, each once and after those that it holds, and the constants that a caller needs.
+//! they need, each once and after those that it holds, the constants that a caller needs, and what the refusals mean.
 
 use crate::names;
 use crate::source::{self, Constant, Function, Struct, Type};
@@ -38,19 +38,24 @@ pub enum Written {
 
 pub struct Library {
     pub groups: Vec<Group>,
+    /// What each refusal means, at the place of its number.
+    pub sentences: Vec<String>,
     pub sizes: Vec<Size>,
     pub parts: Vec<Part>,
 }
 
 /// The crate, the type, and what stands before the names.
 const GROUPS: [(&str, &str, &str, &str); 6] = [
-    ("refusal", "Refusal", "REFUSED", "The refusals, by the paper's numbers. A `number` of 0 says that nothing was refused."),
+    ("refusal", "Refusal", "REFUSED", "The refusals, by their numbers: 1 to 18 are the paper's, and those from 19 on came with later requests. A `number` of 0 says that nothing was refused."),
     ("capcode", "Class", "CLASS", "The classes of addresses."),
     ("packet", "Packet", "PACKET", "The IDs of packets, the highest byte of their 32 bits. The same ID means one thing to the decoder and another from it."),
     ("packet", "Vector", "VECTOR", "The types of vectors."),
     ("packet", "ShortMessage", "SHORT_MESSAGE", "The types of short messages."),
     ("packet", "Instruction", "INSTRUCTION", "The types of short instructions."),
 ];
+
+/// The file of the sentences for people, and the constant in it that is their table, a line for each.
+const SENTENCES: (&str, &str) = ("crates/refusal/src/sentences.rt", "TABLE");
 
 /// The name, what it is, and the crate and constant that it is.
 const LIMITS: [(&str, &str, &str, &str); 6] = [
@@ -193,6 +198,34 @@ pub fn group(tree: &Tree, of: &str, owner: &str) -> Result<Vec<Constant>, String
     Ok(own)
 }
 
+/// The text of a table's row, from its line in the source, where a line feed is written after it. It is one that any
+/// language writes as it is, and has no blank before it, which would not be part of the table.
+fn plain_row(line: &str) -> Option<&str> {
+    let row = line.strip_suffix("\\n\\").or(line.strip_suffix("\\n\";"))?;
+    let is_plain = row.bytes().all(|byte| matches!(byte, b' '..=b'~') && !matches!(byte, b'\\' | b'"'));
+    (is_plain && !row.starts_with(' ')).then_some(row)
+}
+
+/// What each refusal means, at the place of its number. The rows after those of the refusals are left out.
+pub fn sentences(tree: &Tree, refusals: &[Constant]) -> Result<Vec<String>, String> {
+    let (path, name) = SENTENCES;
+    let home = tree.files.iter().find(|file| file.path == path);
+    let lines = home.and_then(|file| file.source.texts.get(name));
+    let lines = lines.ok_or(format!("{path}: there is no table {name} of the sentences for people"))?;
+    let mut rows = Vec::new();
+    for line in lines {
+        let row = plain_row(line);
+        rows.push(row.ok_or(format!("{path}: row {} of {name} is not plain text: {line}", rows.len()))?.to_string());
+    }
+    let is_told = |refusal: &Constant| rows.get(refusal.value as usize).is_some_and(|row| !row.is_empty());
+    if let Some(silent) = refusals.iter().find(|refusal| !is_told(refusal)) {
+        return Err(format!("{path}: refusal {}, {}, has no sentence in {name}", silent.value, silent.name));
+    }
+    let last = refusals.iter().map(|refusal| refusal.value as usize).max();
+    rows.truncate(last.map_or(0, |last| last + 1));
+    Ok(rows)
+}
+
 /// The parts of the library: every file with exports. A library without any is refused.
 pub fn parts(tree: &Tree) -> Result<Vec<Part>, String> {
     let host: Vec<&File> = tree.files.iter().filter(|file| file.is_host()).collect();
@@ -215,10 +248,11 @@ pub fn read(root: &Path) -> Result<Library, String> {
     for (of, owner, prefix, about) in GROUPS {
         groups.push(Group { prefix, about, constants: group(&tree, of, owner)? });
     }
+    let sentences = sentences(&tree, &group(&tree, "refusal", "Refusal")?)?;
     let mut sizes = Vec::new();
     for (name, about, of, constant) in LIMITS {
         sizes.push(Size { name, about, value: Written::Number(limit(&tree, of, constant)?) });
     }
     sizes.extend(FORMULAS.map(|(name, about, formula)| Size { name, about, value: Written::Formula(formula) }));
-    Ok(Library { groups, sizes, parts })
+    Ok(Library { groups, sentences, sizes, parts })
 }

@@ -20,6 +20,11 @@ use core::mem::{offset_of, size_of};
 pub type Size = u64;
 ";
 
+const SENTENCES_TOP: &str = "
+/// What each refusal means, in a sentence for people, at the place of its number. The one at place 0, where nothing was
+/// refused, is empty.
+";
+
 const LAYOUT_TOP: &str = "
 // The layout of every struct, in bytes: how large it is, and where each of its fields stands. The library was compiled
 // for this one. A compiler that lays a struct out otherwise stops here.
@@ -105,6 +110,12 @@ fn group(known: &Group) -> String {
     written
 }
 
+/// What the refusals mean, a line for each.
+fn sentences(known: &[String]) -> String {
+    let rows: String = known.iter().map(|row| format!("    \"{row}\",\n")).collect();
+    format!("{SENTENCES_TOP}pub const SENTENCES: [&str; {}] = [\n{rows}];\n", known.len())
+}
+
 fn size(known: &Size) -> String {
     let value = match &known.value {
         Written::Number(value) => value.to_string(),
@@ -138,5 +149,7 @@ pub fn declarations(library: &Library) -> String {
     let groups: String = library.groups.iter().map(group).collect();
     let sizes: String = library.sizes.iter().map(size).collect();
     let parts: String = library.parts.iter().map(part).collect();
-    format!("{TOP}{groups}\n// Limits, and how much memory is to be lent.\n{sizes}{parts}{LAYOUT_TOP}{layout}")
+    let sentences = sentences(&library.sentences);
+    let limits = format!("\n// Limits, and how much memory is to be lent.\n{sizes}");
+    format!("{TOP}{groups}{sentences}{limits}{parts}{LAYOUT_TOP}{layout}")
 }

@@ -1,6 +1,7 @@
 //! One Rattle source file, as far as exports go: its `mod` and `use` lines, the names of its items, the structs that
-//! cross to C, constants, the numbers of enums, and the exported functions, each with the comment above it. It is read
-//! line by line, which is enough because the tests hold every source to the layout of `rt fmt`.
+//! cross to C, constants, the numbers of enums, and the exported functions, each with the comment above it; and the lines
+//! of a constant that is a text. It is read line by line, which is enough because the tests hold every source to the layout
+//! of `rt fmt`.
 
 use std::collections::{BTreeMap, BTreeSet};
 
@@ -67,6 +68,8 @@ pub struct Source {
     pub items: BTreeSet<String>,
     pub structs: Vec<Struct>,
     pub constants: Vec<Constant>,
+    /// The lines of a constant that is a text, as they are written, by its name.
+    pub texts: BTreeMap<String, Vec<String>>,
     pub functions: Vec<Function>,
     /// The comment of an enum's variant, by `Enum::Variant`.
     pub variants: BTreeMap<String, Vec<String>>,
@@ -74,6 +77,12 @@ pub struct Source {
 
 /// How the line of an exported function begins.
 const EXPORT: &str = "pub extern \"C\" fn ";
+
+/// How the first line of a constant ends that is a text, whose own lines follow.
+const TEXT: &str = " = *b\"\\";
+
+/// How the last line of such a text ends.
+const TEXT_END: &str = "\";";
 
 /// How the lines of items begin that have a name, without their `pub`.
 const ITEMS: [&str; 7] = ["struct ", "enum ", "const fn ", "const ", "fn ", "extern \"C\" fn ", "type "];
@@ -199,9 +208,26 @@ impl Reader<'_> {
         Ok(())
     }
 
-    /// `NAME: type = value;`, where the value is a number.
+    /// The lines of a text, with the one that ends it.
+    fn text(&mut self) -> Vec<String> {
+        let mut lines = Vec::new();
+        for line in self.lines.by_ref() {
+            lines.push(line.to_string());
+            if line.ends_with(TEXT_END) {
+                break;
+            }
+        }
+        lines
+    }
+
+    /// `NAME: type = value;`, where the value is a number or a text.
     fn constant(&mut self, text: &str) {
         let comment = self.comment();
+        if let Some((name, _)) = text.strip_suffix(TEXT).and_then(|first| first.split_once(':')) {
+            let lines = self.text();
+            self.read.texts.insert(name.to_string(), lines);
+            return;
+        }
         let value = text.split_once(" = ").and_then(|(_, rest)| number(rest.split(';').next()?));
         if let (Some((name, _)), Some(value)) = (text.split_once(':'), value) {
             self.read.constants.push(Constant { of: self.of.clone(), name: name.to_string(), comment, value });
@@ -375,6 +401,15 @@ mod tests {
         let read = read(text).unwrap();
         let numbers: Vec<(&str, u64)> = read.constants.iter().map(|known| (&known.name[..], known.value)).collect();
         assert_eq!(numbers, [("First", 1)]);
+    }
+
+    #[test]
+    fn the_lines_of_a_text_are_no_items() {
+        let text = "const TABLE: [u8; 9] = *b\"\\\n\\n\\\nmod none\\n\\\n// none\\n\";\n\nconst AFTER: u32 = 5;\n";
+        let read = read(text).unwrap();
+        assert_eq!(read.texts["TABLE"], ["\\n\\", "mod none\\n\\", "// none\\n\";"]);
+        assert_eq!((read.modules.len(), read.constants.len(), read.constants[0].value), (0, 1, 5));
+        assert_eq!(read.items.iter().collect::<Vec<_>>(), ["AFTER", "TABLE"]);
     }
 
     #[test]

@@ -47,7 +47,7 @@ impl Drop for Folder {
 /// The library of a tree that has none of the real one's constants.
 fn library_of(root: &Path) -> Result<Library, String> {
     let parts = library::parts(&tree::read(root)?)?;
-    Ok(Library { groups: Vec::new(), sizes: Vec::new(), parts })
+    Ok(Library { groups: Vec::new(), sentences: Vec::new(), sizes: Vec::new(), parts })
 }
 
 pub fn read(crates: &str, files: &[(&str, &str)]) -> Result<Library, String> {
@@ -209,6 +209,57 @@ fn a_variant_with_two_numbers_is_refused() {
     let tree = tree::read(&folder.root).unwrap();
     let told = library::group(&tree, "packet", "Vector").unwrap_err();
     assert_eq!(told, "the crate packet gives Vector::Short two numbers");
+}
+
+const REFUSALS: &str = "// Refusals.\nmod sentences;\n\npub enum Refusal {\n    Room,\n    State,\n}\n\n\
+    impl Refusal {\n            Refusal::Room => 1,\n            Refusal::State => 2,\n}\n";
+
+/// The sentences of a table whose lines in the source these are.
+fn sentences_of(table: &str) -> Result<Vec<String>, String> {
+    let table = format!("// Sentences.\nconst TABLE: [u8; 50] = *b\"\\\n{table}\n\nfn after() {{\n}}\n");
+    sentences_beside(&[("refusal/src/lib.rt", REFUSALS), ("refusal/src/sentences.rt", &table)])
+}
+
+fn sentences_beside(files: &[(&str, &str)]) -> Result<Vec<String>, String> {
+    let folder = Folder::new("refusal", files);
+    let tree = tree::read(&folder.root).unwrap();
+    library::sentences(&tree, &library::group(&tree, "refusal", "Refusal").unwrap())
+}
+
+#[test]
+fn a_refusal_has_its_sentence_at_the_place_of_its_number() {
+    let table = "\\n\\\nthe text's room is too short\\n\\\nuse no // such state\\n\\\n\\n\\\nwrite \\n\";";
+    let sentences = sentences_of(table).unwrap();
+    assert_eq!(sentences, ["", "the text's room is too short", "use no // such state"]);
+    let part = module("Sums.", "", "mortisevane_sum(word: u32) -> u32");
+    let library = Library { sentences, ..read("host", &[("host/src/lib.rt", &part)]).unwrap() };
+    let rows = "    \"\",\n    \"the text's room is too short\",\n    \"use no // such state\",\n";
+    let expected = format!("pub const SENTENCES: [&str; 3] = [\n{rows}];\n");
+    assert!(rust::declarations(&library).contains(&expected), "{}", rust::declarations(&library));
+    assert!(!c::header(&library).contains("room is too short"));
+}
+
+#[test]
+fn a_table_that_does_not_tell_each_refusal_is_refused() {
+    let path = "crates/refusal/src/sentences.rt";
+    let missing = format!("{path}: there is no table TABLE of the sentences for people");
+    let without = REFUSALS.replace("mod sentences;\n", "");
+    assert_eq!(sentences_beside(&[("refusal/src/lib.rt", &without)]), Err(missing.clone()));
+    let number = "// Sentences.\nconst TABLE: u32 = 5;\n";
+    let files = [("refusal/src/lib.rt", REFUSALS), ("refusal/src/sentences.rt", number)];
+    assert_eq!(sentences_beside(&files), Err(missing));
+    let silent = Err(format!("{path}: refusal 2, State, has no sentence in TABLE"));
+    assert_eq!(sentences_of("\\n\\\ntoo short\\n\";"), silent);
+    assert_eq!(sentences_of("\\n\\\ntoo short\\n\\\n\\n\\\nwrite\\n\";"), silent);
+}
+
+#[test]
+fn a_row_that_is_not_plain_text_is_refused() {
+    let rows = ["a \\x41", "a \\\"word\\\"", "a\ttab", "no caf\u{e9}", " a blank before it", "two\\nrows"];
+    for row in rows.map(|row| format!("{row}\\n\\")).iter().map(String::as_str).chain(["no line feed\\", ""]) {
+        let told = sentences_of(&format!("\\n\\\ntoo short\\n\\\n{row}\nno state\\n\";")).unwrap_err();
+        assert_eq!(told, format!("crates/refusal/src/sentences.rt: row 2 of TABLE is not plain text: {row}"));
+    }
 }
 
 #[test]

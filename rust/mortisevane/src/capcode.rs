@@ -8,12 +8,16 @@
 //! assert_eq!((capcode.phase(), capcode.base_frame()), (Phase::A, 0));
 //! assert_eq!(capcode.to_string(), "D0000003");
 //!
-//! assert_eq!(Capcode::read(b"D0000002"), Err(Refusal::Offset));
-//! // The zeros belong to the text.
-//! assert_eq!(Capcode::read(b"E1234"), Err(Refusal::Text));
+//! // The address is below the letter's offset: no place of the text is to blame.
+//! let refused = Capcode::read(b"D0000002").unwrap_err();
+//! assert_eq!((refused.refusal, refused.place), (Refusal::Offset, None));
+//! // The zeros belong to the text: this one stops too soon, after five bytes.
+//! let refused = Capcode::read(b"E1234").unwrap_err();
+//! assert_eq!((refused.refusal, refused.place), (Refusal::DigitAfterLetter, Some(5)));
 //! # Ok::<(), Refusal>(())
 //! ```
 
+use core::error::Error;
 use core::fmt;
 use core::str::{self, FromStr};
 
@@ -63,6 +67,51 @@ impl fmt::Display for Phase {
     }
 }
 
+/// A text that was refused.
+///
+/// ```
+/// use mortisevane::{Capcode, Refusal};
+///
+/// // A frame is 127 at most, so that after 12 no 8 can stand.
+/// let refused = Capcode::read(b"1284Y0001234").unwrap_err();
+/// assert_eq!((refused.refusal, refused.place), (Refusal::DigitBeforeLetter, Some(2)));
+/// let meaning = "a digit that cannot stand here: A to L take one digit or none, U to Z 000 to 127 and one more";
+/// assert_eq!(refused.to_string(), format!("refused 19: {meaning}, at place 2"));
+/// assert_eq!(Refusal::from(refused), Refusal::DigitBeforeLetter);
+/// ```
+#[derive(Clone, Copy, Debug, PartialEq, Eq, Hash)]
+pub struct Refused {
+    /// The refusal.
+    pub refusal: Refusal,
+    /// Where a text that is not in the form goes wrong: the place, counted from 0, of the first byte at which no correct
+    /// text could go on. It is the text's length where the text only stops too soon, and never over [`CAPCODE_BYTES`].
+    /// So it is with [`Refusal::Text`], [`Refusal::DigitBeforeLetter`], [`Refusal::LeadingFour`] and
+    /// [`Refusal::DigitAfterLetter`]; the others have no place.
+    pub place: Option<usize>,
+}
+
+impl fmt::Display for Refused {
+    fn fmt(&self, out: &mut fmt::Formatter<'_>) -> fmt::Result {
+        write!(out, "{}", self.refusal)?;
+        match self.place {
+            Some(place) => write!(out, ", at place {place}"),
+            None => Ok(()),
+        }
+    }
+}
+
+impl Error for Refused {
+    fn source(&self) -> Option<&(dyn Error + 'static)> {
+        Some(&self.refusal)
+    }
+}
+
+impl From<Refused> for Refusal {
+    fn from(refused: Refused) -> Refusal {
+        refused.refusal
+    }
+}
+
 /// An accepted CAPCODE. It has one text, which [`Display`](fmt::Display) and [`Capcode::print`] write.
 #[derive(Clone, Copy, Debug, PartialEq, Eq, Hash)]
 pub struct Capcode {
@@ -77,8 +126,13 @@ pub struct Capcode {
 impl Capcode {
     /// Reads a text, without a line's end.
     ///
-    /// Refuses [`Refusal::Text`], [`Refusal::Type`], [`Refusal::Range`], [`Refusal::Offset`], the first that applies.
-    pub fn read(text: &[u8]) -> Result<Capcode, Refusal> {
+    /// Refuses [`Refusal::Text`], [`Refusal::DigitBeforeLetter`], [`Refusal::LeadingFour`],
+    /// [`Refusal::DigitAfterLetter`], each with the place where the text goes wrong, then [`Refusal::Type`],
+    /// [`Refusal::Range`], [`Refusal::Offset`], the first that applies. By the byte at that place it is
+    /// [`Refusal::LeadingFour`] for a 4 at the start, [`Refusal::DigitBeforeLetter`] for any other digit before the letter,
+    /// [`Refusal::DigitAfterLetter`] for a digit after the letter and where the text only stops too soon, and
+    /// [`Refusal::Text`] for any other byte.
+    pub fn read(text: &[u8]) -> Result<Capcode, Refused> {
         let read = ask!(mortisevane_capcode_read(lent text));
         let capcode = Capcode {
             letter: read.letter,
@@ -88,7 +142,13 @@ impl Capcode {
             phase: Phase::numbered(read.phase),
             base_frame: read.base.into(),
         };
-        told(read.number, capcode)
+        told(read.number, capcode).map_err(|refusal| {
+            let place = match refusal {
+                Refusal::Type | Refusal::Range | Refusal::Offset => None,
+                _ => Some(read.place.into()),
+            };
+            Refused { refusal, place }
+        })
     }
 
     /// The CAPCODE of a letter as a character, the frame that the text names (0 with A to H, whose text names none), the
@@ -144,10 +204,10 @@ impl Capcode {
 }
 
 impl FromStr for Capcode {
-    type Err = Refusal;
+    type Err = Refused;
 
     /// As [`Capcode::read`].
-    fn from_str(text: &str) -> Result<Capcode, Refusal> {
+    fn from_str(text: &str) -> Result<Capcode, Refused> {
         Capcode::read(text.as_bytes())
     }
 }

@@ -11,12 +11,12 @@ use core::mem::{offset_of, size_of};
 /// A length, a count or a place in a struct. It is as wide on a board of 32 bits as anywhere else.
 pub type Size = u64;
 
-// The refusals, by the paper's numbers. A `number` of 0 says that nothing was refused.
+// The refusals, by their numbers: 1 to 18 are the paper's, and those from 19 on came with later requests. A `number` of 0 says that nothing was refused.
 /// A lent buffer is too short for what is to stand in it.
 pub const REFUSED_ROOM: u32 = 1;
 /// A register or a record that was handed back is outside its limits.
 pub const REFUSED_STATE: u32 = 2;
-/// A CAPCODE text that is not in the form.
+/// A CAPCODE text that is not in the form, and the byte where it goes wrong is no digit; a letter that no CAPCODE has.
 pub const REFUSED_TEXT: u32 = 3;
 /// A CAPCODE of an all-phase letter, I to L or Z.
 pub const REFUSED_TYPE: u32 = 4;
@@ -48,6 +48,12 @@ pub const REFUSED_SIGNATURE: u32 = 16;
 pub const REFUSED_NO_CALL: u32 = 17;
 /// A character that is not in the set or is over 7FH, or ETX in a text to write.
 pub const REFUSED_CHARACTER: u32 = 18;
+/// A CAPCODE text that goes wrong at a digit before its letter.
+pub const REFUSED_DIGIT_BEFORE_LETTER: u32 = 19;
+/// A CAPCODE text that begins with a 4, which no CAPCODE does: no digit means 4.
+pub const REFUSED_LEADING_FOUR: u32 = 20;
+/// A CAPCODE text that goes wrong at a digit after its letter, or stops too soon.
+pub const REFUSED_DIGIT_AFTER_LETTER: u32 = 21;
 
 // The classes of addresses.
 /// The classes of addresses: short.
@@ -167,6 +173,33 @@ pub const SHORT_MESSAGE_SPARE: u32 = 3;
 /// The instruction type i (Table 38) that assigns a temporary address.
 pub const INSTRUCTION_TEMPORARY: u32 = 0;
 
+/// What each refusal means, in a sentence for people, at the place of its number. The one at place 0, where nothing was
+/// refused, is empty.
+pub const SENTENCES: [&str; 22] = [
+    "",
+    "the lent memory is too short",
+    "the state that was handed back is outside its limits",
+    "the text is not in the form of a CAPCODE",
+    "the letter is all-phase, which the decoder does not support",
+    "the address is in no accepted range",
+    "the address is below the offset of its letter",
+    "the packet or a field is not as its table says",
+    "the address number is over 31",
+    "the count or the span is outside the limits",
+    "a word is in error",
+    "K is not the sum of the words",
+    "no slot or call is free",
+    "no chain of this key is open",
+    "it is not the next one, or came before",
+    "the text is longer than the room for it",
+    "the text's total is not that of its message",
+    "no open call awaits it",
+    "a character is not in the set",
+    "a digit that cannot stand here: A to L take one digit or none, U to Z 000 to 127 and one more",
+    "a 4 at the start: no digit means 4, so leave it out",
+    "the text stops too soon, or has a digit too many after the letter",
+];
+
 // Limits, and how much memory is to be lent.
 /// Chains that can be open at a time.
 pub const SLOTS: usize = 8;
@@ -259,10 +292,12 @@ extern "C" {
 }
 
 // CAPCODEs, as C and Rust link them: numbers, slices and structs by value. Every function takes any input. `number` is 0,
-// or 01's number of the refusal; every other field is then 0.
+// or the number of the refusal; every other field is then 0, but for the place where a text goes wrong.
 
 /// A CAPCODE: its letter, the three frame digits of U to Y (0 with A to H), its collapse and address; and
-/// the phase (0 to 3 for A to D, 4 for any-phase) and base frame that it assigns.
+/// the phase (0 to 3 for A to D, 4 for any-phase) and base frame that it assigns. With a `number` of 3 or 19 to 21 `place` is
+/// that of the first byte, counted from 0, at which no correct text could go on: the text's length where it only stops too
+/// soon, and 15 at most. Else it is 0.
 #[repr(C)]
 #[derive(Clone, Copy, Debug, Default, PartialEq, Eq)]
 pub struct Capcode {
@@ -272,6 +307,7 @@ pub struct Capcode {
     pub collapse: u32,
     pub phase: u8,
     pub base: u8,
+    pub place: u8,
     pub address: u64,
 }
 
@@ -299,7 +335,9 @@ extern "C" {
     ///
     /// Answers its letter, frame digits, collapse and address, and the phase and base frame that it assigns.
     ///
-    /// Refuses 3, 4, 5, 6, the first that applies.
+    /// Refuses 3, 19, 20, 21, with the place at which the text goes wrong, then 4, 5, 6, the first that applies. By the byte at
+    /// that place 20 is a 4 at the start, 19 any other digit before the letter, 21 a digit after the letter, 3 any other byte; a
+    /// text that only stops too soon is 21.
     pub fn mortisevane_capcode_read(text: *const u8, text_length: usize) -> Capcode;
 
     /// The phase and base frame of a CAPCODE.
@@ -1388,6 +1426,7 @@ const _: () = assert!(offset_of!(Capcode, frame) == 8);
 const _: () = assert!(offset_of!(Capcode, collapse) == 12);
 const _: () = assert!(offset_of!(Capcode, phase) == 16);
 const _: () = assert!(offset_of!(Capcode, base) == 17);
+const _: () = assert!(offset_of!(Capcode, place) == 18);
 const _: () = assert!(offset_of!(Capcode, address) == 24);
 const _: () = assert!(size_of::<Assignment>() == 8);
 const _: () = assert!(offset_of!(Assignment, number) == 0);

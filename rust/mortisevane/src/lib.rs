@@ -5,7 +5,7 @@
 //! turns pointers and lengths into slices, and the number of a refusal into a [`Result`].
 //!
 //! Two rules run through all of it. A page and a CAPCODE are characters, so their zeros stay: `0417` is not `417`. And
-//! every input gets an answer: a value, or one of the eighteen refusals of [`Refusal`].
+//! every input gets an answer: a value, or one of the twenty-one refusals of [`Refusal`].
 //!
 //! | module | what it is for |
 //! |---|---|
@@ -24,7 +24,8 @@
 //! [`Calls`]) are plain numbers that a caller may keep anywhere and hand back: an unsound one is refused,
 //! [`Refusal::State`]. `Default` makes fresh chains and calls; a mirror begins with [`Mirror::reset`].
 //!
-//! In this documentation "01" is the paper that defines the pager host; S8.x and Table n are the PCD5008 data sheet's.
+//! In this documentation "01" is the paper that defines the pager host, and "02" the list of later change requests; S8.x
+//! and Table n are the PCD5008 data sheet's.
 //!
 //! # A start-up
 //!

@@ -1,10 +1,10 @@
-//! The eighteen refusals, by 01's numbers.
+//! The refusals by their numbers: 1 to 18 are 01's, and 19 to 21 those of 02, the list of later change requests.
 //!
 //! ```
 //! use mortisevane::{Capcode, Refusal};
 //!
 //! // D takes the offset 3, and 2 is below it.
-//! let refusal = Capcode::read(b"D0000002").unwrap_err();
+//! let refusal = Capcode::read(b"D0000002").unwrap_err().refusal;
 //! assert_eq!(refusal, Refusal::Offset);
 //! assert_eq!(refusal.number(), 6);
 //! assert_eq!(refusal.to_string(), "refused 6: the address is below the offset of its letter");
@@ -24,7 +24,7 @@ pub enum Refusal {
     Room = exports::REFUSED_ROOM,
     /// A register or a record that was handed back is outside its limits.
     State = exports::REFUSED_STATE,
-    /// A CAPCODE text that is not in the form.
+    /// A CAPCODE text that is not in the form, and the byte where it goes wrong is no digit; a letter that no CAPCODE has.
     Text = exports::REFUSED_TEXT,
     /// A CAPCODE of an all-phase letter, I to L or Z.
     Type = exports::REFUSED_TYPE,
@@ -56,11 +56,17 @@ pub enum Refusal {
     NoCall = exports::REFUSED_NO_CALL,
     /// A character that is not in the set or is over 7FH, or ETX in a text to write.
     Character = exports::REFUSED_CHARACTER,
+    /// A CAPCODE text that goes wrong at a digit before its letter.
+    DigitBeforeLetter = exports::REFUSED_DIGIT_BEFORE_LETTER,
+    /// A CAPCODE text that begins with a 4, which no CAPCODE does: no digit means 4.
+    LeadingFour = exports::REFUSED_LEADING_FOUR,
+    /// A CAPCODE text that goes wrong at a digit after its letter, or stops too soon.
+    DigitAfterLetter = exports::REFUSED_DIGIT_AFTER_LETTER,
 }
 
 impl Refusal {
     /// All of them, in the order of their numbers.
-    pub const ALL: [Refusal; 18] = [
+    pub const ALL: [Refusal; 21] = [
         Refusal::Room,
         Refusal::State,
         Refusal::Text,
@@ -79,34 +85,18 @@ impl Refusal {
         Refusal::Signature,
         Refusal::NoCall,
         Refusal::Character,
+        Refusal::DigitBeforeLetter,
+        Refusal::LeadingFour,
+        Refusal::DigitAfterLetter,
     ];
 
-    /// 01's number, 1 to 18.
+    /// Its number: 1 to 18 are 01's, 19 to 21 are 02's.
     pub const fn number(self) -> u32 {
         self as u32
     }
 
     const fn meaning(self) -> &'static str {
-        match self {
-            Refusal::Room => "the lent memory is too short",
-            Refusal::State => "the state that was handed back is outside its limits",
-            Refusal::Text => "the text is not in the form of a CAPCODE",
-            Refusal::Type => "the CAPCODE is an all-phase one",
-            Refusal::Range => "the address is in no accepted range",
-            Refusal::Offset => "the address is below the offset of its letter",
-            Refusal::Packet => "the packet or a field is not as its table says",
-            Refusal::Address => "the address number is over 31",
-            Refusal::Size => "the count or the span is outside the limits",
-            Refusal::Damaged => "a word is in error",
-            Refusal::Checksum => "K is not the sum of the words",
-            Refusal::Full => "no slot or call is free",
-            Refusal::NoChain => "no chain of this key is open",
-            Refusal::OutOfTurn => "it is not the next one, or came before",
-            Refusal::TooLong => "the text is longer than the room for it",
-            Refusal::Signature => "the text's total is not that of its message",
-            Refusal::NoCall => "no open call awaits it",
-            Refusal::Character => "a character is not in the set",
-        }
+        exports::SENTENCES[self.number() as usize]
     }
 }
 
@@ -136,7 +126,7 @@ impl Error for NoRefusal {}
 impl TryFrom<u32> for Refusal {
     type Error = NoRefusal;
 
-    /// The refusal of 01's number. 0, which says that nothing was refused, is none.
+    /// The refusal of this number. 0, which says that nothing was refused, is none.
     fn try_from(number: u32) -> Result<Refusal, NoRefusal> {
         Refusal::ALL.into_iter().find(|refusal| refusal.number() == number).ok_or(NoRefusal(number))
     }

@@ -1,7 +1,7 @@
 //! Addresses and CAPCODEs. The cases by number are 01's marked ones.
 
 use mortisevane::address::{self, Class, Words};
-use mortisevane::capcode::{Capcode, Phase, CAPCODE_BYTES};
+use mortisevane::capcode::{Capcode, Phase, Refused, CAPCODE_BYTES};
 use mortisevane::Refusal;
 
 #[test]
@@ -55,7 +55,10 @@ fn no_address_and_no_words() {
 fn listed(text: &str) -> String {
     let capcode: Capcode = match text.parse() {
         Ok(capcode) => capcode,
-        Err(refusal) => return format!("{text} REFUSED {}", Refusal::number(refusal)),
+        Err(Refused { refusal, place }) => {
+            let place = place.map_or(String::new(), |place| format!(" {place}"));
+            return format!("{text} REFUSED {}{place}", refusal.number());
+        }
     };
     let (first, second) = match address::words(capcode.address()).expect("a CAPCODE's address is accepted") {
         Words::Short(word) => (word, "------".to_string()),
@@ -73,10 +76,43 @@ fn the_sample_is_listed() {
 
 #[test]
 fn cases_6_and_7() {
-    assert_eq!(Capcode::read(b"D0000002"), Err(Refusal::Offset));
+    assert_eq!(Capcode::read(b"D0000002"), Err(Refused { refusal: Refusal::Offset, place: None }));
     let capcode = Capcode::read(b"D0000003").unwrap();
     assert_eq!((capcode.phase(), capcode.base_frame()), (Phase::A, 0));
-    assert_eq!(Capcode::read(b""), Err(Refusal::Text));
+}
+
+#[test]
+fn where_a_text_goes_wrong() {
+    let cases = [
+        ("", Refusal::DigitAfterLetter, 0),
+        ("12", Refusal::DigitAfterLetter, 2),
+        ("E1234", Refusal::DigitAfterLetter, 5),
+        ("A2101249", Refusal::DigitAfterLetter, 8),
+        // No ten digits that begin so are over 2031614.
+        ("A0000001234", Refusal::DigitAfterLetter, 8),
+        ("1275Y42910000000", Refusal::DigitAfterLetter, 15),
+        ("4A0001234", Refusal::LeadingFour, 0),
+        ("6A0001234", Refusal::DigitBeforeLetter, 0),
+        ("23A", Refusal::DigitBeforeLetter, 1),
+        ("1284Y0001234", Refusal::DigitBeforeLetter, 2),
+        ("00744U0001234", Refusal::DigitBeforeLetter, 4),
+        ("a0001234", Refusal::Text, 0),
+        ("00A0001234", Refusal::Text, 2),
+        ("E000123x", Refusal::Text, 7),
+        ("E0001234\r", Refusal::Text, 8),
+    ];
+    for (text, refusal, place) in cases {
+        let refused = Refused { refusal, place: Some(place) };
+        assert_eq!(Capcode::read(text.as_bytes()), Err(refused), "{text:?}");
+        assert_eq!(text.parse::<Capcode>(), Err(refused), "{text:?}");
+    }
+}
+
+#[test]
+fn a_text_in_the_form_is_refused_without_a_place() {
+    for (text, refusal) in [("I0001234", Refusal::Type), ("A1933313", Refusal::Range), ("G0000001", Refusal::Offset)] {
+        assert_eq!(Capcode::read(text.as_bytes()), Err(Refused { refusal, place: None }), "{text}");
+    }
 }
 
 #[test]

@@ -1,5 +1,8 @@
-//! CAPCODEs: their text (01, house form of S8.6.2), and the phase and base
-//! frame they stand for (S8.6.5).
+//! CAPCODEs: their text (01, house form of S8.6.2), where a text that is not in
+//! the form goes wrong (02, item 1), and the phase and base frame they stand for
+//! (S8.6.5).
+
+use std::ops::RangeInclusive;
 
 use crate::address::address_class;
 use crate::refusal::Refusal;
@@ -45,6 +48,26 @@ pub struct Place {
     pub base_frame: u32,
 }
 
+/// A text that was refused.
+#[derive(Clone, Copy, Debug, PartialEq, Eq)]
+pub struct Refused {
+    pub refusal: Refusal,
+    /// Of a text that is not in the form (3, 19, 20, 21): the place, counted from
+    /// 0, of the first byte at which no correct text could go on. It is the
+    /// text's length where the text only stops too soon.
+    pub place: Option<usize>,
+}
+
+/// The other refusals belong to no place of the text.
+impl From<Refusal> for Refused {
+    fn from(refusal: Refusal) -> Refused {
+        Refused {
+            refusal,
+            place: None,
+        }
+    }
+}
+
 /// The collapse value that A to H have when their text shows none (S8.6.2).
 const STANDARD_COLLAPSE: u32 = 4;
 /// 01 takes collapse values 0 to 5 only.
@@ -53,6 +76,8 @@ pub const LARGEST_COLLAPSE: u32 = 5;
 pub const LARGEST_FRAME: u32 = 127;
 /// Up to here an address is written with seven digits, above with ten (01).
 const LARGEST_SEVEN_DIGIT_ADDRESS: u64 = 2_031_614;
+/// The last number that ten digits can say.
+const LARGEST_TEN_DIGIT_ADDRESS: u64 = 9_999_999_999;
 /// Three frame digits, a collapse digit, the letter, ten address digits.
 pub const LONGEST_TEXT: usize = 15;
 
@@ -93,10 +118,10 @@ fn letter_type(letter: u8) -> Option<LetterType> {
     })
 }
 
-/// Reads a CAPCODE text. The form is judged whole before anything else (3),
-/// then the letter's type (4), the range (5) and the offset (6).
-pub fn read(text: &[u8]) -> Result<Capcode, Refusal> {
-    let (capcode, letter_type) = read_form(text).ok_or(Refusal::Text)?;
+/// Reads a CAPCODE text. The form is judged whole before anything else (3, 19,
+/// 20, 21), then the letter's type (4), the range (5) and the offset (6).
+pub fn read(text: &[u8]) -> Result<Capcode, Refused> {
+    let (capcode, letter_type) = read_form(text).ok_or_else(|| no_form(text))?;
     check_address(capcode.address, letter_type)?;
     Ok(capcode)
 }
@@ -173,6 +198,86 @@ fn address_length(address: u64) -> usize {
     }
 }
 
+/// What is told of a text that is not in the form, by the byte at the place
+/// where it goes wrong. What stands before that place begins a correct text, so
+/// that anything but digits there is the letter.
+#[cold]
+fn no_form(text: &[u8]) -> Refused {
+    let place = fitting(text);
+    let before_letter = text[..place].iter().all(u8::is_ascii_digit);
+    let refusal = match text.get(place) {
+        None => Refusal::DigitAfterLetter,
+        Some(b'4') if place == 0 => Refusal::LeadingFour,
+        Some(b'0'..=b'9') if before_letter => Refusal::DigitBeforeLetter,
+        Some(b'0'..=b'9') => Refusal::DigitAfterLetter,
+        Some(_) => Refusal::Text,
+    };
+    Refused {
+        refusal,
+        place: Some(place),
+    }
+}
+
+/// How many bytes from the text's start are the beginning of some correct text.
+/// A correct text has one of three shapes: the letter comes first, after a
+/// collapse digit, or after three frame digits and a collapse digit.
+fn fitting(text: &[u8]) -> usize {
+    let by_letter = fitting_from_letter(text, 0, false);
+    let by_collapse = match text {
+        [b'0'..=b'3' | b'5', ..] => fitting_from_letter(text, 1, false),
+        _ => 0,
+    };
+    by_letter.max(by_collapse).max(fitting_with_frame(text))
+}
+
+/// How many bytes from the text's start fit the shape in which three frame digits
+/// and a collapse digit stand before the letter.
+fn fitting_with_frame(text: &[u8]) -> usize {
+    let frame = fitting_digits(text, 3, 0..=u64::from(LARGEST_FRAME));
+    if frame < 3 {
+        return frame;
+    }
+    match fitting_digits(&text[3..], 1, 0..=u64::from(LARGEST_COLLAPSE)) {
+        1 => fitting_from_letter(text, 4, true),
+        _ => 3,
+    }
+}
+
+/// How many bytes from the text's start fit a shape whose digits before the
+/// letter are known to fit. With a letter of the right family at its place the
+/// address counts too, in the width that fits longer.
+fn fitting_from_letter(text: &[u8], place: usize, frame_given: bool) -> usize {
+    match text.get(place).copied().and_then(letter_type) {
+        Some(letter_type) if letter_type.frame_given == frame_given => {
+            let digits = &text[place + 1..];
+            let longer = LARGEST_SEVEN_DIGIT_ADDRESS + 1..=LARGEST_TEN_DIGIT_ADDRESS;
+            let seven = fitting_digits(digits, 7, 0..=LARGEST_SEVEN_DIGIT_ADDRESS);
+            place + 1 + seven.max(fitting_digits(digits, 10, longer))
+        }
+        _ => place,
+    }
+}
+
+/// How many bytes from the start are digits with which some number of the range
+/// begins that is written with so many digits. Filled up with zeros they must
+/// not be over the range, and filled up with nines not under it.
+fn fitting_digits(bytes: &[u8], width: usize, range: RangeInclusive<u64>) -> usize {
+    let mut filled_with_zeros = 0;
+    let mut unit = 10_u64.pow(width as u32);
+    for place in 0..width {
+        let Some(digit @ b'0'..=b'9') = bytes.get(place) else {
+            return place;
+        };
+        unit /= 10;
+        filled_with_zeros += u64::from(digit - b'0') * unit;
+        let filled_with_nines = filled_with_zeros + unit - 1;
+        if filled_with_zeros > *range.end() || filled_with_nines < *range.start() {
+            return place;
+        }
+    }
+    width
+}
+
 /// Refusals 4, 5 and 6, which a text and a value have in common.
 fn check_address(address: u64, letter_type: LetterType) -> Result<(), Refusal> {
     if letter_type.phase_rule == PhaseRule::AllPhases {
@@ -185,8 +290,8 @@ fn check_address(address: u64, letter_type: LetterType) -> Result<(), Refusal> {
     Ok(())
 }
 
-/// Refusals of a CAPCODE value handed in: those of a text, then 7 for fields
-/// that no text could hold.
+/// Refusals of a CAPCODE value handed in: 3 for a letter that no CAPCODE has, 4
+/// to 6 as of a text, then 7 for fields that no text could hold.
 fn check_value(capcode: &Capcode) -> Result<LetterType, Refusal> {
     let letter_type = letter_type(capcode.letter).ok_or(Refusal::Text)?;
     check_address(capcode.address, letter_type)?;
@@ -208,8 +313,8 @@ pub fn place(capcode: &Capcode) -> Result<Place, Refusal> {
 }
 
 /// Reads a text and tells its place as well, judging it once.
-pub fn read_with_place(text: &[u8]) -> Result<(Capcode, Place), Refusal> {
-    let (capcode, letter_type) = read_form(text).ok_or(Refusal::Text)?;
+pub fn read_with_place(text: &[u8]) -> Result<(Capcode, Place), Refused> {
+    let (capcode, letter_type) = read_form(text).ok_or_else(|| no_form(text))?;
     check_address(capcode.address, letter_type)?;
     Ok((capcode, place_by_type(&capcode, letter_type)))
 }
@@ -272,7 +377,16 @@ mod tests {
         }
     }
 
-    fn place_of(text: &str) -> Result<(Phase, u32), Refusal> {
+    /// The number and the place that a text is refused with; 16 bytes decide.
+    fn refused(text: impl AsRef<[u8]>) -> (u32, Option<usize>) {
+        let text = text.as_ref();
+        let refused = read(text).expect_err("the text is refused");
+        assert_eq!(read_with_place(text), Err(refused));
+        assert_eq!(read(&text[..text.len().min(16)]), Err(refused));
+        (refused.refusal.number(), refused.place)
+    }
+
+    fn place_of(text: &str) -> Result<(Phase, u32), Refused> {
         let capcode = read(text.as_bytes())?;
         let place = place(&capcode)?;
         assert_eq!(read_with_place(text.as_bytes()), Ok((capcode, place)));
@@ -282,16 +396,16 @@ mod tests {
     /// 01, proved examples 6 and 7.
     #[test]
     fn marked_cases() {
-        assert_eq!(read(b"D0000002"), Err(Refusal::Offset));
+        assert_eq!(refused("D0000002"), (6, None));
         assert_eq!(place_of("D0000003"), Ok((Phase::A, 0)));
     }
 
-    /// 01, "Run, not proved".
+    /// 01, "Run, not proved", with the numbers of 02, item 1.
     #[test]
     fn run_cases() {
-        assert_eq!(read(b"A1933313"), Err(Refusal::Range));
-        assert_eq!(read(b"A2101249"), Err(Refusal::Text));
-        assert_eq!(read(b"4A0001234"), Err(Refusal::Text));
+        assert_eq!(refused("A1933313"), (5, None));
+        assert_eq!(refused("A2101249"), (21, Some(8)));
+        assert_eq!(refused("4A0001234"), (20, Some(0)));
     }
 
     #[test]
@@ -304,43 +418,129 @@ mod tests {
             read(b"0000Y4291000000"),
             Ok(value(b'Y', 4_291_000_000, 0, 0))
         );
-        let bad = [
-            "",
-            "A",
-            "A0000001234",
-            "A000123",
-            "A00001234",
-            "a0001234",
-            "M0001234",
-            "6A0001234",
-            "00A0001234",
-            "U0001234",
-            "4U0001234",
-            "077U0001234",
-            "1284U0001234",
-            "0776U0001234",
-            "00774U0001234",
-            "A000123 ",
-            " A0001234",
-            "A+001234",
-            "A0001234\r",
-        ];
-        for text in bad {
-            assert_eq!(read(text.as_bytes()), Err(Refusal::Text), "{text:?}");
+    }
+
+    #[track_caller]
+    fn assert_refused(number: u32, texts: &[(&str, usize)]) {
+        for (text, place) in texts {
+            assert_eq!(refused(text), (number, Some(*place)), "{text:?}");
         }
+    }
+
+    /// The byte where no correct text could go on is neither a digit nor missing.
+    #[test]
+    fn refused_3() {
+        let texts = [
+            ("a0001234", 0),
+            ("M0001234", 0),
+            ("U0001234", 0),
+            (" A0001234", 0),
+            ("0a0001234", 1),
+            ("1Y0001234", 1),
+            ("A+001234", 1),
+            ("AA0001234", 1),
+            ("00A0001234", 2),
+            ("077U0001234", 3),
+            ("0774A0001234", 4),
+            ("0774/0001234", 4),
+            ("0774:0001234", 4),
+            ("E000123x", 7),
+            ("A000123 ", 7),
+            ("A0001234\r", 8),
+            ("A0002101249A", 11),
+            ("1275Y4291000000 ", 15),
+        ];
+        assert_refused(3, &texts);
+        assert_eq!(refused(b"E00\xFF1234"), (3, Some(3)));
+    }
+
+    #[test]
+    fn refused_19() {
+        let texts = [
+            ("6A0001234", 0),
+            ("9", 0),
+            // Only a letter can stand after these: no frame begins so.
+            ("23A", 1),
+            ("33A0001234", 1),
+            ("54U0001234", 1),
+            ("13", 1),
+            ("199", 1),
+            ("1284U0001234", 2),
+            ("1284Y0001234", 2),
+            ("129", 2),
+            ("0776U0001234", 3),
+            // The frame is 007, and the 7 after it is no collapse.
+            ("00774U0001234", 3),
+            ("00744U0001234", 4),
+            ("000000000000000000", 4),
+        ];
+        assert_refused(19, &texts);
+    }
+
+    #[test]
+    fn refused_20() {
+        assert_refused(20, &[("4", 0), ("4A0001234", 0), ("4U0001234", 0)]);
+        assert_refused(20, &[("4I0001234", 0), ("44", 0), ("4 ", 0)]);
+    }
+
+    #[test]
+    fn refused_21_at_the_end() {
+        let texts = [
+            ("", 0),
+            ("0", 1),
+            ("5", 1),
+            ("A", 1),
+            ("12", 2),
+            ("127", 3),
+            ("1275", 4),
+            ("1275Y", 5),
+            ("E1234", 5),
+            ("A000123", 7),
+            // Seven digits over 2031614 can only be the first of ten.
+            ("A2031615", 8),
+            ("A2101249", 8),
+            ("A9999999", 8),
+            // Ten digits that begin so can be over 2031614.
+            ("A00020316", 9),
+            ("A000203161", 10),
+            ("A999999999", 10),
+            ("1275Y429100000", 14),
+        ];
+        assert_refused(21, &texts);
+    }
+
+    #[test]
+    fn refused_21_at_a_digit() {
+        let texts = [
+            // No ten digits that begin as these do up to the place, and with the
+            // digit there, are over 2031614.
+            ("A00001234", 8),
+            ("A0000001234", 8),
+            ("A0002030999", 8),
+            ("A00020315", 8),
+            ("A000203160", 9),
+            ("A0002031614", 10),
+            // An eleventh digit.
+            ("A00021012490", 11),
+            ("1275Y42910000000", 15),
+            ("1275Y429100000000000000000", 15),
+        ];
+        assert_refused(21, &texts);
     }
 
     #[test]
     fn order_of_refusals() {
         // The form before the letter, the letter before the range, the range
         // before the offset.
-        assert_eq!(read(b"Z0001234"), Err(Refusal::Text));
-        assert_eq!(read(b"4I0001234"), Err(Refusal::Text));
-        assert_eq!(read(b"I0001234"), Err(Refusal::Type));
-        assert_eq!(read(b"L0000000"), Err(Refusal::Type));
-        assert_eq!(read(b"0774Z0000000"), Err(Refusal::Type));
-        assert_eq!(read(b"D0000000"), Err(Refusal::Range));
-        assert_eq!(read(b"G0000001"), Err(Refusal::Offset));
+        assert_eq!(refused("Z0001234"), (3, Some(0)));
+        assert_eq!(refused("4I0001234"), (20, Some(0)));
+        assert_eq!(refused("6L0000000"), (19, Some(0)));
+        assert_eq!(refused("L000000"), (21, Some(7)));
+        assert_eq!(refused("I0001234"), (4, None));
+        assert_eq!(refused("L0000000"), (4, None));
+        assert_eq!(refused("0774Z0000000"), (4, None));
+        assert_eq!(refused("D0000000"), (5, None));
+        assert_eq!(refused("G0000001"), (6, None));
         assert_eq!(read(b"0774U0000001"), Ok(value(b'U', 1, 77, 4)));
     }
 

@@ -1,4 +1,5 @@
-//! The answers of no that this part can give, numbered as in 01's table.
+//! The answers of no: those of 01's table by its numbers, and those that 02
+//! added by 02's.
 
 /// Why an input was refused.
 #[derive(Clone, Copy, Debug, PartialEq, Eq)]
@@ -9,7 +10,8 @@ pub enum Refusal {
     /// call is out of its limits; that of a closed chain is not all zero; two open
     /// chains or calls have one key.
     State = 2,
-    /// A CAPCODE text is not in the form.
+    /// A CAPCODE text is not in the form, and the byte where it goes wrong is no
+    /// digit; a CAPCODE value has a letter that no CAPCODE has.
     Text = 3,
     /// The form is right, but the letter is I to L or Z.
     Type = 4,
@@ -45,10 +47,17 @@ pub enum Refusal {
     /// A character that is not in the set or is over 7FH, or ETX in a text to
     /// write.
     Character = 18,
+    /// A CAPCODE text goes wrong at a digit before its letter.
+    DigitBeforeLetter = 19,
+    /// A CAPCODE text begins with a 4.
+    LeadingFour = 20,
+    /// A CAPCODE text goes wrong at a digit after its letter, or stops too soon.
+    DigitAfterLetter = 21,
 }
 
 impl Refusal {
-    /// The number in 01's table of the eighteen answers of no.
+    /// Its number: 1 to 18 are those of 01's table, 19 to 21 those of 02's first
+    /// item.
     pub fn number(self) -> u32 {
         self as u32
     }

@@ -31,13 +31,18 @@ accepted-length : (values : List ℕ) → length (acceptedEnd values) ≡ 22
 unfolding digits
 accepted-length values = simp length-append (omega (arith, words-length (wordsOf (getD values 3 0))))
 
-plain-short : (n : ℕ) → length (plain n) ≤ 2
+-- a number has two digits at most
+pub plain-short : (n : ℕ) → length (plain n) ≤ 2
 plain-short n = pick-short (ltb n 10) ((48 + n) ∷ []) _ 2 (omega arith) (omega arith)
+
+refused-short : (n : ℕ) (values : List ℕ) → length (refusedEnd n values) ≤ 22
+refused-short n [] = omega (arith, plain-short n)
+refused-short n (place ∷ more) = omega (arith, plain-short n, plain-short place, length-append (plain n) (32 ∷ plain place))
 
 verdict-by-short : (answer : Told) → length (verdictBy answer ++ lineFeed ∷ []) ≤ 23
 verdict-by-short (told n values) =
-    let short : length (pick (eqb n 0) (acceptedEnd values) (refusedEnd n)) ≤ 22 =
-    pick-short (eqb n 0) (acceptedEnd values) (refusedEnd n) 22 (omega (arith, accepted-length values)) (omega (arith, plain-short n)) in
+    let short : length (pick (eqb n 0) (acceptedEnd values) (refusedEnd n values)) ≤ 22 =
+    pick-short (eqb n 0) (acceptedEnd values) (refusedEnd n values) 22 (omega (arith, accepted-length values)) (refused-short n values) in
     omega (arith, length-append (verdictBy (told n values)) (lineFeed ∷ []))
 
 -- the end of a line has 23 bytes at most

@@ -1,5 +1,5 @@
 -- A verdict as it is told, and what it says of its text.
-use Prim.Native.Nat.{ℕ, _≤_, _<_, _/_, _%_, _+_, _-_}
+use Prim.Native.Nat.{ℕ, _-_}
 use mathlib.Core.Bool.{Bool, true, false}
 use mathlib.Core.Path.{_≡_, refl, sym, ap, _∙_}
 use mathlib.Core.List.{List, [], _∷_, _++_, append-nil}
@@ -7,16 +7,16 @@ use native.Mathlib.Omega.{arith}
 use borrow.Author.Tests.{eqb-true}
 use lib.ListN.{length, take, replicate, length-append, length-replicate}
 use lib.Seq.{take-at}
-use Rattle.refusal.specs.declared.Refusal.{Refusal}
-use Rattle.refusal.specs.Told.{numberOf, refused, numberTold}
+use Rattle.refusal.specs.Told.{Told, numberTold}
 use Rattle.capcode.specs.declared.Capcode.{Capcode}
 use Rattle.capcode.specs.declared.Assignment.{Assignment}
 use Rattle.capcode.specs.declared.ReadAnswer.{ReadAnswer}
 use Rattle.capcode.specs.Reads.{readOf, toldRead}
 use Rattle.lister.specs.declared.line_end.Verdict.{Verdict}
+use Rattle.lister.specs.Texts.{Wrote}
 use Rattle.lister.specs.Verdicts.{lineFeed, verdictBy, verdictOf, padded, verdictAs}
 use Rattle.lister.proofs.line_end.Lengths.{accepted-size, verdict-short}
-use Rattle.lister.proofs.line_end.LineEnds.{not-none, refused-one, refused-two}
+use Rattle.lister.proofs.line_end.LineEnds.{word, put-padded, Ended}
 
 -- a verdict is told by its parts
 same-verdict : {a b : Bool} {n m : ℕ} {l k : List ℕ} → a ≡ b → n ≡ m → l ≡ k
@@ -34,24 +34,13 @@ accepted-told c a end e =
     let long = accepted-size (toldRead (ReadAnswer.Whole c a)) refl in
     same-verdict refl (sym long) (e ∙ full _ long)
 
-module _ (r : Refusal) (n : ℕ) (number : n ≡ numberOf r) where
-  -- a refused text whose number has one digit
-  pub one-told : n < 10
-      → _≡_ {A = Verdict} (record {
-        «is_accepted» = false;
-        size = 11;
-        end = padded (32 ∷ 82 ∷ 69 ∷ 70 ∷ 85 ∷ 83 ∷ 69 ∷ 68 ∷ 32 ∷ (48 + n % 10) ∷ 10 ∷ []);
-      }) (verdictAs (refused r))
-  one-told few = let end = refused-one r n number few in same-verdict (sym (not-none r n number)) (ap length end) (ap padded end)
-
-  -- a refused text whose number has two digits
-  pub two-told : 10 ≤ n
-      → _≡_ {A = Verdict} (record {
-        «is_accepted» = false;
-        size = 12;
-        end = padded (32 ∷ 82 ∷ 69 ∷ 70 ∷ 85 ∷ 83 ∷ 69 ∷ 68 ∷ 32 ∷ (48 + n / 10 % 10) ∷ (48 + n % 10) ∷ 10 ∷ []);
-      }) (verdictAs (refused r))
-  two-told many = let end = refused-two r n number many in same-verdict (sym (not-none r n number)) (ap length end) (ap padded end)
+-- a refused text: what was written after the word is in its place, and so many bytes stand after the text
+pub refused-told : (answer : Told) (more : List ℕ) (size : ℕ) (end : List ℕ) → Ended answer more → Wrote (padded word) 9 more size end
+    → _≡_ {A = Verdict} (record { «is_accepted» = false; size = size; end = end }) (verdictAs answer)
+refused-told answer more size end ended wrote =
+    same-verdict (sym (ended .refuses))
+    (wrote .ends ∙ sym (length-append word more) ∙ ap length (ended .reads))
+    (wrote .holds ∙ put-padded word more (omega (arith, ended .few)) ∙ ap padded (ended .reads))
 
 module _ (text : List ℕ) (v : Verdict) (told : v ≡ verdictAs (readOf text)) where
   -- so many bytes stand after the text

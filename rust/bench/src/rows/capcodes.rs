@@ -1,7 +1,7 @@
 //! CAPCODEs.
 
 use mortisevane::exports::*;
-use second::capcode::{self, Capcode as SecondCapcode, Place};
+use second::capcode::{self, Capcode as SecondCapcode, Place, Refused};
 use second::refusal::Refusal;
 
 use crate::measure::{side, Measure, Told};
@@ -40,7 +40,7 @@ pub fn rows(measure: &mut Measure) {
     measure.group("capcodes");
     read(measure, SHORT.0, b"E0001234");
     read(measure, LONG.0, b"1275Y4291000000");
-    read(measure, "refused 3: 5 bytes, E1234", b"E1234");
+    refused_texts(measure);
     read(measure, REFUSED.0, b"1275Y4291000001");
     for (input, capcode) in [SHORT, LONG, REFUSED] {
         assign(measure, input, capcode);
@@ -56,6 +56,19 @@ pub fn rows(measure: &mut Measure) {
     );
 }
 
+/// Texts that are not in the form, by each of the four refusals; the last goes wrong late.
+fn refused_texts(measure: &mut Measure) {
+    read(measure, "refused 3: 8 bytes, a0001234", b"a0001234");
+    read(
+        measure,
+        "refused 19: 12 bytes, 1284Y0001234",
+        b"1284Y0001234",
+    );
+    read(measure, "refused 20: 9 bytes, 4A0001234", b"4A0001234");
+    read(measure, "refused 21: 5 bytes, E1234", b"E1234");
+    read(measure, "refused 21: 11 bytes, A0000001234", b"A0000001234");
+}
+
 /// The CAPCODE of an address whose letter takes nothing off it.
 pub fn assign_address(measure: &mut Measure, address: u64) {
     let capcode = SecondCapcode { address, ..SHORT.1 };
@@ -63,7 +76,7 @@ pub fn assign_address(measure: &mut Measure, address: u64) {
 }
 
 fn read(measure: &mut Measure, input: &str, text: &[u8]) {
-    type Read = fn(&[u8]) -> Result<(SecondCapcode, Place), Refusal>;
+    type Read = fn(&[u8]) -> Result<(SecondCapcode, Place), Refused>;
     let second = capcode::read_with_place as Read;
     measure.row(
         "capcode_read",
@@ -79,6 +92,7 @@ fn read(measure: &mut Measure, input: &str, text: &[u8]) {
                     read.collapse.into(),
                     read.phase.into(),
                     read.base.into(),
+                    read.place.into(),
                     read.address,
                 ]
             },
@@ -86,20 +100,29 @@ fn read(measure: &mut Measure, input: &str, text: &[u8]) {
         side(
             (text, second),
             |(text, second)| second(text),
-            |_, read| answer(read, |(capcode, place)| told_read(capcode, place), 6),
+            |_, read| told_read(read),
         ),
     );
 }
 
-fn told_read(capcode: &SecondCapcode, place: &Place) -> Told {
-    vec![
-        capcode.letter.into(),
-        capcode.frame.into(),
-        capcode.collapse.into(),
-        place.phase.number().into(),
-        place.base_frame.into(),
-        capcode.address,
-    ]
+/// Beside the refusal of a text that is not in the form stands the place where it goes wrong.
+fn told_read(read: &Result<(SecondCapcode, Place), Refused>) -> Told {
+    match read {
+        Ok((capcode, place)) => vec![
+            0,
+            capcode.letter.into(),
+            capcode.frame.into(),
+            capcode.collapse.into(),
+            place.phase.number().into(),
+            place.base_frame.into(),
+            0,
+            capcode.address,
+        ],
+        Err(Refused { refusal, place }) => {
+            let place = place.unwrap_or(0) as u64;
+            vec![refusal.number().into(), 0, 0, 0, 0, 0, place, 0]
+        }
+    }
 }
 
 fn assign(measure: &mut Measure, input: &str, capcode: SecondCapcode) {

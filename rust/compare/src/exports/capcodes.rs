@@ -15,6 +15,8 @@ const TEXTS: usize = 1_000_000;
 const LONG_TEXTS: usize = 40;
 const VALUES: usize = 300_000;
 
+/// The byte that names the export which reads a text.
+pub const CAPCODE_READ: u8 = 5;
 /// A request counts the bytes of a text in 16 bits.
 const LONGEST_TEXT_ASKED: usize = u16::MAX as usize;
 /// Lent lengths reach beyond the longest text, which has 15 bytes.
@@ -25,13 +27,11 @@ struct CapcodeRead {
 }
 
 impl Request for CapcodeRead {
-    const EXPORT: u8 = 5;
+    const EXPORT: u8 = CAPCODE_READ;
     type Answer = MortisevaneCapcode;
 
     fn arguments(&self, bytes: &mut Vec<u8>) {
-        let length = u16::try_from(self.text.len()).expect("no longer text is asked");
-        bytes.extend(length.to_le_bytes());
-        bytes.extend(&self.text);
+        append_text(&self.text, bytes);
     }
 
     fn library(&self, fields: &mut Fields) -> io::Result<Self::Answer> {
@@ -103,6 +103,13 @@ impl Request for CapcodePrint {
     fn question(&self) -> String {
         format!("printing {:?} into {} bytes", self.capcode, self.lent)
     }
+}
+
+/// Adds a text to a request to read it.
+pub fn append_text(text: &[u8], bytes: &mut Vec<u8>) {
+    let length = u16::try_from(text.len()).expect("no longer text is asked");
+    bytes.extend(length.to_le_bytes());
+    bytes.extend(text);
 }
 
 fn add_capcode(capcode: &Capcode, bytes: &mut Vec<u8>) {

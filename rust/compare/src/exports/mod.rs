@@ -1,8 +1,10 @@
-//! Every export of the proved library beside the second program.
+//! Every export of the proved library beside the second program, and where
+//! CAPCODE texts go wrong beside the form alone.
 
 mod addresses;
 mod capcodes;
 mod frames;
+mod places;
 mod words;
 
 /// Each kind has a seed of its own, so that one kind's count does not move
@@ -15,9 +17,11 @@ pub fn compare(exchange: &[String], seed: u64) -> Result<String, String> {
     let (values, prints) = capcodes::compare_values(exchange, seed.wrapping_add(4))?;
     let listeners = frames::compare_listeners(exchange, seed.wrapping_add(5))?;
     let waits = frames::compare_waits(exchange)?;
+    let places = places::compare(exchange, seed.wrapping_add(6))?;
     Ok(format!(
         "exports: {addresses} addresses, {words} words, {pairs} pairs, {texts} texts, \
-         {values} values, {prints} prints, {listeners} listener sets, {waits} waits \
+         {values} values, {prints} prints, {listeners} listener sets, {waits} waits, \
+         and of {places} texts where they go wrong by the form alone \
          (seed {seed}) compared, all agree"
     ))
 }

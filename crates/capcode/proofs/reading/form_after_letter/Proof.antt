@@ -10,13 +10,16 @@ use Rattle.capcode.proofs.reading.form_after_letter.Statement.{statemen
 use Rattle.capcode.proofs.reading.form_after_letter.Tie as tie
 
 abbrev Inv-loop : tie.InvT-loop
-Inv-loop text from s₀ i₀ s i = Stands text (endOf (follow (going i₀ s₀) (drop i₀ text))) i s × (s .letter ≡ 0 → ⊥)
+Inv-loop text from s₀ here₀ s here = Stands text (endOf (follow (going here₀ s₀) (drop here₀ text))) here s × (s .letter ≡ 0 → ⊥)
 
 abbrev μ-loop : tie.MeasureT-loop
-μ-loop text from s₀ i₀ s i = length text - i
+μ-loop text from s₀ here₀ s here = length text - here
 
 loop-holds : tie.Need-loop-holds Inv-loop μ-loop
 loop-holds c = (record { sound = c .before .pre .0; answer = refl }, c .before .pre .1)
+
+add-one-later : tie.Need-add-one-later Inv-loop μ-loop
+add-one-later c = search needs
 
 shared-slice-read-step-after-letter :
     tie.Need-shared-slice-read-step-after-letter Inv-loop μ-loop
@@ -35,10 +38,7 @@ returns : tie.Need-returns Inv-loop μ-loop
 returns c =
     let turn = c .before .before .before .before .before in
     let step = sym (c .before .before .step-after-letter .ensures) ∙ c .enum-told .given .1 in
-    stands-stop _ _ (turn .loop .i) (turn .loop .s) (turn .loop .inv .0) (search needs) step
-
-add-i : tie.Need-add-i Inv-loop μ-loop
-add-i c = search needs
+    stands-stop _ _ (turn .loop .here) (turn .loop .s) (turn .loop .inv .0) (search needs) step
 
 loop-less : tie.Need-loop-less Inv-loop μ-loop
 loop-less c = search needs
@@ -48,7 +48,8 @@ loop-again c =
     let turn = c .before .before .before .before .before .before in
     let step = sym (c .before .before .before .step-after-letter .ensures) ∙ c .before .next .given .1 in
     let next = c .before .next .given .0 .0 in
-    (stands-on _ _ (turn .loop .i) (turn .loop .s) (turn .loop .inv .0) next (search needs) step, step-after (turn .loop .s) next _ (turn .loop .inv .1) step)
+    let state = turn .loop .s in
+    (stands-on _ _ (turn .loop .here) state (turn .loop .inv .0) next (search needs) step, step-after state next _ (turn .loop .inv .1) step)
 
 form-at-end-requires : tie.Need-form-at-end-requires Inv-loop μ-loop
 form-at-end-requires c κs = sound-bounded _ (c .before .loop .inv .0 .sound)
@@ -56,7 +57,7 @@ form-at-end-requires c κs = sound-bounded _ (c .before .loop .inv .0 .sound)
 returns-2 : tie.Need-returns-2 Inv-loop μ-loop
 returns-2 c =
     let turn = c .before .before in
-    c .form-at-end .ensures ∙ stands-end _ _ (turn .loop .i) (turn .loop .s) (turn .loop .inv .0) (search needs)
+    c .form-at-end .ensures ∙ stands-end _ _ (turn .loop .here) (turn .loop .s) (turn .loop .inv .0) (search needs)
 
 pub form-after-letter-spec : {M : Type 1} → statement M
 form-after-letter-spec =
@@ -65,12 +66,12 @@ form-after-letter-spec =
     Inv-loop
     μ-loop
     loop-holds
+    add-one-later
     shared-slice-read-step-after-letter
     step-after-letter-requires
     enum-known-next
     enum-told
     returns
-    add-i
     loop-less
     loop-again
     form-at-end-requires

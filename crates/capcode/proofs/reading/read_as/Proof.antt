@@ -9,15 +9,14 @@ use Rattle.capcode.specs.declared.Capcode.{Capcode}
 use Rattle.capcode.specs.declared.Assignment.{Assignment}
 use Rattle.capcode.specs.declared.AssignAnswer.{AssignAnswer}
 use Rattle.capcode.specs.declared.ReadAnswer.{ReadAnswer}
-use Rattle.capcode.specs.declared.reading.Form.{Form}
 use Rattle.capcode.specs.Assigned.{assigned, toldAssign}
-use Rattle.capcode.specs.Reads.{readBy, toldRead}
+use Rattle.capcode.specs.Reads.{readAs, toldRead}
 use Rattle.capcode.proofs.Judging.{given-fine, fine-asked, refused-asked}
 use Rattle.capcode.proofs.reading.read_as.Statement.{statement}
 use Rattle.capcode.proofs.reading.read_as.Tie as tie
 
 -- phase and base frame as they are assigned
-whole-told : (c : Capcode) (a : Assignment) → toldAssign (AssignAnswer.Assigned a) ≡ assigned c → toldRead (ReadAnswer.Whole c a) ≡ readBy (Form.Says c)
+whole-told : (c : Capcode) (a : Assignment) → toldAssign (AssignAnswer.Assigned a) ≡ assigned c → toldRead (ReadAnswer.Whole c a) ≡ readAs c
 whole-told c a e =
     let fine = given-fine c _ (a .phase ∷ a .frame ∷ []) (sym e) in
     ap (λ (placed : List ℕ). given (c .letter ∷ c .frame ∷ c .collapse ∷ c .address ∷ placed)) (sym (ap toldValues (fine .1)))

@@ -1,6 +1,6 @@
 -- `with_return` meets its contract: the carriage return stands after what is kept, if one was held back and fits.
 use Prim.Native.Nat.{_<_}
-use mathlib.Core.Path.{_≡_}
+use mathlib.Core.Path.{_≡_, refl}
 use lib.Dec.{ltb}
 use lib.ListN.{length, length-set}
 use borrow.Author.Needs.{needs}
@@ -26,13 +26,13 @@ returns : tie.Need-returns
 returns c =
     let lister = c .before .before .before .args .lister in
     let long : length (lister .line) ≡ 16 = search needs in
-    (return-kept (lister .line) (lister .count) long (lister .held) (c .if1 .taken), simp length-set long)
+    (return-kept (lister .line) (lister .count) long (lister .held) (c .if1 .taken), simp length-set long, refl)
 
 returns-2 : tie.Need-returns-2
 returns-2 c =
     let lister = c .before .before .before .args .lister in
     let long : length (lister .line) ≡ 16 = search needs in
-    (no-return-kept (lister .line) (lister .count) long (lister .held) (c .if1 .left), long)
+    (no-return-kept (lister .line) (lister .count) long (lister .held) (c .if1 .left), long, refl)
 
 pub with-return-spec : {M : Type 1} → statement M
 with-return-spec = tie.close (tie.spec array-write-line add-t9 returns returns-2)

@@ -20,6 +20,12 @@ accepted-end-requires c κs = read-phase _ _ _ (sym (ap toldRead (c .before .c .
 enum-known-r : tie.Need-enum-known-r
 enum-known-r c = search needs
 
+wrong-end-requires : tie.Need-wrong-end-requires
+wrong-end-requires c κs = search needs
+
+enum-known-r-2 : tie.Need-enum-known-r-2
+enum-known-r-2 c = search needs
+
 refused-end-requires : tie.Need-refused-end-requires
 refused-end-requires c κs = search needs
 
@@ -32,7 +38,12 @@ returns c =
 returns-2 : tie.Need-returns-2
 returns-2 c =
     let r-known = c .before .before in
-    c .refused-end .ensures ∙ ap verdictAs (sym (ap toldRead (r-known .r .given .1)) ∙ r-known .before .before .read .ensures)
+    c .wrong-end .ensures ∙ ap verdictAs (sym (ap toldRead (r-known .r .given .1)) ∙ r-known .before .before .read .ensures)
+
+returns-3 : tie.Need-returns-3
+returns-3 c =
+    let r-known = c .before .before in
+    c .refused-end .ensures ∙ ap verdictAs (sym (ap toldRead (r-known .r2 .given .1)) ∙ r-known .before .before .read .ensures)
 
 pub judge-spec : {M : Type 1} → statement M
 judge-spec =
@@ -42,6 +53,9 @@ judge-spec =
     enum-known-c
     accepted-end-requires
     enum-known-r
+    wrong-end-requires
+    enum-known-r-2
     refused-end-requires
     returns
-    returns-2)
+    returns-2
+    returns-3)

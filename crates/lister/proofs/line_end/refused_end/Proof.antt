@@ -1,62 +1,56 @@
--- `refused_end` meets its contract: the word, and the refusal's number in one digit or two.
+-- `refused_end` meets its contract: the word, the refusal's number and the line feed.
+use Prim.Native.Nat.{ℕ}
+use mathlib.Core.List.{List, [], _∷_}
+use mathlib.Core.Path.{_≡_}
+use native.Mathlib.Omega.{arith}
 use borrow.Author.Needs.{needs}
-use Rattle.lister.proofs.line_end.Told.{one-told, two-told}
+use Rattle.refusal.specs.Told.{refused}
+use Rattle.lister.specs.Verdicts.{plain, padded}
+use Rattle.lister.proofs.Writes.{wrote-then}
+use Rattle.lister.proofs.line_end.Lengths.{plain-short}
+use Rattle.lister.proofs.line_end.LineEnds.{word, number-ends}
+use Rattle.lister.proofs.line_end.Told.{refused-told}
 use Rattle.lister.proofs.line_end.refused_end.Statement.{statement}
 use Rattle.lister.proofs.line_end.refused_end.Tie as tie
 
 number-requires : tie.Need-number-requires
 number-requires c κs = search needs
 
-cast-low : tie.Need-cast-low
-cast-low c = search needs
+slice-aggregate-write-plain : tie.Need-slice-aggregate-write-plain
+slice-aggregate-write-plain c = search needs
 
-add-low : tie.Need-add-low
-add-low c = search needs
+write-plain-requires : tie.Need-write-plain-requires
+write-plain-requires c κs = search needs
 
-array-write-end : tie.Need-array-write-end
-array-write-end c = search needs
+slice-aggregate-copy : tie.Need-slice-aggregate-copy
+slice-aggregate-copy c = search needs
 
-array-write-end-2 : tie.Need-array-write-end-2
-array-write-end-2 c = search needs
+slice-aggregate-copy-2 : tie.Need-slice-aggregate-copy-2
+slice-aggregate-copy-2 c = search needs
+
+copy-requires : tie.Need-copy-requires
+copy-requires c κs =
+    let write-plain-called = c .before .before .before in
+    omega (arith, write-plain-called .write-plain .ensures .ends, plain-short (write-plain-called .before .before .number .result))
 
 returns : tie.Need-returns
 returns c =
-    let number-called = c .before .before .before in one-told (number-called .before .args .refusal)
-    (number-called .number .result) (number-called .number .ensures) (c .if1 .taken)
-
-cast-end : tie.Need-cast-end
-cast-end c = search needs
-
-add-end : tie.Need-add-end
-add-end c = search needs
-
-array-write-end-3 : tie.Need-array-write-end-3
-array-write-end-3 c = search needs
-
-array-write-end-4 : tie.Need-array-write-end-4
-array-write-end-4 c = search needs
-
-array-write-end-5 : tie.Need-array-write-end-5
-array-write-end-5 c = search needs
-
-returns-2 : tie.Need-returns-2
-returns-2 c =
-    let number-called = c .before .before .before in two-told (number-called .before .args .refusal)
-    (number-called .number .result) (number-called .number .ensures) (c .if1 .left)
+    let copy-called = c .before in
+    let write-plain-called = copy-called .before .before .before .before in
+    let number-called = write-plain-called .before .before in
+    let wrote = wrote-then (padded word) 9 (plain (number-called .number .result)) (10 ∷ []) _ _ _ _ (omega arith)
+    (write-plain-called .write-plain .ensures) (copy-called .copy .ensures) in
+    let refusal = number-called .before .before .before .args .refusal in
+    refused-told (refused refusal) _ _ _ (number-ends refusal) (rw (number-called .number .ensures) at wrote)
 
 pub refused-end-spec : {M : Type 1} → statement M
 refused-end-spec =
     tie.close
     (tie.spec
     number-requires
-    cast-low
-    add-low
-    array-write-end
-    array-write-end-2
-    returns
-    cast-end
-    add-end
-    array-write-end-3
-    array-write-end-4
-    array-write-end-5
-    returns-2)
+    slice-aggregate-write-plain
+    write-plain-requires
+    slice-aggregate-copy
+    slice-aggregate-copy-2
+    copy-requires
+    returns)

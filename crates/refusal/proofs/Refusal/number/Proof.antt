@@ -59,6 +59,15 @@ enum-told-17 c = search needs
 enum-told-18 : tie.Need-enum-told-18
 enum-told-18 c = search needs
 
+enum-told-19 : tie.Need-enum-told-19
+enum-told-19 c = search needs
+
+enum-told-20 : tie.Need-enum-told-20
+enum-told-20 c = search needs
+
+enum-told-21 : tie.Need-enum-told-21
+enum-told-21 c = search needs
+
 returns : tie.Need-returns
 returns c = sym (ap numberOf (c .enum-told .given .1))
 
@@ -113,6 +122,15 @@ returns-17 c = sym (ap numberOf (c .enum-told17 .given .1))
 returns-18 : tie.Need-returns-18
 returns-18 c = sym (ap numberOf (c .enum-told18 .given .1))
 
+returns-19 : tie.Need-returns-19
+returns-19 c = sym (ap numberOf (c .enum-told19 .given .1))
+
+returns-20 : tie.Need-returns-20
+returns-20 c = sym (ap numberOf (c .enum-told20 .given .1))
+
+returns-21 : tie.Need-returns-21
+returns-21 c = sym (ap numberOf (c .enum-told21 .given .1))
+
 pub number-spec : {M : Type 1} → statement M
 number-spec =
     tie.close
@@ -135,6 +153,9 @@ number-spec =
     enum-told-16
     enum-told-17
     enum-told-18
+    enum-told-19
+    enum-told-20
+    enum-told-21
     returns
     returns-2
     returns-3
@@ -152,4 +173,7 @@ number-spec =
     returns-15
     returns-16
     returns-17
-    returns-18)
+    returns-18
+    returns-19
+    returns-20
+    returns-21)
