@@ -1,4 +1,4 @@
--- A line of the table is a row of the definition, and has room in the places of a sentence; no sentence stands twice.
+-- A line of the table is a row of the definition, and has room in the places of a sentence; no sentence stands twice, and every refusal has one.
 use Prim.Native.Nat.{ℕ, zero, suc, _+_, _-_, _*_, _≤_, _<_}
 use mathlib.Core.Bool.{Bool, true, false, not, _&&_, _||_}
 use mathlib.Core.List.{List, [], _∷_, _++_, map}
@@ -16,6 +16,12 @@ use Rattle.laws.specs.Lists.{firstThat, placeIn, all}
 use Rattle.laws.proofs.Counting.{allBelow, of-all-below}
 use Rattle.laws.proofs.Searches.{first-most}
 use Rattle.laws.proofs.Tests.{first-of, second-of, not-both, decided}
+use Rattle.refusal.specs.declared.Refusal.{Refusal}
+use Rattle.refusal.specs.declared.Refusal.the-variants.{Room, State, Text, «Type», Range, Offset, Packet}
+use Rattle.refusal.specs.declared.Refusal.the-variants.{Address, Size, Damaged, Checksum, Full, NoChain}
+use Rattle.refusal.specs.declared.Refusal.the-variants.{OutOfTurn, TooLong, Signature, NoCall, Character}
+use Rattle.refusal.specs.declared.Refusal.the-variants.{DigitBeforeLetter, LeadingFour, DigitAfterLetter}
+use Rattle.refusal.specs.Told.{numberOf}
 use Rattle.refusal.specs.Sentences.{sentences, sentenceAt, inPlaces, isFeed, lineEnd, firstLine, afterLine, linesFrom, joined}
 
 -- no line follows the end of a text
@@ -156,3 +162,32 @@ row-found row some =
 -- no sentence stands in two rows
 pub sentences-differ : (a b : ℕ) → 0 < length (sentenceAt a) → sentenceAt a ≡ sentenceAt b → a ≡ b
 sentences-differ a b some alike = sym (row-found a some) ∙ ap rowOf alike ∙ row-found b (rw (← alike) some)
+
+-- a row that has a sentence
+abbrev pub hasSentence : ℕ → Bool
+hasSentence row = ltb 0 (length (sentenceAt row))
+
+-- every refusal has a sentence
+pub refusal-said : (r : Refusal) → hasSentence (numberOf r) ≡ true
+unfolding sentences
+refusal-said Room = refl
+refusal-said State = refl
+refusal-said Text = refl
+refusal-said «Type» = refl
+refusal-said Range = refl
+refusal-said Offset = refl
+refusal-said Packet = refl
+refusal-said Address = refl
+refusal-said Size = refl
+refusal-said Damaged = refl
+refusal-said Checksum = refl
+refusal-said Full = refl
+refusal-said NoChain = refl
+refusal-said OutOfTurn = refl
+refusal-said TooLong = refl
+refusal-said Signature = refl
+refusal-said NoCall = refl
+refusal-said Character = refl
+refusal-said DigitBeforeLetter = refl
+refusal-said LeadingFour = refl
+refusal-said DigitAfterLetter = refl
