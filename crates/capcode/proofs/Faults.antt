@@ -3,11 +3,13 @@ use Prim.Native.Nat.{ℕ, _≤_, _<_}
 use mathlib.Core.Bool.{true, false, _&&_}
 use mathlib.Core.Path.{_≡_}
 use mathlib.Core.List.{List}
+use mathlib.Core.Logic.{⊎-elim}
 use native.Mathlib.Omega.{arith}
 use lib.Dec.{eqb}
-use lib.ListN.{length, take, getD}
+use lib.ListN.{length, take, getD, List·getD-eq-default}
 use lib.Seq.{take-take, getD-take, length-take-le}
-use borrow.Author.Tests.{eq-eqb, ne-eqb}
+use borrow.Author.Tests.{eqb-true, eq-eqb, ne-eqb}
+use Rattle.laws.proofs.Tests.{decided, not-both, second-of}
 use Rattle.refusal.specs.declared.Refusal.the-variants.{Text, DigitBeforeLetter, LeadingFour, DigitAfterLetter}
 use Rattle.capcode.specs.Reads.{isDigit, beforeLetter, faultAt}
 
@@ -21,31 +23,46 @@ fault-within text n place earlier within =
 
 -- ---- the lines of 02, item 1, each with what it asks
 
+-- a 4 is a digit
+four-digit : (byte : ℕ) → eqb byte 52 ≡ true → isDigit byte ≡ true
+four-digit byte four = rw (eqb-true byte 52 four)
+
 module _ (text : List ℕ) (place : ℕ) where
+  -- a 4 at place 0
+  pub leading-four : (eqb place 0 && eqb (getD text place 0) 52) ≡ true → LeadingFour ≡ faultAt text place
+  unfolding faultAt
+  leading-four four = rw four
+
+  -- a place at which no 4 at the start stands
+  module _ (no-four : (eqb place 0 && eqb (getD text place 0) 52) ≡ false) where
+    -- any other digit before the letter
+    pub digit-before : isDigit (getD text place 0) ≡ true → beforeLetter text place ≡ true → DigitBeforeLetter ≡ faultAt text place
+    unfolding faultAt
+    digit-before digit before = rw (no-four, digit, before)
+
+    -- a digit after the letter
+    pub digit-after : isDigit (getD text place 0) ≡ true → beforeLetter text place ≡ false → DigitAfterLetter ≡ faultAt text place
+    unfolding faultAt
+    digit-after digit after = rw (no-four, digit, after)
+
+  -- a byte that is no digit is no 4
+  no-digit-four : isDigit (getD text place 0) ≡ false → (eqb place 0 && eqb (getD text place 0) 52) ≡ false
+  no-digit-four other =
+      ⊎-elim
+      (λ (four : (eqb place 0 && eqb (getD text place 0) 52) ≡ true).
+      absurd (not-both (isDigit (getD text place 0)) (four-digit (getD text place 0) (second-of (eqb place 0) _ four)) other))
+      (λ (none : (eqb place 0 && eqb (getD text place 0) 52) ≡ false). none)
+      (decided (eqb place 0 && eqb (getD text place 0) 52))
+
   -- a text that only stops too soon
   pub stops-too-soon : place ≡ length text → DigitAfterLetter ≡ faultAt text place
   unfolding faultAt
-  stops-too-soon end = rw (eq-eqb place (length text) end)
+  stops-too-soon end =
+      let none : getD text place 0 ≡ 0 = List·getD-eq-default text 0 (omega arith) in
+      let other : isDigit (getD text place 0) ≡ false = rw none in
+      rw (no-digit-four other, other, eq-eqb place (length text) end)
 
-  module _ (within : place ≡ length text → ⊥) where
-    -- a byte that is no digit
-    pub no-digit : isDigit (getD text place 0) ≡ false → Text ≡ faultAt text place
-    unfolding faultAt
-    no-digit other = rw (ne-eqb place (length text) within, other)
-
-    module _ (digit : isDigit (getD text place 0) ≡ true) where
-      -- a 4 at place 0
-      pub leading-four : (eqb place 0 && eqb (getD text place 0) 52) ≡ true → LeadingFour ≡ faultAt text place
-      unfolding faultAt
-      leading-four four = rw (ne-eqb place (length text) within, digit, four)
-
-      module _ (no-four : (eqb place 0 && eqb (getD text place 0) 52) ≡ false) where
-        -- any other digit before the letter
-        pub digit-before : beforeLetter text place ≡ true → DigitBeforeLetter ≡ faultAt text place
-        unfolding faultAt
-        digit-before before = rw (ne-eqb place (length text) within, digit, no-four, before)
-
-        -- a digit after the letter
-        pub digit-after : beforeLetter text place ≡ false → DigitAfterLetter ≡ faultAt text place
-        unfolding faultAt
-        digit-after after = rw (ne-eqb place (length text) within, digit, no-four, after)
+  -- a byte that is no digit
+  pub no-digit : (place ≡ length text → ⊥) → isDigit (getD text place 0) ≡ false → Text ≡ faultAt text place
+  unfolding faultAt
+  no-digit within other = rw (no-digit-four other, other, ne-eqb place (length text) within)

@@ -327,4 +327,4 @@ place-upto text place e =
 pub four-first : (text : List ℕ) → readOf (code "4" ∷ text) ≡ refusedAt LeadingFour 0
 unfolding formOf follow stepOf
 four-first text =
-    rw (follow-stopped 0 text) (ap (λ (r : Refusal). refusedAt r 0) (sym (leading-four (code "4" ∷ text) 0 (λ e. omega arith) refl refl)))
+    rw (follow-stopped 0 text) (ap (λ (r : Refusal). refusedAt r 0) (sym (leading-four (code "4" ∷ text) 0 refl)))

@@ -143,13 +143,14 @@ abbrev pub beforeLetter : List ℕ → ℕ → Bool
 beforeLetter text place = all isDigit (take place text)
 
 -- 02, item 1, of the byte at which a text goes wrong: "20 for a 4 at place 0, 19 for any other digit before the letter, 21 for a digit after the
--- letter, 3 for all else. A text that only stops too soon is 21, its place the text's length"
+-- letter, 3 for all else. A text that only stops too soon is 21, its place the text's length". Where no byte stands, 0 is looked at, which is no digit
 unfoldable pub faultAt : List ℕ → ℕ → Refusal
 faultAt text place =
-    pick (eqb place (length text)) DigitAfterLetter
-    (pick (not (isDigit (getD text place 0))) Text
-    (pick (eqb place 0 && eqb (getD text place 0) (code "4")) LeadingFour
-    (pick (beforeLetter text place) DigitBeforeLetter DigitAfterLetter)))
+    pick (eqb place 0 && eqb (getD text place 0) (code "4")) LeadingFour
+    (pick (isDigit (getD text place 0) && beforeLetter text place) DigitBeforeLetter
+    (pick (isDigit (getD text place 0)) DigitAfterLetter
+    (pick (eqb place (length text)) DigitAfterLetter
+    Text)))
 
 -- a text that says a CAPCODE is answered by that; one that does not is refused by the byte where it goes wrong, and the place is told
 abbrev pub readBy : List ℕ → Form → Told

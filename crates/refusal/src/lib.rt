@@ -43,7 +43,8 @@ impl Sentence {
     pub const CHARACTER: u32 = 52;
 }
 
-// One refusal. When each is given is 01's table; the order in which several are asked is in specs/Told.
+// One refusal. When each is given is said by 01's table, and from 19 on by 02; the order in which several are asked is in
+// specs/Told.
 pub enum Refusal {
     // A lent buffer is too short for what is to stand in it.
     Room,

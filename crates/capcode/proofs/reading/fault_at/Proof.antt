@@ -19,9 +19,7 @@ returns-2 : tie.Need-returns-2
 returns-2 c = no-digit _ _ (c .before .before .before .if1 .left) (sym (c .before .is-digit .ensures) ∙ not-true _ (c .if2 .taken))
 
 returns-3 : tie.Need-returns-3
-returns-3 c =
-    let asked = c .before .before in
-    leading-four _ _ (asked .before .before .if1 .left) (sym (asked .is-digit .ensures) ∙ not-false _ (c .before .if2 .left)) (c .if3 .taken)
+returns-3 c = leading-four _ _ (c .if3 .taken)
 
 is-before-letter-requires : tie.Need-is-before-letter-requires
 is-before-letter-requires c κs = search needs
@@ -30,13 +28,13 @@ returns-4 : tie.Need-returns-4
 returns-4 c =
     let asked = c .before .before .before .before in
     let digit = sym (asked .is-digit .ensures) ∙ not-false _ (c .before .before .before .if2 .left) in
-    digit-before _ _ (asked .before .before .if1 .left) digit (c .before .before .if3 .left) (sym (c .before .is-before-letter .ensures) ∙ c .if4 .taken)
+    digit-before _ _ (c .before .before .if3 .left) digit (sym (c .before .is-before-letter .ensures) ∙ c .if4 .taken)
 
 returns-5 : tie.Need-returns-5
 returns-5 c =
     let asked = c .before .before .before .before in
     let digit = sym (asked .is-digit .ensures) ∙ not-false _ (c .before .before .before .if2 .left) in
-    digit-after _ _ (asked .before .before .if1 .left) digit (c .before .before .if3 .left) (sym (c .before .is-before-letter .ensures) ∙ c .if4 .left)
+    digit-after _ _ (c .before .before .if3 .left) digit (sym (c .before .is-before-letter .ensures) ∙ c .if4 .left)
 
 pub fault-at-spec : {M : Type 1} → statement M
 fault-at-spec =
