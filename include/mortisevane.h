@@ -165,6 +165,20 @@ enum mortisevane_instruction_numbers {
     MORTISEVANE_INSTRUCTION_TEMPORARY = 0,
 };
 
+/*
+ * The sets of characters of numeric pages, the two columns of Table 39. Nothing in a page says by
+ * which its sender wrote it.
+ */
+enum mortisevane_set_numbers {
+    /* Table 39 with the option off: digits, `?` for the spare code, `U`, space, `-`, `]`, `[`. */
+    MORTISEVANE_SET_STANDARD = 0,
+    /*
+     * Table 39 with the option of the People's Republic of China on: A to E for `?`, `U`, `-`, `]`,
+     * `[`.
+     */
+    MORTISEVANE_SET_CHINESE = 1,
+};
+
 /* Limits, and how much memory is to be lent. */
 enum mortisevane_limits {
     /* Chains that can be open at a time. */
@@ -952,36 +966,45 @@ struct mortisevane_written {
     mortisevane_size words;
 };
 
-/* A page read: what its head says, and how many characters. All are 0 after a refusal. */
+/*
+ * A page read: what its head says, how many characters it has, and how many of them are spaces at
+ * its end, where the filling starts. All are 0 after a refusal.
+ */
 struct mortisevane_page_read {
     uint32_t number;
     struct mortisevane_numbering numbering;
     mortisevane_size characters;
+    mortisevane_size spaces_at_end;
 };
 
 /*
  * A text as the words of a numeric page.
- * Takes the text, characters of Table 39; the vector's type, MORTISEVANE_VECTOR_STANDARD, _SPECIAL
- * or _NUMBERED; what the head of a numbered page says, all 0 with the others; and memory for the
- * words, for which MORTISEVANE_PAGE_WORDS are always enough.
+ * Takes the set of characters, MORTISEVANE_SET_STANDARD or _CHINESE; the text, characters of that
+ * set; the vector's type, MORTISEVANE_VECTOR_STANDARD, _SPECIAL or _NUMBERED; what the head of a
+ * numbered page says, all 0 with the others; and memory for the words, for which
+ * MORTISEVANE_PAGE_WORDS are always enough.
  * Answers K for the vector and how many words were written, the fewest that hold the text.
  * Refuses 7, 15, 18, the first that applies, and last 1; the memory is then as it was. Here 7 is a
- * type that is none of the three, or a number that the head has no room for: with a page that is
- * not numbered, any but 0.
+ * set that is neither, a type that is none of the three, or a number that the head has no room for:
+ * with a page that is not numbered, any but 0.
  */
-struct mortisevane_written mortisevane_numeric_write(const uint8_t *text, size_t text_length,
-        uint32_t kind, struct mortisevane_numbering numbering,
-        uint32_t *words, size_t words_length);
+struct mortisevane_written mortisevane_numeric_write(uint32_t set,
+        const uint8_t *text, size_t text_length, uint32_t kind,
+        struct mortisevane_numbering numbering, uint32_t *words, size_t words_length);
 
 /*
  * The words of a numeric page as text, its zeros with it.
- * Takes the type and the K of its vector, the words, and memory for the text, for which
- * MORTISEVANE_PAGE_CHARACTERS are always enough.
- * Answers what the head of a numbered page says, and how many characters were written: all that the
- * words have room for, so that spaces may stand at the end.
- * Refuses 7, 9, 10, 11, the first that applies, and last 1; the memory is then as it was.
+ * Takes the set of characters, MORTISEVANE_SET_STANDARD or _CHINESE; the type and the K of the
+ * vector; the words; and memory for the text, for which MORTISEVANE_PAGE_CHARACTERS are always
+ * enough.
+ * Answers what the head of a numbered page says; how many characters were written, all that the
+ * words have room for; and how many of them are spaces at the end. So many characters fewer are
+ * what a display has to show: filling is spaces, and which of them the sender wrote nobody can
+ * tell.
+ * Refuses 7, 9, 10, 11, the first that applies, and last 1; the memory is then as it was. Here 7 is
+ * a set that is neither, a type that is no numeric page's, or a K over 15.
  */
-struct mortisevane_page_read mortisevane_numeric_read(uint32_t kind, uint32_t check,
+struct mortisevane_page_read mortisevane_numeric_read(uint32_t set, uint32_t kind, uint32_t check,
         const uint32_t *words, size_t words_length, uint8_t *text, size_t text_length);
 
 /*
@@ -1545,10 +1568,11 @@ MORTISEVANE_PLACED(written, number, 0);
 MORTISEVANE_PLACED(written, check, 4);
 MORTISEVANE_PLACED(written, words, 8);
 
-MORTISEVANE_LARGE(page_read, 24);
+MORTISEVANE_LARGE(page_read, 32);
 MORTISEVANE_PLACED(page_read, number, 0);
 MORTISEVANE_PLACED(page_read, numbering, 4);
 MORTISEVANE_PLACED(page_read, characters, 16);
+MORTISEVANE_PLACED(page_read, spaces_at_end, 24);
 
 MORTISEVANE_LARGE(fragment_read, 40);
 MORTISEVANE_PLACED(fragment_read, number, 0);

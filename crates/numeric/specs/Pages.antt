@@ -1,10 +1,11 @@
--- Numeric pages (document 01, "Numeric pages"; S8.7.8.2, Tables 39, 41 and 42). Every definition takes the set of characters.
-use Prim.Native.Nat.{ℕ, _+_, _-_, _*_, _/_, _%_, _^_}
+-- Numeric pages (document 01, "Numeric pages"; 02, item 6; S8.7.8.2, Tables 39, 41 and 42). Every definition takes the set of characters.
+use Prim.Native.Nat.{ℕ, suc, _+_, _-_, _*_, _/_, _%_, _^_}
 use Prim.Native.Char.{code}
 use mathlib.Core.Bool.{Bool, true, false, _&&_}
 use mathlib.Core.List.{List, [], _∷_, _++_, map}
 use lib.Dec.{leb, ltb, eqb}
 use lib.ListN.{length, replicate, getD}
+use Rattle.laws.specs.Choice.{pick}
 use Rattle.laws.specs.Layouts.{Layout, field, size, fieldsOf, fit, packed}
 use Rattle.laws.specs.Lists.{placeIn, all}
 use Rattle.laws.specs.Numerals.{number, digits}
@@ -21,6 +22,23 @@ Set = List ℕ
 -- Table 39 with the option off; 01: "`?` stands for the spare code"
 unfoldable pub standardSet : Set
 standardSet = bytesOf "0123456789?U -]["
+
+-- Table 39 with the option on; 02, item 6: "A to E stand for the codes of `?`, `U`, `-`, `]`, `[`"
+unfoldable pub chineseSet : Set
+chineseSet = bytesOf "0123456789AB CDE"
+
+-- the set with the option on, or off
+abbrev pub setWith : Bool → Set
+setWith true = chineseSet
+setWith false = standardSet
+
+-- 02, item 6: "the choice of set as input": 0 for the option off, 1 for the option on
+abbrev pub setOf : ℕ → Set
+setOf set = setWith (eqb set 1)
+
+-- 01's table, 7, "a field too large": whether a number chooses a set
+abbrev pub isSet : ℕ → Bool
+isSet set = leb set 1
 
 -- 01: "w words (1 to 8)"
 abbrev pub mostWords : ℕ
@@ -43,6 +61,15 @@ wordsFor numbered characters = (size (headOf numbered) + 4 * characters + (wordB
 -- 01: "Unused characters are spaces"
 abbrev pub spaced : ℕ → List ℕ → List ℕ
 spaced room text = text ++ replicate (room - length text) (code " ")
+
+-- how many spaces stand at the end of a text, where so many stood before it
+unfoldable pub spacesAfter : ℕ → List ℕ → ℕ
+spacesAfter spaces [] = spaces
+spacesAfter spaces (c ∷ text) = spacesAfter (pick (eqb c (code " ")) (suc spaces) 0) text
+
+-- 02, item 6: "how many spaces stand at the end": each character that is none begins the count again
+abbrev pub spacesAtEnd : List ℕ → ℕ
+spacesAtEnd text = spacesAfter 0 text
 
 -- a text and its spaces, in as many words as the text needs
 abbrev pub filled : Bool → List ℕ → List ℕ

@@ -3,9 +3,9 @@
 //
 // What the words of a page are is said in specs/Pages, when one is refused and what is told of it in specs/Answers. The
 // round trip is in proofs/Laws, and so is the law `cell`, which says as the tables do which bit of which character stands
-// where.
+// where. What 02, item 6 asks is in proofs/Choices: the two sets, and the spaces at the end.
 
-// What writing and reading share: the head of a page, and its room.
+// What writing and reading share: the choice of set, the head of a page, and its room.
 mod page;
 
 // A text as the message words of a page, with its K.
@@ -19,6 +19,18 @@ pub use writing::write;
 
 // 01: "w words (1 to 8)".
 pub const MOST_WORDS: usize = 8;
+
+// The characters that the codes of a page stand for: one of the two columns of Table 39. Nothing in a page says by which
+// its sender wrote it, so a pager is set to it.
+pub struct CharacterSet {}
+
+impl CharacterSet {
+    // Table 39 with the option off: digits, `?` for the spare code, `U`, space, `-`, `]`, `[`.
+    pub const STANDARD: u32 = 0;
+
+    // Table 39 with the option of the People's Republic of China on: A to E for `?`, `U`, `-`, `]`, `[`.
+    pub const CHINESE: u32 = 1;
+}
 
 // What the head of a numbered page says: N, the message number, 0 to 63; R, whether the pager expects its
 // messages to be numbered; S, whether a special format shows it. All 0 with the other kinds.
@@ -37,10 +49,12 @@ pub struct Written {
     pub words: usize,
 }
 
-// A page read: what its head says, and how many characters. All are 0 after a refusal.
+// A page read: what its head says, how many characters it has, and how many of them are spaces at its end, where the
+// filling starts. All are 0 after a refusal.
 #[repr(C)]
 pub struct PageRead {
     pub number: u32,
     pub numbering: Numbering,
     pub characters: usize,
+    pub spaces_at_end: usize,
 }

@@ -1,34 +1,48 @@
-// Numeric pages: the words of one as text (document 01, "Numeric pages"; S8.7.8.2, Tables 39, 41 and 42). A page is
-// characters, and its zeros stay.
+// Numeric pages: the words of one as text (document 01, "Numeric pages"; 02, item 6; S8.7.8.2, Tables 39, 41
+// and 42). A page is characters, and its zeros stay.
 ghost use mathlib.Core.Path.{_≡_};
 ghost use Prim.Native.Nat.{_+_, _*_, _/_, _%_, _^_, _≤_, _<_};
 ghost use mathlib.Core.Bool.{true};
+ghost use mathlib.Core.List.{[]};
 ghost use lib.ListN.{length, getD};
 ghost use Rattle.laws.specs.Layouts.{fieldsOf};
 ghost use Rattle.laws.specs.Lists.{put};
 ghost use Rattle.laws.specs.Numerals.{number};
-ghost use Rattle.refusal.specs.Told.{numberTold};
+ghost use Rattle.laws.specs.Choice.{pick};
+ghost use Rattle.refusal.specs.Told.{told, numberTold};
 ghost use Rattle.sums.specs.Words.{undamaged};
-ghost use Rattle.numeric.specs.Pages.{standardSet, headOf, roomOf, textIn, vectorFits, isSize, checked};
-ghost use Rattle.numeric.specs.Answers.{asNumbering, readOf, textAfter, asRead};
+ghost use Rattle.numeric.specs.Pages.{Set, setWith, headOf, roomOf, spacesAtEnd, textIn, vectorFits, isSize, checked};
+ghost use Rattle.numeric.specs.Answers.{asNumbering, readOf, textAfter, readChosen, textChosen, asRead};
+use crate::CharacterSet;
 use crate::MOST_WORDS;
 use crate::Numbering;
 use crate::PageRead;
 use packet::Vector;
 use refusal::Refusal;
 
-// The character of a code.
-fn character_of(code: u32) -> u8
+// One of two characters, by the set.
+fn either(chinese: bool, with_option_on: u8, with_option_off: u8) -> u8
+    ensures { λ r. ⌜ r ≡ pick chinese with_option_on with_option_off ⌝ }
+{
+    if chinese {
+        with_option_on
+    } else {
+        with_option_off
+    }
+}
+
+// The character of a code (Table 39).
+fn character_of(chinese: bool, code: u32) -> u8
     requires { ⌜ code < 16 ⌝ }
-    ensures { λ r. ⌜ r ≡ getD standardSet code 0 ⌝ }
+    ensures { λ r. ⌜ r ≡ getD (setWith chinese) code 0 ⌝ }
 {
     match code {
-        10 => b'?',
-        11 => b'U',
+        10 => either(chinese, b'A', b'?'),
+        11 => either(chinese, b'B', b'U'),
         12 => b' ',
-        13 => b'-',
-        14 => b']',
-        15 => b'[',
+        13 => either(chinese, b'C', b'-'),
+        14 => either(chinese, b'D', b']'),
+        15 => either(chinese, b'E', b'['),
         _ => b'0' + code as u8,
     }
 }
@@ -56,9 +70,9 @@ fn checked(check: u32, words: &[u32]) -> bool
     sums::six_bit(words) == check + 16 * (words[0] % 4)
 }
 
-// The first refusal of a page to read, or 0.
+// The first refusal of a page to read, or 0: it is the same in every set.
 fn judge_reading(kind: u32, check: u32, words: &[u32], lent: usize) -> u32
-    ensures { λ r. ⌜ r ≡ numberTold (readOf standardSet lent kind check (now (words .entry))) ⌝ }
+    ensures { λ r. ⌜ ((set : Set) → r ≡ numberTold (readOf set lent kind check (now (words .entry)))) ⌝ }
 {
     if !vector_fits(kind, check) {
         return Refusal::Packet.number();
@@ -96,19 +110,19 @@ fn code_in(words: &[u32], at: usize, place: usize) -> u32
 }
 
 // The characters of a page, as many as it has room for.
-fn write_characters(words: &[u32], numbered: bool, room: usize, text: &mut [u8])
+fn write_characters(chinese: bool, words: &[u32], numbered: bool, room: usize, text: &mut [u8])
     requires { ⌜ undamaged (now words) ≡ true ⌝ }
     requires { ⌜ 1 ≤ length (now words) ⌝ }
     requires { ⌜ length (now words) ≤ 8 ⌝ }
     requires { ⌜ room ≡ roomOf numbered (length (now words)) ⌝ }
     requires { ⌜ room ≤ length (now text) ⌝ }
-    ensures { λ r. ⌜ now (text .exit) ≡ put (now (text .entry)) 0 (textIn standardSet numbered (now (words .entry))) ⌝ }
+    ensures { λ r. ⌜ now (text .exit) ≡ put (now (text .entry)) 0 (textIn (setWith chinese) numbered (now (words .entry))) ⌝ }
 {
     let mut at: usize = 0;
     let mut place = crate::page::head_size(numbered);
     let mut i: usize = 0;
     while i < room {
-        text[i] = character_of(code_in(words, at, place));
+        text[i] = character_of(chinese, code_in(words, at, place));
         if place < 17 {
             place += 4;
         } else {
@@ -137,39 +151,82 @@ fn numbering_in(numbered: bool, first: u32) -> Numbering
     }
 }
 
+// How many characters of a text are still to be looked at from its end on: those before a space, and none before another.
+fn before_space(is_space: bool, before: usize) -> usize
+    ensures { λ r. ⌜ r ≡ pick is_space before 0 ⌝ }
+{
+    if is_space { before } else { 0 }
+}
+
+// How many spaces stand at the end of a text. It is looked at from its end on, and no further than to a character that is
+// no space.
+fn spaces_at_end(text: &[u8]) -> usize
+    ensures { λ r. ⌜ r ≡ spacesAtEnd (now (text .entry)) ⌝ }
+{
+    let mut spaces: usize = 0;
+    let mut left = text.len();
+    while 0 < left {
+        let is_space = text[left - 1] == b' ';
+        spaces += is_space as usize;
+        left = before_space(is_space, left - 1);
+    }
+    spaces
+}
+
 // The characters of a page that is not refused.
-fn read_page(kind: u32, check: u32, words: &[u32], text: &mut [u8]) -> PageRead
-    requires { ⌜ numberTold (readOf standardSet (length (now text)) kind check (now words)) ≡ 0 ⌝ }
-    ensures told { λ r. ⌜ r ≡ asRead (readOf standardSet (length (now (text .entry))) kind check (now (words .entry))) ⌝ }
-    ensures buffer { λ r. ⌜ now (text .exit) ≡ textAfter standardSet kind check (now (words .entry)) (now (text .entry)) ⌝ }
+fn read_page(chinese: bool, kind: u32, check: u32, words: &[u32], text: &mut [u8]) -> PageRead
+    requires { ⌜ numberTold (readOf (setWith chinese) (length (now text)) kind check (now words)) ≡ 0 ⌝ }
+    ensures told { λ r. ⌜ r ≡ asRead (readOf (setWith chinese) (length (now (text .entry))) kind check (now (words .entry))) ⌝ }
+    ensures buffer { λ r. ⌜ now (text .exit) ≡ textAfter (setWith chinese) kind check (now (words .entry)) (now (text .entry)) ⌝ }
 {
     let numbered = kind == Vector::NUMBERED;
     let room = crate::page::room_of(numbered, words.len());
-    write_characters(words, numbered, room, text);
+    write_characters(chinese, words, numbered, room, text);
     PageRead {
         number: 0,
         numbering: numbering_in(numbered, words[0]),
         characters: room,
+        spaces_at_end: spaces_at_end(&text[..room]),
     }
 }
 
-// The words of a page as text, with the type and the K of its vector: the characters, all that the words have room
-// for, and what the head says; or the first refusal. What is refused leaves the text as it was.
-pub fn read(kind: u32, check: u32, words: &[u32], text: &mut [u8]) -> PageRead
-    ensures told { λ r. ⌜ r ≡ asRead (readOf standardSet (length (now (text .entry))) kind check (now (words .entry))) ⌝ }
-    ensures buffer { λ r. ⌜ now (text .exit) ≡ textAfter standardSet kind check (now (words .entry)) (now (text .entry)) ⌝ }
+// A page that is refused: its number, and nothing besides.
+fn refused(number: u32) -> PageRead
+    ensures { λ r. ⌜ r ≡ asRead (told number []) ⌝ }
+{
+    PageRead {
+        number,
+        numbering: Numbering {
+            message_number: 0,
+            retrieval: 0,
+            special_format: 0,
+        },
+        characters: 0,
+        spaces_at_end: 0,
+    }
+}
+
+// The words of a page as text of one of the two sets.
+fn read_in(chinese: bool, kind: u32, check: u32, words: &[u32], text: &mut [u8]) -> PageRead
+    ensures told { λ r. ⌜ r ≡ asRead (readOf (setWith chinese) (length (now (text .entry))) kind check (now (words .entry))) ⌝ }
+    ensures buffer { λ r. ⌜ now (text .exit) ≡ textAfter (setWith chinese) kind check (now (words .entry)) (now (text .entry)) ⌝ }
 {
     let number = judge_reading(kind, check, words, text.len());
     if number != 0 {
-        return PageRead {
-            number,
-            numbering: Numbering {
-                message_number: 0,
-                retrieval: 0,
-                special_format: 0,
-            },
-            characters: 0,
-        };
+        return refused(number);
     }
-    read_page(kind, check, words, text)
+    read_page(chinese, kind, check, words, text)
+}
+
+// The words of a page as text of the chosen set, with the type and the K of its vector: the characters, all that the
+// words have room for, how many of them are spaces at the end, and what the head says; or the first refusal. What is
+// refused leaves the text as it was.
+pub fn read(set: u32, kind: u32, check: u32, words: &[u32], text: &mut [u8]) -> PageRead
+    ensures told { λ r. ⌜ r ≡ asRead (readChosen set (length (now (text .entry))) kind check (now (words .entry))) ⌝ }
+    ensures buffer { λ r. ⌜ now (text .exit) ≡ textChosen set kind check (now (words .entry)) (now (text .entry)) ⌝ }
+{
+    if !crate::page::is_set(set) {
+        return refused(Refusal::Packet.number());
+    }
+    read_in(set == CharacterSet::CHINESE, kind, check, words, text)
 }

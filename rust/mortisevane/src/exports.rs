@@ -173,6 +173,12 @@ pub const SHORT_MESSAGE_SPARE: u32 = 3;
 /// The instruction type i (Table 38) that assigns a temporary address.
 pub const INSTRUCTION_TEMPORARY: u32 = 0;
 
+// The sets of characters of numeric pages, the two columns of Table 39. Nothing in a page says by which its sender wrote it.
+/// Table 39 with the option off: digits, `?` for the spare code, `U`, space, `-`, `\]`, `\[`.
+pub const SET_STANDARD: u32 = 0;
+/// Table 39 with the option of the People's Republic of China on: A to E for `?`, `U`, `-`, `\]`, `\[`.
+pub const SET_CHINESE: u32 = 1;
+
 /// What each refusal means, in a sentence for people, at the place of its number. The one at place 0, where nothing was
 /// refused, is empty.
 pub const SENTENCES: [&str; 22] = [
@@ -1073,38 +1079,42 @@ pub struct Written {
     pub words: Size,
 }
 
-/// A page read: what its head says, and how many characters. All are 0 after a refusal.
+/// A page read: what its head says, how many characters it has, and how many of them are spaces at its end, where the
+/// filling starts. All are 0 after a refusal.
 #[repr(C)]
 #[derive(Clone, Copy, Debug, Default, PartialEq, Eq)]
 pub struct PageRead {
     pub number: u32,
     pub numbering: Numbering,
     pub characters: Size,
+    pub spaces_at_end: Size,
 }
 
 extern "C" {
     /// A text as the words of a numeric page.
     ///
-    /// Takes the text, characters of Table 39; the vector's type, VECTOR_STANDARD, _SPECIAL or _NUMBERED; what the
-    /// head of a numbered page says, all 0 with the others; and memory for the words, for which PAGE_WORDS are
-    /// always enough.
+    /// Takes the set of characters, SET_STANDARD or _CHINESE; the text, characters of that set; the vector's type,
+    /// VECTOR_STANDARD, _SPECIAL or _NUMBERED; what the head of a numbered page says, all 0 with the others; and
+    /// memory for the words, for which PAGE_WORDS are always enough.
     ///
     /// Answers K for the vector and how many words were written, the fewest that hold the text.
     ///
-    /// Refuses 7, 15, 18, the first that applies, and last 1; the memory is then as it was. Here 7 is a type that is none of the
-    /// three, or a number that the head has no room for: with a page that is not numbered, any but 0.
-    pub fn mortisevane_numeric_write(text: *const u8, text_length: usize, kind: u32, numbering: Numbering, words: *mut u32, words_length: usize) -> Written;
+    /// Refuses 7, 15, 18, the first that applies, and last 1; the memory is then as it was. Here 7 is a set that is neither, a
+    /// type that is none of the three, or a number that the head has no room for: with a page that is not numbered, any but 0.
+    pub fn mortisevane_numeric_write(set: u32, text: *const u8, text_length: usize, kind: u32, numbering: Numbering, words: *mut u32, words_length: usize) -> Written;
 
     /// The words of a numeric page as text, its zeros with it.
     ///
-    /// Takes the type and the K of its vector, the words, and memory for the text, for which PAGE_CHARACTERS are
-    /// always enough.
+    /// Takes the set of characters, SET_STANDARD or _CHINESE; the type and the K of the vector; the words; and
+    /// memory for the text, for which PAGE_CHARACTERS are always enough.
     ///
-    /// Answers what the head of a numbered page says, and how many characters were written: all that the words have room
-    /// for, so that spaces may stand at the end.
+    /// Answers what the head of a numbered page says; how many characters were written, all that the words have room for; and
+    /// how many of them are spaces at the end. So many characters fewer are what a display has to show: filling is spaces, and
+    /// which of them the sender wrote nobody can tell.
     ///
-    /// Refuses 7, 9, 10, 11, the first that applies, and last 1; the memory is then as it was.
-    pub fn mortisevane_numeric_read(kind: u32, check: u32, words: *const u32, words_length: usize, text: *mut u8, text_length: usize) -> PageRead;
+    /// Refuses 7, 9, 10, 11, the first that applies, and last 1; the memory is then as it was. Here 7 is a set that is neither, a
+    /// type that is no numeric page's, or a K over 15.
+    pub fn mortisevane_numeric_read(set: u32, kind: u32, check: u32, words: *const u32, words_length: usize, text: *mut u8, text_length: usize) -> PageRead;
 }
 
 // Fragments of a text, as C and Rust link them. Every function takes any input, and its contract is that of the function
@@ -1602,10 +1612,11 @@ const _: () = assert!(size_of::<Written>() == 16);
 const _: () = assert!(offset_of!(Written, number) == 0);
 const _: () = assert!(offset_of!(Written, check) == 4);
 const _: () = assert!(offset_of!(Written, words) == 8);
-const _: () = assert!(size_of::<PageRead>() == 24);
+const _: () = assert!(size_of::<PageRead>() == 32);
 const _: () = assert!(offset_of!(PageRead, number) == 0);
 const _: () = assert!(offset_of!(PageRead, numbering) == 4);
 const _: () = assert!(offset_of!(PageRead, characters) == 16);
+const _: () = assert!(offset_of!(PageRead, spaces_at_end) == 24);
 const _: () = assert!(size_of::<FragmentRead>() == 40);
 const _: () = assert!(offset_of!(FragmentRead, number) == 0);
 const _: () = assert!(offset_of!(FragmentRead, continued) == 4);

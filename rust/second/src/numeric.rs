@@ -11,7 +11,13 @@ use crate::sums;
 use crate::vector::{NUMBERED_NUMERIC, SPECIAL_NUMERIC, STANDARD_NUMERIC};
 
 /// Table 39 with the option off, by code; `?` stands for the spare code.
-pub const CHARACTERS: &[u8; 16] = b"0123456789?U -][";
+pub const STANDARD_CHARACTERS: &[u8; 16] = b"0123456789?U -][";
+/// Table 39 with the option on.
+pub const CHINESE_CHARACTERS: &[u8; 16] = b"0123456789AB CDE";
+/// How a set is chosen (02, item 6).
+pub const STANDARD_SET: u32 = 0;
+pub const CHINESE_SET: u32 = 1;
+/// The code of a space, which is the same in both sets.
 const SPACE: u32 = 0xC;
 const CHARACTER_BITS: usize = 4;
 
@@ -49,6 +55,18 @@ pub struct PageRead {
     pub numbering: Numbering,
     /// How many characters the page has: all that its words have room for.
     pub characters: usize,
+    /// How many of them are spaces at the end.
+    pub spaces_at_end: usize,
+}
+
+/// The characters of a set, by code. A number that chooses neither is a field
+/// too large.
+pub fn characters_of(set: u32) -> Result<&'static [u8; 16], Refusal> {
+    match set {
+        STANDARD_SET => Ok(STANDARD_CHARACTERS),
+        CHINESE_SET => Ok(CHINESE_CHARACTERS),
+        _ => Err(Refusal::Packet),
+    }
 }
 
 /// How many bits N, R and S have in pages of a kind, which is the vector's V:
@@ -72,18 +90,20 @@ fn room(widths: NumberingBits, words: usize) -> usize {
 /// Writes the page into the first of the lent words and leaves the others as
 /// they are. Unused characters are spaces, left-over bits 0.
 pub fn write(
+    set: u32,
     text: &[u8],
     kind: u32,
     numbering: Numbering,
     lent: &mut [u32],
 ) -> Result<Written, Refusal> {
+    let characters = characters_of(set)?;
     let widths = numbering_bits(kind)?;
     let mut row = head(widths, numbering)?;
     let words = (1..=MOST_WORDS)
         .find(|words| room(widths, *words) >= text.len())
         .ok_or(Refusal::TooLong)?;
     for character in text {
-        row.extend(bits(code(*character)?, CHARACTER_BITS));
+        row.extend(bits(code(characters, *character)?, CHARACTER_BITS));
     }
     let page = lent.get_mut(..words).ok_or(Refusal::Room)?;
     for _ in text.len()..room(widths, words) {
@@ -114,14 +134,21 @@ fn head(widths: NumberingBits, numbering: Numbering) -> Result<Vec<bool>, Refusa
     Ok(row)
 }
 
-fn code(character: u8) -> Result<u32, Refusal> {
-    let place = CHARACTERS.iter().position(|other| *other == character);
+fn code(characters: &[u8; 16], character: u8) -> Result<u32, Refusal> {
+    let place = characters.iter().position(|other| *other == character);
     place.map(|code| code as u32).ok_or(Refusal::Character)
 }
 
 /// Reads all the characters that the words have room for into the first of the
 /// lent bytes, and leaves the others as they are.
-pub fn read(kind: u32, check: u32, words: &[u32], lent: &mut [u8]) -> Result<PageRead, Refusal> {
+pub fn read(
+    set: u32,
+    kind: u32,
+    check: u32,
+    words: &[u32],
+    lent: &mut [u8],
+) -> Result<PageRead, Refusal> {
+    let of_code = characters_of(set)?;
     let widths = numbering_bits(kind)?;
     if check >> VECTOR_CHECK_BITS != 0 {
         return Err(Refusal::Packet);
@@ -140,12 +167,14 @@ pub fn read(kind: u32, check: u32, words: &[u32], lent: &mut [u8]) -> Result<Pag
     let characters = room(widths, words.len());
     let text = lent.get_mut(..characters).ok_or(Refusal::Room)?;
     let numbering = widths.map(|width| take(&mut row, width));
-    for character in text {
-        *character = CHARACTERS[take(&mut row, CHARACTER_BITS) as usize];
+    for character in text.iter_mut() {
+        *character = of_code[take(&mut row, CHARACTER_BITS) as usize];
     }
+    let after_the_last = text.iter().rposition(|character| *character != b' ');
     Ok(PageRead {
         numbering: Numbering::from_numbers(&mut numbering.into_iter()),
         characters,
+        spaces_at_end: characters - after_the_last.map_or(0, |last| last + 1),
     })
 }
 
