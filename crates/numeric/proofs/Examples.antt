@@ -12,9 +12,9 @@ use Rattle.laws.specs.Texts.{bytesOf}
 use Rattle.refusal.specs.declared.Refusal.the-variants as refusals
 use Rattle.refusal.specs.Told.{Told, refused, given, numberTold}
 use Rattle.numeric.specs.declared.Numbering.{Numbering}
-use Rattle.numeric.specs.Pages.{Set, standardSet, roomOf, filled, wordsWith, checkOf, pageOf, textIn, inSet}
-use Rattle.numeric.specs.Answers.{writtenOf, wordsAfter, readOf, textAfter}
-use Rattle.numeric.proofs.Laws.{usable-standard, pageFor, checkFor, read-written}
+use Rattle.numeric.specs.Pages.{Set, standardSet, chineseSet, roomOf, spacesAfter, spacesAtEnd, filled, wordsWith, checkOf, pageOf, textIn, inSet}
+use Rattle.numeric.specs.Answers.{writtenOf, wordsAfter, writtenChosen, readOf, textAfter, readChosen}
+use Rattle.numeric.proofs.Laws.{usable-set, pageFor, checkFor, read-written}
 
 -- ---- 01's cases, and the tables' captions
 
@@ -61,14 +61,14 @@ unfolding standardSet pageOf checkOf wordsWith placeIn number digits sumBy
 standard-words = refl
 
 -- what is read of that word
-pub standard-read : readOf standardSet 4 3 6 (0x01C503 ∷ []) ≡ given (0 ∷ 0 ∷ 0 ∷ 4 ∷ [])
-unfolding readOf sumBy all
+pub standard-read : readOf standardSet 4 3 6 (0x01C503 ∷ []) ≡ given (0 ∷ 0 ∷ 0 ∷ 4 ∷ 0 ∷ [])
+unfolding standardSet readOf textIn number digits spacesAfter sumBy all
 standard-read = refl
 
 -- what is read of the word with all bits after the characters set: the groups 00H, C5H and 1DH make 226; 3 and 34
 -- make 37; K is 26, 10 in the vector and 1 in the word
-pub left-over-example : readOf standardSet 4 3 10 (0x1DC501 ∷ []) ≡ given (0 ∷ 0 ∷ 0 ∷ 4 ∷ [])
-unfolding readOf sumBy all
+pub left-over-example : readOf standardSet 4 3 10 (0x1DC501 ∷ []) ≡ given (0 ∷ 0 ∷ 0 ∷ 4 ∷ 0 ∷ [])
+unfolding standardSet readOf textIn number digits spacesAfter sumBy all
 left-over-example = refl
 
 -- the text of that word is the same
@@ -88,9 +88,9 @@ pub numbered-words : pageOf standardSet true (1 ∷ 1 ∷ 5 ∷ []) (bytesOf "04
 unfolding standardSet pageOf checkOf wordsWith placeIn number digits sumBy
 numbered-words = refl
 
--- what is read of those words
-pub numbered-read : readOf standardSet 8 7 2 (0x050316 ∷ 0x19998E ∷ []) ≡ given (1 ∷ 1 ∷ 5 ∷ 8 ∷ [])
-unfolding readOf sumBy all
+-- what is read of those words: four of the eight characters are spaces at the end
+pub numbered-read : readOf standardSet 8 7 2 (0x050316 ∷ 0x19998E ∷ []) ≡ given (1 ∷ 1 ∷ 5 ∷ 8 ∷ 4 ∷ [])
+unfolding standardSet readOf textIn number digits spacesAfter sumBy all
 numbered-read = refl
 
 -- the text of those words with its spaces
@@ -101,7 +101,7 @@ numbered-text = refl
 -- the text and its spaces are read back as the law says, whose premises hold here
 pub numbered-back : textIn standardSet true (pageFor standardSet 7 (numbers 1 1 5) (bytesOf "0417")) ≡ filled true (bytesOf "0417")
 numbered-back =
-    read-written standardSet 2 8 7 (numbers 1 1 5) (bytesOf "0417") usable-standard (ap numberTold numbered-example) (rw numbered-words (omega arith)) .1
+    read-written standardSet 2 8 7 (numbers 1 1 5) (bytesOf "0417") (usable-set false) (ap numberTold numbered-example) (rw numbered-words (omega arith)) .1
 
 -- lent words after the page stay as they were
 pub words-after : wordsAfter standardSet 3 none (bytesOf "0417") (7 ∷ 8 ∷ []) ≡ 0x01C503 ∷ 8 ∷ []
@@ -240,12 +240,12 @@ pub head-needed : pageOf standardSet true (24 ∷ 0 ∷ 0 ∷ []) (bytesOf "0") 
 unfolding standardSet pageOf checkOf wordsWith placeIn number digits sumBy
 head-needed = refl
 
--- S 24 is read as 0
-pub head-misread : readOf standardSet 2 7 12 (0x033000 ∷ []) ≡ given (0 ∷ 0 ∷ 0 ∷ 2 ∷ [])
-unfolding readOf sumBy all
+-- S 24 is read as 0, and both characters as spaces
+pub head-misread : readOf standardSet 2 7 12 (0x033000 ∷ []) ≡ given (0 ∷ 0 ∷ 0 ∷ 2 ∷ 2 ∷ [])
+unfolding standardSet readOf textIn number digits spacesAfter sumBy all
 head-misread = refl
 
--- the zero after it is read as a space
+-- the zero after it is one of them
 pub zero-misread : textIn standardSet true (0x033000 ∷ []) ≡ bytesOf "  "
 unfolding standardSet textIn number digits
 zero-misread = refl

@@ -27,22 +27,22 @@ use Rattle.refusal.specs.Told.{refused, given, numberTold}
 use Rattle.refusal.proofs.Laws.{passed}
 use Rattle.numeric.specs.declared.Numbering.{Numbering}
 use Rattle.sums.specs.Words.{wordBits, undamaged}
-use Rattle.numeric.specs.Pages.{Set, standardSet, mostWords, headOf, roomOf, wordsFor, filled, rowOf, wordsWith}
+use Rattle.numeric.specs.Pages.{Set, setWith, spaced, spacesAtEnd, mostWords, headOf, roomOf, wordsFor, filled, rowOf, wordsWith}
 use Rattle.numeric.specs.Pages.{checkOf, inVector, pageOf, textIn, isNumbered, inSet, headed, checked}
 use Rattle.numeric.specs.Answers.{flagsOf, writtenOf, wordsAfter, asWritten, readOf, textAfter, asRead}
 use Rattle.numeric.proofs.Bits.{some-word, room-enough, page-length, filled-length, head-read, k-of-page}
 use Rattle.numeric.proofs.Bits.{k-in-word, headSent, codes-digits, row-below, number-page, above-head}
 use Rattle.numeric.proofs.Bits.{text-read}
+use Rattle.numeric.proofs.Codes.{sixteen-of, space-of}
 
 -- a set of sixteen characters, the space among them
 pub record Usable (set : Set) : Type 0 where
   pub sixteen : length set ≡ 16
   pub space : placeIn set (code " ") < 16
 
--- Table 39 is such a set
-pub usable-standard : Usable standardSet
-unfolding standardSet placeIn
-usable-standard = record { sixteen = refl; space = omega arith }
+-- each set of Table 39 is such a set
+pub usable-set : (chinese : Bool) → Usable (setWith chinese)
+usable-set chinese = record { sixteen = sixteen-of chinese; space = rw (space-of chinese) (omega arith) }
 
 -- what a page can hold: numbers that fit its head, and characters of the set
 pub record Fits (set : Set) (numbered : Bool) (flags text : List ℕ) : Type 0 where
@@ -159,25 +159,30 @@ module _ (set : Set) (lent kind : ℕ) (numbering : Numbering) (text : List ℕ)
 
 -- ---- what was written is read
 
--- a text and its spaces are in the set
-filled-known : {set : Set} {numbered : Bool} {flags text : List ℕ} → Usable set → Fits set numbered flags text → inSet set (filled numbered text) ≡ true
+-- a text of the set and its spaces are in the set
+pub spaced-known : {set : Set} → Usable set → (room : ℕ) (text : List ℕ) → inSet set text ≡ true → inSet set (spaced room text) ≡ true
 unfolding inSet
-filled-known {set} {numbered} {text} usable fits =
+spaced-known {set} usable room text known =
     let test : ℕ → Bool = λ c. ltb (placeIn set c) (length set) in
     let space : test (code " ") ≡ true = lt-ltb (placeIn set (code " ")) (length set) (omega (arith, usable .sixteen, usable .space)) in
-    all-append test text _ ∙ rw (fits .known, all-replicate test (roomOf numbered (wordsFor numbered (length text)) - length text) (code " ") space)
+    all-append test text _ ∙ rw (known, all-replicate test (room - length text) (code " ") space)
+
+-- a text and its spaces are in the set
+filled-known : {set : Set} {numbered : Bool} {flags text : List ℕ} → Usable set → Fits set numbered flags text → inSet set (filled numbered text) ≡ true
+filled-known {numbered} {text} usable fits = spaced-known usable (roomOf numbered (wordsFor numbered (length text))) text (fits .known)
 
 -- the text in a page's words is the text and its spaces
 pub text-back : {set : Set} {numbered : Bool} {flags text : List ℕ} → Usable set → Fits set numbered flags text
     → textIn set numbered (pageOf set numbered flags text) ≡ filled numbered text
 text-back {set} {numbered} {flags} {text} usable fits = text-read set numbered flags text (fits .head) (usable .sixteen) (filled-known usable fits)
 
--- reading what was written gives the writer's own S, R and N, and the text and its spaces
+-- reading what was written gives the writer's own S, R and N, and the text and its spaces, with those at its end counted
 pub read-written : (set : Set) (lent room kind : ℕ) (numbering : Numbering) (text : List ℕ) → Usable set
     → numberTold (writtenOf set lent kind numbering text) ≡ 0
     → roomOf (isNumbered kind) (length (pageFor set kind numbering text)) ≤ room
     → (readOf set room kind (checkFor set kind numbering text) (pageFor set kind numbering text)
-    ≡ given (numbering .«special_format» ∷ numbering .retrieval ∷ numbering .«message_number» ∷ length (filled (isNumbered kind) text) ∷ []))
+    ≡ given (numbering .«special_format» ∷ numbering .retrieval ∷ numbering .«message_number»
+    ∷ length (filled (isNumbered kind) text) ∷ spacesAtEnd (filled (isNumbered kind) text) ∷ []))
     × (textIn set (isNumbered kind) (pageFor set kind numbering text) ≡ filled (isNumbered kind) text)
 unfolding readOf
 read-written set lent room kind numbering text usable e enough =
@@ -197,6 +202,7 @@ read-written set lent room kind numbering text usable e enough =
         le-ltb room (roomOf (isNumbered kind) (length page)) enough,
         head-read set (isNumbered kind) flags text (a .fits .head),
         all-read,
+        text-back usable (a .fits),
       ),
       text-back usable (a .fits),
     )
@@ -210,6 +216,7 @@ pub there-and-back : (set : Set) (kind : ℕ) (numbering : Numbering) (text word
       number = 0;
       numbering = numbering;
       characters = length (filled (isNumbered kind) text);
+      «spaces_at_end» = spacesAtEnd (filled (isNumbered kind) text);
     })
     × (textAfter set kind (written .check) page bytes ≡ put bytes 0 (filled (isNumbered kind) text))
 there-and-back set kind numbering text words bytes usable e enough =

@@ -20,30 +20,32 @@ use crate::PageRead;
 use packet::Vector;
 use refusal::Refusal;
 
-// One of two characters, by the set.
-fn either(chinese: bool, with_option_on: u8, with_option_off: u8) -> u8
-    ensures { λ r. ⌜ r ≡ pick chinese with_option_on with_option_off ⌝ }
-{
-    if chinese {
-        with_option_on
-    } else {
-        with_option_off
-    }
-}
-
-// The character of a code (Table 39).
+// The character of a code: a digit, or by the column of Table 39.
 fn character_of(chinese: bool, code: u32) -> u8
     requires { ⌜ code < 16 ⌝ }
     ensures { λ r. ⌜ r ≡ getD (setWith chinese) code 0 ⌝ }
 {
-    match code {
-        10 => either(chinese, b'A', b'?'),
-        11 => either(chinese, b'B', b'U'),
-        12 => b' ',
-        13 => either(chinese, b'C', b'-'),
-        14 => either(chinese, b'D', b']'),
-        15 => either(chinese, b'E', b'['),
-        _ => b'0' + code as u8,
+    if code < 10 {
+        return b'0' + code as u8;
+    }
+    if chinese {
+        match code {
+            10 => b'A',
+            11 => b'B',
+            13 => b'C',
+            14 => b'D',
+            15 => b'E',
+            _ => b' ',
+        }
+    } else {
+        match code {
+            10 => b'?',
+            11 => b'U',
+            13 => b'-',
+            14 => b']',
+            15 => b'[',
+            _ => b' ',
+        }
     }
 }
 
@@ -152,10 +154,10 @@ fn numbering_in(numbered: bool, first: u32) -> Numbering
 }
 
 // How many characters of a text are still to be looked at from its end on: those before a space, and none before another.
-fn before_space(is_space: bool, before: usize) -> usize
-    ensures { λ r. ⌜ r ≡ pick is_space before 0 ⌝ }
+fn before_space(space: bool, before: usize) -> usize
+    ensures { λ r. ⌜ r ≡ pick space before 0 ⌝ }
 {
-    if is_space { before } else { 0 }
+    if space { before } else { 0 }
 }
 
 // How many spaces stand at the end of a text. It is looked at from its end on, and no further than to a character that is

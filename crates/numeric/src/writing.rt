@@ -6,7 +6,6 @@ ghost use mathlib.Core.Bool.{true};
 ghost use mathlib.Core.List.{[], _∷_, _++_, map};
 ghost use lib.ListN.{length, getD};
 ghost use Rattle.laws.specs.Layouts.{size, fit, packed};
-ghost use Rattle.laws.specs.Choice.{pick};
 ghost use Rattle.laws.specs.Lists.{put, placeIn};
 ghost use Rattle.laws.specs.Numerals.{digits};
 ghost use Rattle.refusal.specs.Told.{told, numberTold};
@@ -21,31 +20,33 @@ use packet::Vector;
 use refusal::Refusal;
 use sums::WORD_LIMIT;
 
-// The code of a character that only one of the sets has, where it is the set; 16 where it is not.
-fn code_if(has_it: bool, code: u32) -> u32
-    ensures { λ r. ⌜ r ≡ pick has_it code 16 ⌝ }
-{
-    if has_it { code } else { 16 }
-}
-
-// The code of a character of the set (Table 39), 16 where it is in none.
+// The code of a character of the set, 16 where it is in none: a digit, or by the column of Table 39.
 fn code_of(chinese: bool, character: u8) -> u32
     ensures { λ r. ⌜ r ≡ placeIn (setWith chinese) character ⌝ }
 {
-    match character {
-        b'0'..=b'9' => (character - b'0') as u32,
-        b'?' => code_if(!chinese, 10),
-        b'U' => code_if(!chinese, 11),
-        b' ' => 12,
-        b'-' => code_if(!chinese, 13),
-        b']' => code_if(!chinese, 14),
-        b'[' => code_if(!chinese, 15),
-        b'A' => code_if(chinese, 10),
-        b'B' => code_if(chinese, 11),
-        b'C' => code_if(chinese, 13),
-        b'D' => code_if(chinese, 14),
-        b'E' => code_if(chinese, 15),
-        _ => 16,
+    if (b'0' <= character) & (character <= b'9') {
+        return (character - b'0') as u32;
+    }
+    if chinese {
+        match character {
+            b' ' => 12,
+            b'A' => 10,
+            b'B' => 11,
+            b'C' => 13,
+            b'D' => 14,
+            b'E' => 15,
+            _ => 16,
+        }
+    } else {
+        match character {
+            b' ' => 12,
+            b'?' => 10,
+            b'U' => 11,
+            b'-' => 13,
+            b']' => 14,
+            b'[' => 15,
+            _ => 16,
+        }
     }
 }
 

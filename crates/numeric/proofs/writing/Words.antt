@@ -6,7 +6,6 @@ use mathlib.Core.Path.{_≡_, refl, sym, ap, ap₂, _∙_}
 use native.Mathlib.Nat.{div-one, pow-zero, sub-zero}
 use native.Mathlib.Numerals.{add-one, towards-suc}
 use native.Mathlib.Omega.{arith}
-use lib.Dec.{ltb}
 use lib.ListN.{length, getD, take, set}
 use lib.Seq.{take-at}
 use lib.Pow.{field, high, mod-mod-pow, shr-shr}
@@ -14,19 +13,17 @@ use Rattle.laws.specs.Layouts.{size, fit}
 use Rattle.laws.specs.Lists.{put, placeIn}
 use Rattle.laws.specs.Numerals.{number, digits, areDigits}
 use Rattle.laws.proofs.Numerals.{digits-next, length-digits, pow-mul, six-from}
-use Rattle.laws.proofs.Rows.{all-append, all-replicate}
 use Rattle.laws.proofs.Writing.{length-put, put-next, put-nothing}
 use Rattle.sums.specs.Sums.{sixBits}
-use Rattle.numeric.specs.Pages.{standardSet, headOf, wordsFor, spaced, wordsWith, checkOf, inWord, pageOf, inSet}
+use Rattle.numeric.specs.Pages.{Set, headOf, wordsFor, spaced, wordsWith, checkOf, inWord, pageOf, inSet}
 use Rattle.numeric.specs.WritingPieces.{threeFrom}
 use Rattle.numeric.proofs.Bits.{aboveOf, check-small, codes-are, row-with, some-word}
+use Rattle.numeric.proofs.Laws.{Usable, spaced-known}
 
 -- the codes of a text of the set, and of its spaces, are four bits each
-pub spaced-codes : (room : ℕ) (text : List ℕ) → inSet standardSet text ≡ true → areDigits 16 (map (placeIn standardSet) (spaced room text)) ≡ true
-unfolding inSet standardSet placeIn
-spaced-codes room text known =
-    let test : ℕ → Bool = λ c. ltb (placeIn standardSet c) 16 in
-    codes-are standardSet (spaced room text) refl (all-append test text _ ∙ rw (known, all-replicate test (room - length text) 32 refl))
+pub spaced-codes : (set : Set) (room : ℕ) (text : List ℕ) → Usable set → inSet set text ≡ true
+    → areDigits 16 (map (placeIn set) (spaced room text)) ≡ true
+spaced-codes set room text usable known = codes-are set (spaced room text) (usable .sixteen) (spaced-known usable room text known)
 
 -- two times three codes are six in a row
 pub six-row : (codes : List ℕ) (place : ℕ) → areDigits 16 codes ≡ true
@@ -97,36 +94,36 @@ first-more (suc n) q k lent some small =
     (omega arith, ap₂ (λ (f r : ℕ). put lent 0 (f ∷ digits (2 ^ 21) n r)) first rest)
 
 -- the words of a page with K as 0
-abbrev pub zeroed : Bool → List ℕ → List ℕ → List ℕ
-zeroed numbered flags text = wordsWith standardSet numbered (flags ++ 0 ∷ []) text
+abbrev pub zeroed : Set → Bool → List ℕ → List ℕ → List ℕ
+zeroed characters numbered flags text = wordsWith characters numbered (flags ++ 0 ∷ []) text
 
-module _ (numbered : Bool) (flags text lent : List ℕ) where
+module _ (characters : Set) (numbered : Bool) (flags text lent : List ℕ) where
   -- as many as the text needs
-  zeroed-length : length (zeroed numbered flags text) ≡ wordsFor numbered (length text)
+  zeroed-length : length (zeroed characters numbered flags text) ≡ wordsFor numbered (length text)
   unfolding wordsWith
   zeroed-length = length-digits (2 ^ 21) (wordsFor numbered (length text)) _
 
   -- written, they leave the lent words as many as they were
-  pub zeroed-fits : wordsFor numbered (length text) ≤ length lent → length (put lent 0 (zeroed numbered flags text)) ≡ length lent
-  zeroed-fits enough = length-put lent (zeroed numbered flags text) 0 (omega (arith, zeroed-length))
+  pub zeroed-fits : wordsFor numbered (length text) ≤ length lent → length (put lent 0 (zeroed characters numbered flags text)) ≡ length lent
+  zeroed-fits enough = length-put lent (zeroed characters numbered flags text) 0 (omega (arith, zeroed-length))
 
   -- K is taken of the words with K as 0
-  pub k-taken : sixBits (take (wordsFor numbered (length text)) (put lent 0 (zeroed numbered flags text))) ≡ checkOf standardSet numbered flags text
+  pub k-taken : sixBits (take (wordsFor numbered (length text)) (put lent 0 (zeroed characters numbered flags text))) ≡ checkOf characters numbered flags text
   unfolding checkOf
-  k-taken = ap sixBits (take-at (zeroed numbered flags text) _ (wordsFor numbered (length text)) zeroed-length)
+  k-taken = ap sixBits (take-at (zeroed characters numbered flags text) _ (wordsFor numbered (length text)) zeroed-length)
 
   module _ (fits : fit (headOf numbered) (flags ++ 0 ∷ []) ≡ true) where
     -- any K5 with K4 is added to the first
     keyed : (k : ℕ) → k < 4
-        → let words = put lent 0 (zeroed numbered flags text) in (getD words 0 0 < 2 ^ 21)
-        × (set words 0 (getD words 0 0 + k) ≡ put lent 0 (wordsWith standardSet numbered (flags ++ k ∷ []) text))
+        → let words = put lent 0 (zeroed characters numbered flags text) in (getD words 0 0 < 2 ^ 21)
+        × (set words 0 (getD words 0 0 + k) ≡ put lent 0 (wordsWith characters numbered (flags ++ k ∷ []) text))
     unfolding wordsWith
     keyed k small =
-        rw (row-with standardSet numbered flags text k fits small, row-with standardSet numbered flags text 0 fits (omega arith))
-        (first-more (wordsFor numbered (length text)) (aboveOf standardSet numbered flags text) k lent (some-word numbered (length text)) small)
+        rw (row-with characters numbered flags text k fits small, row-with characters numbered flags text 0 fits (omega arith))
+        (first-more (wordsFor numbered (length text)) (aboveOf characters numbered flags text) k lent (some-word numbered (length text)) small)
 
     -- their own K5 with K4 added to the first makes the page
-    pub k-added : let words = put lent 0 (zeroed numbered flags text) in (getD words 0 0 < 2 ^ 21)
-        × (set words 0 (getD words 0 0 + inWord (checkOf standardSet numbered flags text)) ≡ put lent 0 (pageOf standardSet numbered flags text))
+    pub k-added : let words = put lent 0 (zeroed characters numbered flags text) in (getD words 0 0 < 2 ^ 21)
+        × (set words 0 (getD words 0 0 + inWord (checkOf characters numbered flags text)) ≡ put lent 0 (pageOf characters numbered flags text))
     unfolding pageOf
-    k-added = keyed (inWord (checkOf standardSet numbered flags text)) (check-small standardSet numbered flags text)
+    k-added = keyed (inWord (checkOf characters numbered flags text)) (check-small characters numbered flags text)

@@ -36,7 +36,7 @@ number-requires c κs = search needs
 
 returns : tie.Need-returns
 unfolding readOf
-returns c = c .number .ensures ∙ simp (sym (c .before .before .vector-fits .ensures) ∙ not-true _ (c .before .if1 .taken))
+returns c set = c .number .ensures ∙ simp (sym (c .before .before .vector-fits .ensures) ∙ not-true _ (c .before .if1 .taken))
 
 is-size-requires : tie.Need-is-size-requires
 is-size-requires c κs = search needs
@@ -46,7 +46,7 @@ number-requires-2 c κs = search needs
 
 returns-2 : tie.Need-returns-2
 unfolding readOf
-returns-2 c =
+returns-2 c set =
     c .number2 .ensures
     ∙ simp (fits (c .before .before .before), sym (c .before .before .is-size .ensures) ∙ not-true _ (c .before .if2 .taken))
 
@@ -58,7 +58,7 @@ number-requires-3 c κs = search needs
 
 returns-3 : tie.Need-returns-3
 unfolding readOf
-returns-3 c =
+returns-3 c set =
     let sized-at = c .before .before .before in
     c .number3 .ensures
     ∙ simp (fits (sized-at .before .before), sized sized-at, sym (c .before .before .undamaged .ensures) ∙ not-true _ (c .before .if3 .taken))
@@ -75,7 +75,7 @@ number-requires-4 c κs = search needs
 
 returns-4 : tie.Need-returns-4
 unfolding readOf
-returns-4 c =
+returns-4 c set =
     let past = c .before .before .before in
     let sized-at = past .before .before in
     c .number4 .ensures
@@ -92,7 +92,7 @@ number-requires-5 c κs = search needs
 
 returns-5 : tie.Need-returns-5
 unfolding readOf
-returns-5 c =
+returns-5 c set =
     let past = c .before .before .before in
     let whole-at = past .before .before in
     let sized-at = whole-at .before .before in
@@ -110,7 +110,7 @@ returns-5 c =
 
 returns-6 : tie.Need-returns-6
 unfolding readOf
-returns-6 c =
+returns-6 c set =
     let past = c .before .before in
     let whole-at = past .before .before in
     let sized-at = whole-at .before .before in

@@ -10,7 +10,7 @@ use Rattle.laws.specs.Layouts.{size}
 use Rattle.laws.specs.Lists.{put}
 use Rattle.laws.specs.Numerals.{number, digits}
 use Rattle.laws.proofs.Writing.{put-nothing}
-use Rattle.numeric.specs.Pages.{standardSet, headOf, textIn}
+use Rattle.numeric.specs.Pages.{setWith, headOf, textIn}
 use Rattle.numeric.proofs.Heads.{head-small}
 use Rattle.numeric.proofs.reading.Characters.{after-characters, spelled-turn}
 use borrow.Author.Needs.{needs}
@@ -18,13 +18,13 @@ use Rattle.numeric.proofs.reading.write_characters.Statement.{statement
 use Rattle.numeric.proofs.reading.write_characters.Tie as tie
 
 abbrev Inv-loop : tie.InvT-loop
-Inv-loop words numbered room text₀ at₀ place₀ i₀ text at place i =
+Inv-loop chinese words numbered room text₀ at₀ place₀ i₀ text at place i =
     (i ≤ room) × (place < 21) × (21 * at + place ≡ size (headOf numbered) + 4 * i) × (length text ≡ length text₀)
-    × (put text i (map (λ c. getD standardSet c 0) (digits 16 (room - i) (number (2 ^ 21) words / 2 ^ size (headOf numbered) / 16 ^ i)))
-    ≡ put text₀ 0 (map (λ c. getD standardSet c 0) (digits 16 room (number (2 ^ 21) words / 2 ^ size (headOf numbered)))))
+    × (put text i (map (λ c. getD (setWith chinese) c 0) (digits 16 (room - i) (number (2 ^ 21) words / 2 ^ size (headOf numbered) / 16 ^ i)))
+    ≡ put text₀ 0 (map (λ c. getD (setWith chinese) c 0) (digits 16 room (number (2 ^ 21) words / 2 ^ size (headOf numbered)))))
 
 abbrev μ-loop : tie.MeasureT-loop
-μ-loop words numbered room text₀ at₀ place₀ i₀ text at place i = room - i
+μ-loop chinese words numbered room text₀ at₀ place₀ i₀ text at place i = room - i
 
 head-size-requires : tie.Need-head-size-requires Inv-loop μ-loop
 head-size-requires c κs = search needs
@@ -67,15 +67,15 @@ loop-again c =
     let head = size (headOf (args .numbered)) in
     let next : (c .if1 .place < 21) × (21 * c .if1 .at + c .if1 .place ≡ 21 * l .at + l .place + 4) =
     ⊎-elim (λ w. (omega arith, omega arith)) (λ w. (omega (arith, l .inv .1), omega arith)) (c .if1 .came) in
-    let code : c .before .character-of .result ≡ getD standardSet (row / 2 ^ head / 16 ^ (l .i) % 16) 0 =
+    let code : c .before .character-of .result ≡ getD (setWith (args .chinese)) (row / 2 ^ head / 16 ^ (l .i) % 16) 0 =
     c .before .character-of .ensures
-    ∙ ap (λ (n : ℕ). getD standardSet n 0)
+    ∙ ap (λ (n : ℕ). getD (setWith (args .chinese)) n 0)
     (c .before .before .code-in .ensures ∙ ap (λ (n : ℕ). n % 16) (after-characters row head (l .i) (21 * l .at + l .place) (l .inv .2))) in (
       omega arith,
       next .0,
       omega (arith, next .1, l .inv .2),
       simp length-set (l .inv .3),
-      rw code (spelled-turn (λ n. getD standardSet n 0) (l .text) (args .room) (l .i) (row / 2 ^ head) (omega arith) (omega (arith, l .inv .3, lent)))
+      rw code (spelled-turn (λ n. getD (setWith (args .chinese)) n 0) (l .text) (args .room) (l .i) (row / 2 ^ head) (omega arith) (omega (arith, l .inv .3, lent)))
           ∙ l .inv .4,
     )
 

@@ -1,6 +1,6 @@
 -- `first_word` meets its contract: the head leaves room for the lowest of the characters' bits.
 use native.Mathlib.Omega.{arith}
-use Rattle.numeric.specs.Pages.{standardSet, spaced, codesOf}
+use Rattle.numeric.specs.Pages.{setWith, spaced, codesOf}
 use Rattle.numeric.proofs.Heads.{head-small, head-power}
 use Rattle.numeric.proofs.writing.Words.{first-is}
 use borrow.Author.Needs.{needs}
@@ -29,7 +29,7 @@ returns c =
     let start = c .before .before .before in
     let args = start .args in
     rw (c .head-size .ensures, c .before .six-codes .ensures)
-    (first-is (args .numbered) (args .head) (codesOf standardSet (spaced (args .room) (args .text .now))) (start .pre .1 .1))
+    (first-is (args .numbered) (args .head) (codesOf (setWith (args .chinese)) (spaced (args .room) (args .text .now))) (start .pre .1 .1))
 
 pub first-word-spec : {M : Type 1} → statement M
 first-word-spec =

@@ -4,17 +4,17 @@ use mathlib.Core.Path.{_≡_, refl, _∙_}
 use native.Mathlib.Omega.{arith}
 use lib.ListN.{length, drop}
 use Rattle.laws.proofs.Rows.{passes, fails, all-asked}
-use Rattle.numeric.specs.Pages.{standardSet, inSet}
+use Rattle.numeric.specs.Pages.{setWith, inSet}
 use Rattle.numeric.proofs.Codes.{in-place, in-no-place}
 use borrow.Author.Needs.{needs}
 use Rattle.numeric.proofs.writing.in_set.Statement.{statement}
 use Rattle.numeric.proofs.writing.in_set.Tie as tie
 
 abbrev Inv-loop : tie.InvT-loop
-Inv-loop text i₀ i = inSet standardSet (drop i text) ≡ inSet standardSet text
+Inv-loop chinese text i₀ i = inSet (setWith chinese) (drop i text) ≡ inSet (setWith chinese) text
 
 abbrev μ-loop : tie.MeasureT-loop
-μ-loop text i₀ i = length text - i
+μ-loop chinese text i₀ i = length text - i
 
 loop-holds : tie.Need-loop-holds Inv-loop μ-loop
 loop-holds c = refl
@@ -29,8 +29,8 @@ returns : tie.Need-returns Inv-loop μ-loop
 unfolding inSet
 returns c =
     let turn = c .before .before .before .before in
-    let text = turn .before .before .args .text .now in
-    fails _ text (turn .loop .i) (omega arith) (in-no-place _ _ (c .before .code-of .ensures) (c .if1 .taken)) ∙ turn .loop .inv
+    let args = turn .before .before .args in
+    fails _ (args .text .now) (turn .loop .i) (omega arith) (in-no-place (args .chinese) _ _ (c .before .code-of .ensures) (c .if1 .taken)) ∙ turn .loop .inv
 
 add-i : tie.Need-add-i Inv-loop μ-loop
 add-i c = search needs
@@ -42,8 +42,8 @@ loop-again : tie.Need-loop-again Inv-loop μ-loop
 unfolding inSet
 loop-again c =
     let turn = c .before .before .before .before in
-    let text = turn .before .before .args .text .now in
-    passes _ text (turn .loop .i) (omega arith) (in-place _ _ (c .before .code-of .ensures) (c .if1 .left)) ∙ turn .loop .inv
+    let args = turn .before .before .args in
+    passes _ (args .text .now) (turn .loop .i) (omega arith) (in-place (args .chinese) _ _ (c .before .code-of .ensures) (c .if1 .left)) ∙ turn .loop .inv
 
 returns-2 : tie.Need-returns-2 Inv-loop μ-loop
 unfolding inSet

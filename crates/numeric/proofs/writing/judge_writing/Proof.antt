@@ -5,7 +5,7 @@ use mathlib.Core.Path.{_≡_, sym, _∙_}
 use native.Mathlib.Omega.{arith}
 use borrow.Author.Tests.{lt-ltb, le-ltb, not-true, not-false}
 use lib.ListN.{length}
-use Rattle.numeric.specs.Pages.{standardSet, mostWords, roomOf, pageOf, isNumbered, inSet, headed}
+use Rattle.numeric.specs.Pages.{setWith, mostWords, roomOf, pageOf, isNumbered, inSet, headed}
 use Rattle.numeric.specs.Answers.{flagsOf, writtenOf}
 use Rattle.numeric.proofs.Bits.{page-length}
 use Rattle.numeric.proofs.writing.Writable.{most-characters}
@@ -22,7 +22,7 @@ short : (c : tie.Else2) → let start = c .before .before .before .before .befor
 short c = omega (arith, c .before .room-of .ensures, c .if2 .left)
 
 known : (c : tie.Else3) → let start = c .before .before .before .before .before .before .before in
-    inSet standardSet (start .args .text .now) ≡ true
+    inSet (setWith (start .args .chinese)) (start .args .text .now) ≡ true
 known c = sym (c .before .in-set .ensures) ∙ not-false _ (c .if3 .left)
 
 headed-requires : tie.Need-headed-requires
@@ -82,8 +82,8 @@ returns-4 c =
     let short-at = past .before .before in
     let fits-at = short-at .before .before in
     let args = fits-at .before .before .before .args in
-    let page = pageOf standardSet (isNumbered (args .kind)) (flagsOf (args .numbering)) (args .text .now) in
-    let words = page-length standardSet (isNumbered (args .kind)) (flagsOf (args .numbering)) (args .text .now) in
+    let page = pageOf (setWith (args .chinese)) (isNumbered (args .kind)) (flagsOf (args .numbering)) (args .text .now) in
+    let words = page-length (setWith (args .chinese)) (isNumbered (args .kind)) (flagsOf (args .numbering)) (args .text .now) in
     c .number4 .ensures
     ∙ simp (
       fits fits-at,
@@ -99,8 +99,8 @@ returns-5 c =
     let short-at = past .before .before in
     let fits-at = short-at .before .before in
     let args = fits-at .before .before .before .args in
-    let page = pageOf standardSet (isNumbered (args .kind)) (flagsOf (args .numbering)) (args .text .now) in
-    let words = page-length standardSet (isNumbered (args .kind)) (flagsOf (args .numbering)) (args .text .now) in
+    let page = pageOf (setWith (args .chinese)) (isNumbered (args .kind)) (flagsOf (args .numbering)) (args .text .now) in
+    let words = page-length (setWith (args .chinese)) (isNumbered (args .kind)) (flagsOf (args .numbering)) (args .text .now) in
     simp (
       fits fits-at,
       le-ltb _ _ (short short-at),

@@ -1,42 +1,48 @@
--- `write` meets its contract: what is refused writes nothing.
+-- `write` meets its contract: a number that chooses no set is refused, and a set that is chosen decides.
 use Prim.Native.Nat.{ℕ}
 use mathlib.Core.List.{[]}
-use mathlib.Core.Path.{_≡_, sym, ap, _∙_}
-use lib.ListN.{length}
-use Rattle.refusal.specs.Told.{told, numberTold}
-use Rattle.refusal.proofs.Laws.{refusal-keeps}
-use Rattle.numeric.specs.Pages.{standardSet}
-use Rattle.numeric.specs.Answers.{asWritten, writtenOf}
-use Rattle.numeric.proofs.Laws.{pageFor}
-use Rattle.numeric.proofs.writing.Writable.{write-plain}
+use mathlib.Core.Path.{refl, sym, ap, _∙_}
+use borrow.Author.Tests.{not-true, not-false}
+use Rattle.refusal.specs.Told.{told}
+use Rattle.numeric.specs.Answers.{asWritten}
 use borrow.Author.Needs.{needs}
 use Rattle.numeric.proofs.writing.write.Statement.{statement}
 use Rattle.numeric.proofs.writing.write.Tie as tie
 
-judge-writing-requires : tie.Need-judge-writing-requires
-judge-writing-requires c κs = search needs
+is-set-requires : tie.Need-is-set-requires
+is-set-requires c κs = search needs
+
+number-requires : tie.Need-number-requires
+number-requires c κs = search needs
+
+refused-requires : tie.Need-refused-requires
+refused-requires c κs = search needs
 
 returns : tie.Need-returns
 returns c =
-    let args = c .before .before .before .before .args in
-    let lent = args .words .now in
-    let answer = writtenOf standardSet (length lent) (args .kind) (args .numbering) (args .text .now) in
-    let some : numberTold answer ≡ 0 → ⊥ = λ none. c .if1 .taken (c .before .judge-writing .ensures ∙ none) in (
-      ap asWritten
-          (ap (λ (n : ℕ). told n []) (c .before .judge-writing .ensures)
-          ∙ sym (write-plain standardSet (length lent) (args .kind) (args .numbering) (args .text .now) some)),
-      sym (refusal-keeps answer lent (pageFor standardSet (args .kind) (args .numbering) (args .text .now)) some),
-    )
+    let asked = c .before .before .before in
+    rw (sym (asked .is-set .ensures) ∙ not-true _ (c .before .before .if1 .taken))
+    (c .refused .ensures ∙ ap (λ (n : ℕ). asWritten (told n [])) (c .before .number .ensures), refl)
 
-write-page-requires : tie.Need-write-page-requires
-write-page-requires c κs = search needs
+write-in-requires : tie.Need-write-in-requires
+write-in-requires c κs = search needs
 
 same-length : tie.Need-same-length
 same-length c = search needs
 
 returns-2 : tie.Need-returns-2
-returns-2 c = c .before .before .write-page .ensures
+returns-2 c =
+    let chosen = c .before .before .before .before in
+    rw (sym (chosen .before .is-set .ensures) ∙ not-false _ (chosen .if1 .left)) (c .before .before .write-in .ensures)
 
 pub write-spec : {M : Type 1} → statement M
 write-spec =
-    tie.close (tie.spec judge-writing-requires returns write-page-requires same-length returns-2)
+    tie.close
+    (tie.spec
+    is-set-requires
+    number-requires
+    refused-requires
+    returns
+    write-in-requires
+    same-length
+    returns-2)

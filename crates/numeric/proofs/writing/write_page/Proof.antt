@@ -10,7 +10,7 @@ use Rattle.laws.proofs.Layouts.{packed-lt}
 use Rattle.sums.specs.Sums.{sixBits}
 use Rattle.refusal.specs.Told.{given}
 use Rattle.refusal.proofs.Laws.{given-writes}
-use Rattle.numeric.specs.Pages.{standardSet, headOf, wordsWith, checkOf, pageOf, isNumbered}
+use Rattle.numeric.specs.Pages.{setWith, headOf, wordsWith, checkOf, pageOf, isNumbered}
 use Rattle.numeric.specs.Answers.{flagsOf, asWritten, writtenOf}
 use Rattle.numeric.proofs.Bits.{laid-head, page-length, room-enough}
 use Rattle.numeric.proofs.Laws.{Accepted, accepted, accepted-told, page-size}
@@ -21,8 +21,8 @@ use Rattle.numeric.proofs.writing.write_page.Statement.{statement}
 use Rattle.numeric.proofs.writing.write_page.Tie as tie
 
 -- what is known, since nothing is refused
-known : (c : tie.Start) → Accepted standardSet (length (c .args .words .now)) (c .args .kind) (c .args .numbering) (c .args .text .now)
-known c = accepted standardSet (length (c .args .words .now)) (c .args .kind) (c .args .numbering) (c .args .text .now) .0 (c .pre)
+known : (c : tie.Start) → Accepted (setWith (c .args .chinese)) (length (c .args .words .now)) (c .args .kind) (c .args .numbering) (c .args .text .now)
+known c = accepted (setWith (c .args .chinese)) (length (c .args .words .now)) (c .args .kind) (c .args .numbering) (c .args .text .now) .0 (c .pre)
 
 -- where it began
 abbrev start : tie.After-write-words → tie.Start
@@ -40,7 +40,7 @@ write-words-requires : tie.Need-write-words-requires
 write-words-requires c κs =
     let entry = c .before .before .before .before .before in
     let numbered = isNumbered (entry .args .kind) in
-    let size = page-size standardSet numbered (flagsOf (entry .args .numbering)) (entry .args .text .now) (known entry .short) in
+    let size = page-size (setWith (entry .args .chinese)) numbered (flagsOf (entry .args .numbering)) (entry .args .text .now) (known entry .short) in
     let count = c .before .before .words-for .ensures in (
       known entry .fits .known,
       (
@@ -55,14 +55,14 @@ write-words-requires c κs =
 
 -- the words with K as 0
 zeroes : (c : tie.After-write-words)
-    → c .write-words .last .1 .1 .1 .1 .0
-    ≡ put (start c .args .words .now) 0 (zeroed (isNumbered (start c .args .kind)) (flagsOf (start c .args .numbering)) (start c .args .text .now))
+    → c .write-words .last .1 .1 .1 .1 .1 .0
+    ≡ put (start c .args .words .now) 0 (zeroed (setWith (start c .args .chinese)) (isNumbered (start c .args .kind)) (flagsOf (start c .args .numbering)) (start c .args .text .now))
 unfolding wordsWith
 zeroes c = rw (c .before .before .before .words-for .ensures, c .before .before .head-of .ensures) at (c .write-words .ensures)
 
 -- the words with K as 0 are as many as were lent, which is enough
 as-many : (c : tie.After-write-words)
-    → (length (c .write-words .last .1 .1 .1 .1 .0) ≡ length (start c .args .words .now))
+    → (length (c .write-words .last .1 .1 .1 .1 .1 .0) ≡ length (start c .args .words .now))
     × (c .before .before .before .words-for .result ≤ length (start c .args .words .now))
     × (1 ≤ c .before .before .before .words-for .result)
 as-many c =
@@ -71,23 +71,23 @@ as-many c =
     let flags = flagsOf (args .numbering) in
     let text = args .text .now in
     let a = known (start c) in
-    let sizes = page-size standardSet numbered flags text (a .short) in
+    let sizes = page-size (setWith (args .chinese)) numbered flags text (a .short) in
     let count = c .before .before .before .words-for .ensures in (
       ap length (zeroes c)
-          ∙ zeroed-fits numbered flags text (args .words .now) (omega (arith, sizes, a .enough)),
+          ∙ zeroed-fits (setWith (args .chinese)) numbered flags text (args .words .now) (omega (arith, sizes, a .enough)),
       omega (arith, count, sizes, a .enough),
       omega (arith, count, sizes),
     )
 
 -- K is taken of the words with K as 0
 taken : (c : tie.After-six-bit) → let entry = start (c .before .before .before .before) in
-    c .six-bit .result ≡ checkOf standardSet (isNumbered (entry .args .kind)) (flagsOf (entry .args .numbering)) (entry .args .text .now)
+    c .six-bit .result ≡ checkOf (setWith (entry .args .chinese)) (isNumbered (entry .args .kind)) (flagsOf (entry .args .numbering)) (entry .args .text .now)
 taken c =
     let at = c .before .before .before .before in
     let args = start at .args in
     c .six-bit .ensures .0
     ∙ ap₂ (λ (n : ℕ) (words : List ℕ). sixBits (take n words)) (at .before .before .before .words-for .ensures) (zeroes at)
-    ∙ k-taken (isNumbered (args .kind)) (flagsOf (args .numbering)) (args .text .now) (args .words .now)
+    ∙ k-taken (setWith (args .chinese)) (isNumbered (args .kind)) (flagsOf (args .numbering)) (args .text .now) (args .words .now)
 
 slice-reshare-prefix-six-bit : tie.Need-slice-reshare-prefix-six-bit
 slice-reshare-prefix-six-bit c = omega (arith, as-many (c .before .before))
@@ -107,7 +107,7 @@ add-words : tie.Need-add-words
 add-words c =
     let at = c .before .before .before .before .before in
     let args = start at .args in
-    let added = k-added (isNumbered (args .kind)) (flagsOf (args .numbering)) (args .text .now) (args .words .now) (known (start at) .fits .head) in
+    let added = k-added (setWith (args .chinese)) (isNumbered (args .kind)) (flagsOf (args .numbering)) (args .text .now) (args .words .now) (known (start at) .fits .head) in
     omega (arith, rw (← zeroes at) at (added .0), c .before .six-bit .ensures .1)
 
 slice-write-words : tie.Need-slice-write-words
@@ -129,14 +129,15 @@ returns c =
     let flags = flagsOf (args .numbering) in
     let text = args .text .now in
     let lent = args .words .now in
-    let told = accepted-told standardSet (length lent) (args .kind) (args .numbering) text (known entry) in
-    let added = k-added numbered flags text lent (known entry .fits .head) in
-    let count = at .before .before .before .words-for .ensures ∙ sym (page-length standardSet numbered flags text) in (
+    let characters = setWith (args .chinese) in
+    let told = accepted-told characters (length lent) (args .kind) (args .numbering) text (known entry) in
+    let added = k-added characters numbered flags text lent (known entry .fits .head) in
+    let count = at .before .before .before .words-for .ensures ∙ sym (page-length characters numbered flags text) in (
       ap₂ (λ (k n : ℕ). asWritten (given (k % 16 ∷ n ∷ []))) (taken (c .before)) count ∙ ap asWritten (sym told),
       ap₂ (λ (words : List ℕ) (k : ℕ). set words 0 (getD words 0 0 + k / 16)) (zeroes at) (taken (c .before))
           ∙ added .1
           ∙ sym
-          (given-writes (writtenOf standardSet (length lent) (args .kind) (args .numbering) text) lent (pageOf standardSet numbered flags text) (entry .pre)),
+          (given-writes (writtenOf characters (length lent) (args .kind) (args .numbering) text) lent (pageOf characters numbered flags text) (entry .pre)),
     )
 
 pub write-page-spec : {M : Type 1} → statement M

@@ -6,20 +6,20 @@ use lib.ListN.{length, length-set}
 use Rattle.laws.specs.Layouts.{size}
 use Rattle.laws.specs.Lists.{put}
 use Rattle.laws.specs.Numerals.{digits}
-use Rattle.numeric.specs.Pages.{standardSet, headOf, spaced, codesOf}
+use Rattle.numeric.specs.Pages.{setWith, headOf, spaced, codesOf}
 use Rattle.numeric.proofs.Heads.{head-small}
 use Rattle.numeric.proofs.writing.Words.{word-turn, first-turn, all-written, after-head}
 use Rattle.numeric.proofs.writing.write_words.Statement.{statement}
 use Rattle.numeric.proofs.writing.write_words.Tie as tie
 
 abbrev Inv-loop : tie.InvT-loop
-Inv-loop text numbered head count words₀ room start₀ i₀ words start i =
-    let row = head + 2 ^ size (headOf numbered) * codesOf standardSet (spaced room text) in
+Inv-loop chinese text numbered head count words₀ room start₀ i₀ words start i =
+    let row = head + 2 ^ size (headOf numbered) * codesOf (setWith chinese) (spaced room text) in
     (i ≤ count) × (size (headOf numbered) + start ≡ 21 * i) × (count ≤ length words) × (length words ≡ length words₀)
     × (put words i (digits (2 ^ 21) (count - i) (row / (2 ^ 21) ^ i)) ≡ put words₀ 1 (digits (2 ^ 21) (count - 1) (row / (2 ^ 21) ^ 1)))
 
 abbrev μ-loop : tie.MeasureT-loop
-μ-loop text numbered head count words₀ room start₀ i₀ words start i = count - i
+μ-loop chinese text numbered head count words₀ room start₀ i₀ words start i = count - i
 
 room-of-requires : tie.Need-room-of-requires Inv-loop μ-loop
 room-of-requires c κs =
@@ -91,7 +91,7 @@ loop-again c =
     let inv = turn .loop .inv in
     let more = c .before .loop-test .taken in
     let h = size (headOf (args .numbered)) in
-    let codes = codesOf standardSet (spaced (turn .before .before .before .room-of .result) (args .text .now)) in
+    let codes = codesOf (setWith (args .chinese)) (spaced (turn .before .before .before .room-of .result) (args .text .now)) in
     let word =
     c .later-word .ensures ∙ ap (λ (n : ℕ). n % 2 ^ 21) (sym (after-head h (turn .loop .start) i (args .head) codes (entry .pre .1 .1 .0) (inv .1))) in (
       omega (arith, more),
@@ -112,7 +112,7 @@ returns c =
     let entry = stored .before .before .before .before in
     let args = entry .args in
     let pre = entry .pre .1 .1 .1 in
-    let row = args .head + 2 ^ size (headOf (args .numbered)) * codesOf standardSet (spaced (stored .before .room-of .result) (args .text .now)) in
+    let row = args .head + 2 ^ size (headOf (args .numbered)) * codesOf (setWith (args .chinese)) (spaced (stored .before .room-of .result) (args .text .now)) in
     all-written (2 ^ 21) row (args .count) (turn .loop .words) (turn .loop .i) _ (c .loop-test .left)
     ∙ turn .loop .inv .4
     ∙ first-turn (2 ^ 21) row (args .count) (args .words .now) (stored .first-word .result) (pre .0) (omega (arith, pre)) (stored .first-word .ensures)
