@@ -14,6 +14,7 @@ use Rattle.refusal.specs.Told.{Told, refused, given, numberTold}
 use Rattle.numeric.specs.declared.Numbering.{Numbering}
 use Rattle.numeric.specs.Pages.{Set, standardSet, chineseSet, roomOf, spacesAfter, spacesAtEnd, filled, wordsWith, checkOf, pageOf, textIn, inSet}
 use Rattle.numeric.specs.Answers.{writtenOf, wordsAfter, writtenChosen, readOf, textAfter, readChosen}
+use Rattle.numeric.proofs.Spaces.{shown}
 use Rattle.numeric.proofs.Laws.{usable-set, pageFor, checkFor, read-written}
 
 -- ---- 01's cases, and the tables' captions
@@ -118,6 +119,44 @@ pub refused-leaves : wordsAfter standardSet 3 none (bytesOf "12345") (7 ∷ []) 
 unfolding standardSet writtenOf pageOf checkOf wordsWith placeIn number digits sumBy inSet all
 refused-leaves = refl
 
+-- ---- 02, item 6: the option on, and the spaces at the end
+
+-- "0B17" with the option on: 11 from i6, 1 from i10 and 7 from i14; the groups C0H, C6H and 01H make 391, of which 135 is taken; 2 and 7 make 9;
+-- K is 54, 6 in the vector and 3 in the word
+pub chinese-example : writtenOf chineseSet 1 3 none (bytesOf "0B17") ≡ given (6 ∷ 1 ∷ [])
+unfolding chineseSet writtenOf pageOf checkOf wordsWith placeIn number digits sumBy inSet all
+chinese-example = refl
+
+-- the word of "0B17", with K5 and K4
+pub chinese-words : pageOf chineseSet false (0 ∷ 0 ∷ 0 ∷ []) (bytesOf "0B17") ≡ 0x01C6C3 ∷ []
+unfolding chineseSet pageOf checkOf wordsWith placeIn number digits sumBy
+chinese-words = refl
+
+-- nothing in the word says by which set it was written: with the option off it is read as another text
+pub both-readings : map (λ (set : Set). textIn set false (0x01C6C3 ∷ [])) (chineseSet ∷ standardSet ∷ []) ≡ bytesOf "0B17" ∷ bytesOf "0U17" ∷ []
+unfolding chineseSet standardSet textIn number digits
+both-readings = refl
+
+-- the text is read back as the law says, whose premises hold here
+pub chinese-back : textIn chineseSet false (pageFor chineseSet 3 none (bytesOf "0B17")) ≡ filled false (bytesOf "0B17")
+chinese-back = read-written chineseSet 1 4 3 none (bytesOf "0B17") (usable-set true) (ap numberTold chinese-example) (rw chinese-words (omega arith)) .1
+
+-- "0 4" with one space inside and one after it: 12 from i6, 4 from i10 and 12 from i14; the groups 00H, 13H and 03H make 22; K is 41, 9 in the vector
+-- and 2 in the word; one space stands at the end
+pub inner-space : readOf standardSet 4 3 9 (0x031302 ∷ []) ≡ given (0 ∷ 0 ∷ 0 ∷ 4 ∷ 1 ∷ [])
+unfolding standardSet readOf textIn number digits spacesAfter sumBy all
+inner-space = refl
+
+-- a page of spaces alone: the groups 30H, 33H and 03H make 102; 1 and 38 make 39; K is 24, 8 in the vector and 1 in the word; all its room is spaces
+pub only-spaces : readOf chineseSet 4 3 8 (0x033331 ∷ []) ≡ given (0 ∷ 0 ∷ 0 ∷ 4 ∷ 4 ∷ [])
+unfolding chineseSet readOf textIn number digits spacesAfter sumBy all
+only-spaces = refl
+
+-- spaces within a text are not counted, and those of a text of spaces alone, or of none, are all
+pub end-spaces : map spacesAtEnd (bytesOf "04 17     " ∷ bytesOf "    " ∷ bytesOf "0 1" ∷ [] ∷ []) ≡ 5 ∷ 4 ∷ 0 ∷ 0 ∷ []
+unfolding spacesAfter
+end-spaces = refl
+
 -- ---- what is refused
 
 -- pages to write, each with 01's number
@@ -135,11 +174,25 @@ writes =
     ∷ (writtenOf standardSet 8 3 none (replicate 42 (code "1")), 15)
     ∷ (writtenOf standardSet 8 7 none (replicate 40 (code "1")), 15)
     ∷ (writtenOf standardSet 8 3 none (bytesOf "1A"), 18)
+    -- with the option on A to E are taken, and the five that they stand for are not
+    ∷ (writtenOf chineseSet 8 3 none (bytesOf "0 ABCDE"), 0)
+    ∷ (writtenOf chineseSet 8 3 none (bytesOf "1?"), 18)
+    ∷ (writtenOf chineseSet 8 3 none (bytesOf "1U"), 18)
+    ∷ (writtenOf chineseSet 8 3 none (bytesOf "1-"), 18)
+    ∷ (writtenOf chineseSet 8 3 none (bytesOf "1]"), 18)
+    ∷ (writtenOf chineseSet 8 3 none (bytesOf "1["), 18)
+    -- the choice of set: the option off, on, and none
+    ∷ (writtenChosen 0 8 3 none (bytesOf "1-"), 0)
+    ∷ (writtenChosen 1 8 3 none (bytesOf "1C"), 0)
+    ∷ (writtenChosen 0 8 3 none (bytesOf "1C"), 18)
+    ∷ (writtenChosen 1 8 3 none (bytesOf "1-"), 18)
+    ∷ (writtenChosen 2 8 3 none (bytesOf "1"), 7)
     -- five characters are two words
     ∷ (writtenOf standardSet 1 3 none (bytesOf "12345"), 1)
     -- an empty text is one
     ∷ (writtenOf standardSet 0 3 none [], 1)
     -- the first question that refuses decides
+    ∷ (writtenChosen 2 0 3 none (replicate 42 (code "x")), 7)
     ∷ (writtenOf standardSet 0 5 none (replicate 42 (code "A")), 7)
     ∷ (writtenOf standardSet 0 3 none (replicate 42 (code "A")), 15)
     ∷ (writtenOf standardSet 0 3 none (bytesOf "A"), 18)
@@ -147,13 +200,17 @@ writes =
 
 -- the writer gives these answers
 pub write-examples : map {A = Told × ℕ} {B = ℕ} (λ row. numberTold (row .0)) writes ≡ map {A = Told × ℕ} {B = ℕ} (λ row. row .1) writes
-unfolding writes standardSet writtenOf pageOf checkOf wordsWith placeIn number digits sumBy inSet all
+unfolding writes standardSet chineseSet writtenOf pageOf checkOf wordsWith placeIn number digits sumBy inSet all
 write-examples = refl
 
 -- pages to read, each with 01's number
 unfoldable pub reads : List (Told × ℕ)
 reads =
     (readOf standardSet 4 3 6 (0x01C503 ∷ []), 0)
+    -- the choice of set: the option off, on, and none
+    ∷ (readChosen 0 4 3 6 (0x01C503 ∷ []), 0)
+    ∷ (readChosen 1 4 3 6 (0x01C503 ∷ []), 0)
+    ∷ (readChosen 2 4 3 6 (0x01C503 ∷ []), 7)
     -- an alphanumeric vector; K over 15
     ∷ (readOf standardSet 4 5 6 (0x01C503 ∷ []), 7)
     ∷ (readOf standardSet 4 3 16 (0x01C503 ∷ []), 7)
@@ -169,6 +226,7 @@ reads =
     -- four characters and a buffer of three
     ∷ (readOf standardSet 3 3 6 (0x01C503 ∷ []), 1)
     -- the first question that refuses decides
+    ∷ (readChosen 2 0 3 6 [], 7)
     ∷ (readOf standardSet 0 5 6 [], 7)
     ∷ (readOf standardSet 0 3 6 (replicate 9 0x200000), 9)
     ∷ (readOf standardSet 0 3 6 (0x200000 ∷ []), 10)
@@ -181,6 +239,11 @@ unfolding reads readOf sumBy all
 read-examples = refl
 
 -- ---- what each premise of the laws is for; a buffer too short, and a vector's type of another page, stand in `reads`
+
+-- a space that the sender wrote at the end is counted with the filling, so that what is shown is not all that was written
+pub own-space : (spacesAtEnd (filled false (bytesOf "4 ")) ≡ 3) × (shown (filled false (bytesOf "4 ")) ≡ bytesOf "4")
+unfolding spacesAfter
+own-space = (refl, refl)
 
 -- a set without the space
 abbrev spaceless : Set
