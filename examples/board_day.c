@@ -1,8 +1,8 @@
 /*
  * A board without a decoder, for the main loop in board_loop.c: a day's file from standard input says what happens,
- * line after line (day_file.h). `from` lines are what the decoder sends, and an interrupt comes for each; `to` and
- * `reset` lines are what the rest of the host wants. A checksum packet is an exception: the loop makes it itself where
- * nothing more is to be sent.
+ * line after line (day_file.h). `from` lines are what the decoder sends, and an interrupt comes for each; `to`, `reset`
+ * and `set` lines are what the rest of the host wants. A checksum packet is an exception: the loop makes it itself
+ * where nothing more is to be sent.
  *
  * Whatever goes out is held against the file. Where it is another packet, or none, that is told by the number of the
  * line and ends the program with status 1.
@@ -47,11 +47,11 @@ static const struct day_line *next_line(void)
     return is_read ? &line : NULL;
 }
 
-static bool is_next(enum day_way way)
+static bool is_next(enum day_kind kind)
 {
     const struct day_line *next = next_line();
 
-    return next != NULL && next->way == way;
+    return next != NULL && next->kind == kind;
 }
 
 static void line_is_done(void)
@@ -69,8 +69,10 @@ static _Noreturn void fail(unsigned long number, uint32_t packet, const char *wh
 
 uint32_t decoder_reset(void)
 {
-    if (!is_next(DAY_RESET))
-        fail(line.number, line.packet, "stands where the host resets the decoder");
+    if (!is_next(DAY_RESET)) {
+        fprintf(stderr, "day: line %lu stands where the host resets the decoder\n", line.number);
+        exit(EXIT_FAILURE);
+    }
     line_is_done();
     decoder = mortisevane_mirror_reset(line.packet).mirror;
     return line.packet;
@@ -100,18 +102,26 @@ void decoder_call(void)
 
 /* ---- The rest of the host ---- */
 
-/* A line that makes a packet due. A decoder that is talking ignores checksums, so none is due then. */
-enum wish host_wish(uint32_t *packet)
+/*
+ * A set is wanted when its line is the next one: what came before it has been exchanged by then, and the loop has
+ * followed it. A `to` line makes its packet due. A decoder that is talking ignores checksums, so none is due then.
+ */
+enum wish host_wish(uint32_t *wanted)
 {
     bool is_checksum;
 
     if (is_next(DAY_RESET))
         return WISH_RESET;
+    if (is_next(DAY_SET)) {
+        line_is_done();
+        *wanted = line.set;
+        return WISH_SET;
+    }
     if (!is_next(DAY_TO))
         return WISH_LATER;
     due = line;
     line_is_done();
-    *packet = due.packet;
+    *wanted = due.packet;
     is_checksum = due.packet >> 24 == MORTISEVANE_PACKET_CHECKSUM;
     is_due = is_checksum ? decoder.talking == 0 : mortisevane_may_send(due.packet) == 0;
     return is_checksum ? WISH_NOTHING : WISH_SEND;

@@ -96,9 +96,9 @@ void decoder_call(void)
         interrupt();
 }
 
-enum wish host_wish(uint32_t *packet)
+enum wish host_wish(uint32_t *wanted)
 {
-    *packet = (uint32_t)MORTISEVANE_PACKET_ADDRESS_ENABLE << ID_PLACE | draw(PACKETS);
+    *wanted = (uint32_t)MORTISEVANE_PACKET_ADDRESS_ENABLE << ID_PLACE | draw(PACKETS);
     switch (draw(4)) {
     case 0:
         return WISH_LATER;

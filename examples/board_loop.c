@@ -1,8 +1,9 @@
 /*
  * The main loop of a pager's board, to be copied into firmware: an interrupt exchanges packets with the decoder and
- * puts them into a queue; the loop takes them out, hands them to the pager, and sends what the rest of the host wants
- * sent. It keeps the handshake: what may not be sent is not sent, and a decoder that is not talking is made to talk as
- * soon as there is nothing more to send. With board_day.c it works a day's file and prints what day.c prints.
+ * puts them into a queue; the loop takes them out, hands them to the pager, sends what the rest of the host wants sent,
+ * and has the pager read numeric pages by the set that it wants. It keeps the handshake: what may not be sent is not
+ * sent, and a decoder that is not talking is made to talk as soon as there is nothing more to send. With board_day.c it
+ * works a day's file and prints what day.c prints.
  *
  * Every transfer goes both ways, and a packet that goes out can end the talking while a page comes in. So the queue
  * holds both packets of an exchange, and the loop hears the one that came before its mirror follows the one that was
@@ -83,17 +84,24 @@ static void follow_exchanges(void)
     }
 }
 
+/*
+ * A set needs no exchange, and holds from here on: for the pages that are completed by exchanges followed later. Those
+ * that waited when the turn began were read by the set of before.
+ */
 static void follow_wish(void)
 {
-    uint32_t packet;
+    uint32_t wanted;
 
-    switch (host_wish(&packet)) {
+    switch (host_wish(&wanted)) {
     case WISH_RESET:
         reset();
         break;
     case WISH_SEND:
-        if (pager_may_send(packet))
-            send(packet);
+        if (pager_may_send(wanted))
+            send(wanted);
+        break;
+    case WISH_SET:
+        pager_choose_set(&pager, wanted);
         break;
     case WISH_NOTHING:
         if (pager.mirror.talking == 0)
@@ -117,7 +125,8 @@ static void call_for_what_waits(void)
 
 /*
  * Whether a packet may be handed over is asked before the exchanges are followed: where it may, that of the last packet
- * is among them, and the mirror from which a checksum is made has followed it.
+ * is among them, and the mirror from which a checksum is made has followed it. A wish that sends nothing waits for that
+ * too, so that wishes are followed in their order.
  */
 int main(void)
 {

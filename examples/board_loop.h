@@ -41,19 +41,22 @@ enum wish {
     /* There is more to send, but not yet: a decoder that is not talking is left so. */
     WISH_LATER,
     WISH_SEND,
-    WISH_RESET
+    WISH_RESET,
+    /* Numeric pages are to be read by another set of characters. */
+    WISH_SET
 };
 
 /*
- * What is to be done next for the rest of the host: its set-up, its buttons, its clock. A packet to send is handed
- * over.
+ * What is to be done next for the rest of the host: its set-up, its buttons, its clock. What is wanted is handed over:
+ * the packet to send, or the set, MORTISEVANE_SET_STANDARD or _CHINESE.
  */
-enum wish host_wish(uint32_t *packet);
+enum wish host_wish(uint32_t *wanted);
 
 /*
  * Sleeps until an interrupt has come. It must return at once where one came since the last sleep, else a packet that
  * came just before would lie until the next (on a Cortex-M the instruction WFE does it right, and WFI does not), and
- * where there is a wish to send or to reset. Answers whether the day goes on, which on a board it always does.
+ * where there is a wish to send, to reset or for a set. Answers whether the day goes on, which on a board it always
+ * does.
  */
 bool host_sleep(void);
 

@@ -9,7 +9,7 @@
 
 static void take(struct pager *pager, const struct day_line *line)
 {
-    switch (line->way) {
+    switch (line->kind) {
     case DAY_RESET:
         pager_reset(pager, line->packet);
         break;
@@ -19,6 +19,9 @@ static void take(struct pager *pager, const struct day_line *line)
         break;
     case DAY_FROM:
         pager_heard(pager, line->packet);
+        break;
+    case DAY_SET:
+        pager_choose_set(pager, line->set);
         break;
     }
 }

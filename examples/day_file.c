@@ -1,4 +1,5 @@
 #include "day_file.h"
+#include "mortisevane.h"
 
 #include <stdio.h>
 #include <stdlib.h>
@@ -6,7 +7,7 @@
 
 enum {
     DIGITS = 8,
-    /* The longest way, its packet, and the space before a remark. */
+    /* The longest line without its remark, and the space before that. */
     COUNTED = sizeof "reset HHHHHHHH " - 1
 };
 
@@ -48,29 +49,47 @@ static bool read_packet(const char *digits, uint32_t *packet)
     return true;
 }
 
-/* Whether the line is a packet of this way. */
-static bool says(const struct characters *line, const char *way, uint32_t *packet)
+/* Whether the line has this beginning and, so many characters after it, ends or has a space and a remark. */
+static bool says(const struct characters *line, const char *beginning, size_t more)
 {
-    size_t before = strlen(way);
-    size_t end = before + DIGITS;
+    size_t length = strlen(beginning);
+    size_t end = length + more;
 
-    if (line->length < end || memcmp(line->text, way, before) != 0)
+    if (line->length < end || memcmp(line->text, beginning, length) != 0)
         return false;
-    if (line->length > end && line->text[end] != ' ')
-        return false;
-    return read_packet(line->text + before, packet);
+    return line->length == end || line->text[end] == ' ';
 }
 
-static bool find_way(const struct characters *characters, struct day_line *line)
+/* Whether the line is a packet of this way. */
+static bool brings(const struct characters *line, const char *way, uint32_t *packet)
 {
-    if (says(characters, "reset ", &line->packet))
-        line->way = DAY_RESET;
-    else if (says(characters, "to ", &line->packet))
-        line->way = DAY_TO;
-    else if (says(characters, "from ", &line->packet))
-        line->way = DAY_FROM;
+    return says(line, way, DIGITS) && read_packet(line->text + strlen(way), packet);
+}
+
+static bool find_packet(const struct characters *characters, struct day_line *line)
+{
+    if (brings(characters, "reset ", &line->packet))
+        line->kind = DAY_RESET;
+    else if (brings(characters, "to ", &line->packet))
+        line->kind = DAY_TO;
+    else if (brings(characters, "from ", &line->packet))
+        line->kind = DAY_FROM;
     else
         return false;
+    line->set = 0;
+    return true;
+}
+
+static bool find_set(const struct characters *characters, struct day_line *line)
+{
+    if (says(characters, "set standard", 0))
+        line->set = MORTISEVANE_SET_STANDARD;
+    else if (says(characters, "set chinese", 0))
+        line->set = MORTISEVANE_SET_CHINESE;
+    else
+        return false;
+    line->kind = DAY_SET;
+    line->packet = 0;
     return true;
 }
 
@@ -84,9 +103,9 @@ bool day_read(struct day_line *line)
         if (characters.length == 0 || characters.text[0] == '#')
             continue;
         line->number = number;
-        if (find_way(&characters, line))
+        if (find_packet(&characters, line) || find_set(&characters, line))
             return true;
-        fprintf(stderr, "day: line %lu is no comment and no packet with its way\n", number);
+        fprintf(stderr, "day: line %lu is no comment, no packet with its way and no set by its name\n", number);
         exit(EXIT_FAILURE);
     }
     if (ferror(stdin)) {

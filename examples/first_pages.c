@@ -21,6 +21,12 @@ static struct mortisevane_mirror mirror;
 static struct mortisevane_calls calls;
 static struct mortisevane_chains chains;
 
+/*
+ * The set of characters of numeric pages. Nothing that comes tells which of the two sets a sender uses, so this is a
+ * setting of the pager: MORTISEVANE_SET_CHINESE has A to E for `?`, `U`, `-`, `]` and `[`.
+ */
+enum { PAGE_SET = MORTISEVANE_SET_STANDARD };
+
 /* What it lends: here lie the words of calls and the texts of chains. The library has no memory of its own. */
 static uint32_t call_words[MORTISEVANE_CALL_WORDS];
 static uint8_t chain_texts[MORTISEVANE_CHAIN_BYTES];
@@ -126,15 +132,19 @@ static void set_up(const char *label)
         puts("the decoder is talking");
 }
 
-/* A numeric page is whole in one call. Its zeros are characters: 0417 is not 417. */
+/*
+ * A numeric page is whole in one call. Its zeros are characters: 0417 is not 417. Its text has all the characters that
+ * its words have room for, and a display shows those before the spaces at the end: spaces fill up the last word.
+ */
 static void show_numeric_page(struct mortisevane_call call, const uint32_t *words)
 {
     uint8_t text[MORTISEVANE_PAGE_CHARACTERS];
-    struct mortisevane_page_read page = mortisevane_numeric_read(call.kind, call.check,
+    struct mortisevane_page_read page = mortisevane_numeric_read(PAGE_SET, call.kind, call.check,
             words, call.words, text, sizeof text);
 
     expect_taken(page.number);
-    printf("address %lu: [%.*s]\n", (unsigned long)call.address, (int)page.characters, (const char *)text);
+    printf("address %lu: [%.*s]\n", (unsigned long)call.address, (int)(page.characters - page.spaces_at_end),
+            (const char *)text);
 }
 
 /* A text comes in one fragment or in several. It is handed out with the last of them, and only as it was sent. */
@@ -211,7 +221,7 @@ static void hear_numeric_page(const char *text)
 {
     struct mortisevane_numbering none = { 0 };
     uint32_t words[MORTISEVANE_PAGE_WORDS];
-    struct mortisevane_written written = mortisevane_numeric_write((const uint8_t *)text, strlen(text),
+    struct mortisevane_written written = mortisevane_numeric_write(PAGE_SET, (const uint8_t *)text, strlen(text),
             MORTISEVANE_VECTOR_STANDARD, none, words, MORTISEVANE_PAGE_WORDS);
 
     expect_taken(written.number);

@@ -42,8 +42,8 @@ static void print_text(const uint8_t *text, size_t length)
 }
 
 /*
- * After a refusal too the decoder has been reset, and nothing of before holds. The answer's mirror is then that of
- * zeros.
+ * After a refusal too the decoder has been reset, and nothing of before holds but the set, which the decoder does not
+ * know. The answer's mirror is then that of zeros.
  */
 bool pager_reset(struct pager *pager, uint32_t part_id)
 {
@@ -143,10 +143,35 @@ static void hear_status(struct pager *pager, uint32_t packet)
     tell_waits(pager, &status.fields);
 }
 
-static void page_numeric(const struct mortisevane_call *call, const uint32_t *words)
+void pager_choose_set(struct pager *pager, uint32_t set)
+{
+    pager->set = set;
+    if (set == MORTISEVANE_SET_STANDARD)
+        puts("set: standard");
+    else if (set == MORTISEVANE_SET_CHINESE)
+        puts("set: chinese");
+    else
+        printf("set: %lu\n", (unsigned long)set);
+}
+
+/*
+ * A display shows what stands before the spaces at the end, so that its places are left for characters of the page.
+ * Which of these spaces the sender wrote and which fill the last word nobody can tell: they are told by their number.
+ */
+static void print_page(const uint8_t *text, const struct mortisevane_page_read *page)
+{
+    print_text(text, page->characters - page->spaces_at_end);
+    if (page->spaces_at_end == 1)
+        printf(", 1 space at the end");
+    else if (page->spaces_at_end != 0)
+        printf(", %lu spaces at the end", (unsigned long)page->spaces_at_end);
+    putchar('\n');
+}
+
+static void page_numeric(const struct pager *pager, const struct mortisevane_call *call, const uint32_t *words)
 {
     uint8_t text[MORTISEVANE_PAGE_CHARACTERS];
-    struct mortisevane_page_read page = mortisevane_numeric_read(call->kind, call->check,
+    struct mortisevane_page_read page = mortisevane_numeric_read(pager->set, call->kind, call->check,
             words, call->words, text, sizeof text);
 
     print_address(call->address);
@@ -155,8 +180,7 @@ static void page_numeric(const struct mortisevane_call *call, const uint32_t *wo
         return;
     }
     printf(": numeric ");
-    print_text(text, page.characters);
-    putchar('\n');
+    print_page(text, &page);
 }
 
 /* A text that is handed out lies in the lent texts, and is to be read before the next fragment. */
@@ -211,7 +235,7 @@ static void page(struct pager *pager, const struct mortisevane_call *call, uint3
     case MORTISEVANE_VECTOR_STANDARD:
     case MORTISEVANE_VECTOR_SPECIAL:
     case MORTISEVANE_VECTOR_NUMBERED:
-        page_numeric(call, words);
+        page_numeric(pager, call, words);
         break;
     case MORTISEVANE_VECTOR_ALPHANUMERIC:
         join_fragment(pager, call, words);

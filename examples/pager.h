@@ -26,11 +26,17 @@ struct pager {
     uint16_t assigned;
     /* The designated frame of each of them, 0 to 127. */
     uint8_t designated[PAGER_TEMPORARIES];
+    /*
+     * The set of characters by which numeric pages are read, MORTISEVANE_SET_STANDARD or _CHINESE; zeros are the
+     * standard one. No packet tells which set a sender uses: it is a setting of the pager.
+     */
+    uint32_t set;
 };
 
 /*
- * The decoder was reset and told its part ID. Calls, chains and assignments of before are gone. Answers whether what it told is a
- * part ID; where it is not, nothing is known of the decoder until the next reset.
+ * The decoder was reset and told its part ID. Calls, chains and assignments of before are gone; the set of numeric
+ * pages is the pager's own, and stays. Answers whether what it told is a part ID; where it is not, nothing is known of
+ * the decoder until the next reset.
  */
 bool pager_reset(struct pager *pager, uint32_t part_id);
 
@@ -42,6 +48,12 @@ void pager_sent(struct pager *pager, uint32_t packet);
 
 /* A packet from the decoder. */
 void pager_heard(struct pager *pager, uint32_t packet);
+
+/*
+ * Numeric pages that are complete from now on are read by this set, MORTISEVANE_SET_STANDARD or _CHINESE. By a number
+ * that is neither the library refuses every one of them, with 7.
+ */
+void pager_choose_set(struct pager *pager, uint32_t set);
 
 /* The end of the day: the texts of which a part never came. */
 void pager_end(const struct pager *pager);

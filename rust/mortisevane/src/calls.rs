@@ -2,7 +2,7 @@
 //!
 //! ```
 //! use mortisevane::calls::{Calls, CALL_WORDS};
-//! use mortisevane::numeric::{self, PAGE_CHARACTERS};
+//! use mortisevane::numeric::{self, CharacterSet, PAGE_CHARACTERS};
 //! use mortisevane::Refusal;
 //!
 //! let mut calls = Calls::default();
@@ -16,7 +16,8 @@
 //!
 //! assert_eq!((page.call.address, page.words), (4, &[0x01C503][..]));
 //! let mut text = [0; PAGE_CHARACTERS];
-//! assert_eq!(numeric::read(page.call.kind, page.call.check, page.words, &mut text)?.text, b"0417");
+//! let read = numeric::read(CharacterSet::Standard, page.call.kind, page.call.check, page.words, &mut text)?;
+//! assert_eq!(read.text, b"0417");
 //!
 //! // Nothing was left open, and a word of no call is refused.
 //! assert!(calls.end_frame(&memory)?.open_calls().is_empty());

@@ -15,7 +15,7 @@
 //! | [`packet`] | the decoder's packets, built from fields and read |
 //! | [`mirror`] | the checksum handshake: whether the decoder is talking |
 //! | [`sums`] | the sums that messages carry |
-//! | [`numeric`] | numeric pages, text to words and back |
+//! | [`numeric`] | numeric pages in either set of characters, text to words and back, and the spaces at the end of a text |
 //! | [`fragment`] | a text cut into fragments, one fragment read |
 //! | [`chains`] | fragments joined to texts |
 //! | [`calls`] | which message words of a frame belong to which page |

@@ -3,7 +3,7 @@
 use mortisevane::calls::{Call, Calls, HeardVector, CALLS, CALL_WORDS};
 use mortisevane::chains::{Chains, CHAIN_BYTES};
 use mortisevane::fragment::{self, Marks};
-use mortisevane::numeric::{self, Numbering, PAGE_CHARACTERS};
+use mortisevane::numeric::{self, CharacterSet, Numbering, PAGE_CHARACTERS};
 use mortisevane::packet::{VECTOR_ALPHANUMERIC, VECTOR_SHORT, VECTOR_STANDARD};
 use mortisevane::Refusal;
 
@@ -75,7 +75,9 @@ fn one_fragment(text: &[u8], words: &mut [u32]) {
 #[test]
 fn the_three_calls_of_tables_54_and_55() {
     let mut numeric_words = [0; 3];
-    let check = numeric::write(b"0417 0418 00419", VECTOR_STANDARD, Numbering::default(), &mut numeric_words).unwrap().check;
+    let (text, numbering) = (b"0417 0418 00419", Numbering::default());
+    let written = numeric::write(CharacterSet::Standard, text, VECTOR_STANDARD, numbering, &mut numeric_words);
+    let check = written.unwrap().check;
     let (mut second, mut third) = ([0; 4], [0; 3]);
     one_fragment(b"Bay 12 B", &mut second);
     one_fragment(b"Urgnt", &mut third);
@@ -116,7 +118,9 @@ fn texts(frame: &Frame) -> Vec<String> {
     let mut buffer = vec![0; CHAIN_BYTES];
     let mut page = [0; PAGE_CHARACTERS];
     let texts = frame.pages.iter().map(|(address, kind, check, words)| match *kind {
-        VECTOR_STANDARD => numeric::read(*kind, *check, words, &mut page).unwrap().text.to_vec(),
+        VECTOR_STANDARD => {
+            numeric::read(CharacterSet::Standard, *kind, *check, words, &mut page).unwrap().shown().to_vec()
+        }
         _ => chains.fragment(&mut buffer, *address, words).unwrap().text.expect("it has one fragment").to_vec(),
     });
     texts.map(|text| String::from_utf8(text).expect("a page is ASCII")).collect()

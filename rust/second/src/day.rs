@@ -1,11 +1,14 @@
 //! A day of a pager, from a file of packets: what the host makes of each.
 //!
 //! A line of the file is a comment (`#` first), has nothing on it, or is one of
-//! these, with eight upper-case hexadecimal digits and, after a space, a remark:
+//! these, where HHHHHHHH are eight upper-case hexadecimal digits. After a space a
+//! remark may follow.
 //!
 //! - `reset HHHHHHHH`: the host reset the decoder, which told this part ID;
 //! - `to HHHHHHHH`: the host sends it;
-//! - `from HHHHHHHH`: the decoder sends it.
+//! - `from HHHHHHHH`: the decoder sends it;
+//! - `set standard`, `set chinese`: the pager is set to read numeric pages by this
+//!   set of characters.
 
 use std::collections::BTreeMap;
 use std::fmt;
@@ -19,7 +22,7 @@ use crate::heard::{read_status, Status, ADDRESS, STATUS};
 use crate::layout::id_of;
 use crate::listing::append_shown;
 use crate::mirror::{self, Mirror};
-use crate::numeric;
+use crate::numeric::{self, PageRead, CHINESE_SET, STANDARD_SET};
 use crate::packet::{may_send, PART_ID};
 use crate::refusal::Refusal;
 use crate::vector::{
@@ -38,6 +41,31 @@ pub enum Line {
     Reset(u32),
     To(u32),
     From(u32),
+    Set(Set),
+}
+
+/// A set of characters of numeric pages. No packet tells which one a sender uses.
+#[derive(Clone, Copy, Debug, PartialEq, Eq)]
+pub enum Set {
+    Standard,
+    Chinese,
+}
+
+impl Set {
+    /// As the reader of pages takes it.
+    fn number(self) -> u32 {
+        match self {
+            Set::Standard => STANDARD_SET,
+            Set::Chinese => CHINESE_SET,
+        }
+    }
+
+    fn name(self) -> &'static str {
+        match self {
+            Set::Standard => "standard",
+            Set::Chinese => "chinese",
+        }
+    }
 }
 
 /// What a line without its end says; none if it is none of the file's lines.
@@ -50,6 +78,9 @@ pub fn read_line(line: &[u8]) -> Option<Line> {
     }
     if let Some(rest) = line.strip_prefix(b"to ") {
         return read_packet(rest).map(Line::To);
+    }
+    if let Some(rest) = line.strip_prefix(b"set ") {
+        return read_set(rest).map(Line::Set);
     }
     let rest = line.strip_prefix(b"from ")?;
     read_packet(rest).map(Line::From)
@@ -71,6 +102,13 @@ fn read_packet(text: &[u8]) -> Option<u32> {
     })
 }
 
+/// The name goes to the line's end, or to the space before a remark.
+fn read_set(text: &[u8]) -> Option<Set> {
+    let name = text.split(|byte| *byte == b' ').next()?;
+    let sets = [Set::Standard, Set::Chinese];
+    sets.into_iter().find(|set| set.name().as_bytes() == name)
+}
+
 /// Why a file was not worked to its end.
 #[derive(Debug)]
 pub enum Trouble {
@@ -88,9 +126,10 @@ impl From<io::Error> for Trouble {
 impl fmt::Display for Trouble {
     fn fmt(&self, to: &mut fmt::Formatter) -> fmt::Result {
         match self {
-            Trouble::Line(number) => {
-                write!(to, "line {number} is no comment and no packet with its way")
-            }
+            Trouble::Line(number) => write!(
+                to,
+                "line {number} is no comment, no packet with its way and no set by its name"
+            ),
             Trouble::Io(error) => error.fmt(to),
         }
     }
@@ -121,6 +160,8 @@ pub struct Pager {
     /// The temporary addresses that were assigned in the present frame, each with
     /// its designated frame.
     assigned: BTreeMap<u32, u32>,
+    /// The set by which numeric pages are read.
+    set: Set,
 }
 
 /// The lines that are told of a packet, or its refusal.
@@ -136,6 +177,7 @@ impl Pager {
             chains: Chains::default(),
             texts: vec![0; chain::BUFFER],
             assigned: BTreeMap::new(),
+            set: Set::Standard,
         }
     }
 
@@ -143,6 +185,10 @@ impl Pager {
     pub fn take(&mut self, line: Line) -> Vec<String> {
         let (packet, told) = match line {
             Line::Nothing => return Vec::new(),
+            Line::Set(set) => {
+                self.set = set;
+                return vec![format!("set: {}", set.name())];
+            }
             Line::Reset(packet) => (packet, self.reset(packet)),
             Line::To(packet) => (packet, self.send(packet)),
             Line::From(packet) => (packet, self.hear(packet)),
@@ -154,9 +200,12 @@ impl Pager {
     }
 
     /// The decoder was reset whatever it told, so after a refusal too nothing of
-    /// before holds.
+    /// before holds. The set is not the decoder's: it stays.
     fn reset(&mut self, packet: u32) -> Told {
-        *self = Pager::fresh();
+        *self = Pager {
+            set: self.set,
+            ..Pager::fresh()
+        };
         self.mirror = mirror::reset(packet)?;
         Ok(vec![format!("reset: part ID {packet:08X}")])
     }
@@ -244,7 +293,9 @@ impl Pager {
         }
         let words = &self.words[call.place()..][..call.words as usize];
         Ok(match call.kind {
-            STANDARD_NUMERIC | SPECIAL_NUMERIC | NUMBERED_NUMERIC => numeric_page(call, words),
+            STANDARD_NUMERIC | SPECIAL_NUMERIC | NUMBERED_NUMERIC => {
+                numeric_page(self.set, call, words)
+            }
             ALPHANUMERIC => join(&mut self.chains, &mut self.texts, call.address, words),
             kind => format!("address {}: vector type {kind}, not read", call.address),
         })
@@ -298,18 +349,26 @@ fn lacking(call: &Call) -> String {
     }
 }
 
-fn numeric_page(call: &Call, words: &[u32]) -> String {
+fn numeric_page(set: Set, call: &Call, words: &[u32]) -> String {
     let address = call.address;
     let mut text = [0; PAGE_CHARACTERS];
-    match numeric::read(call.kind, call.check, words, &mut text) {
-        Ok(page) => format!(
-            "address {address}: numeric [{}]",
-            shown(&text[..page.characters])
-        ),
+    match numeric::read(set.number(), call.kind, call.check, words, &mut text) {
+        Ok(page) => format!("address {address}: numeric {}", displayed(&text, page)),
         Err(refusal) => format!(
             "address {address}: numeric page refused {}",
             refusal.number()
         ),
+    }
+}
+
+/// A display leaves the spaces at the end of a page out, for they may be filling;
+/// here they are told by their number (02, item 6).
+fn displayed(text: &[u8], page: PageRead) -> String {
+    let text = shown(&text[..page.characters - page.spaces_at_end]);
+    match page.spaces_at_end {
+        0 => format!("[{text}]"),
+        1 => format!("[{text}], 1 space at the end"),
+        spaces => format!("[{text}], {spaces} spaces at the end"),
     }
 }
 
@@ -392,11 +451,21 @@ mod tests {
             self.heard((3 + last as u32) << 24 | words[last], &[told]);
             self.heard(0x7F00_0004, &[]);
         }
+
+        /// Of a numeric page to address 3, the K of its vector and its one word, as a
+        /// call of its own frame.
+        #[track_caller]
+        fn paged(&mut self, (check, word): (u32, u32), told: &str) {
+            self.heard(0x0100_0302, &[]);
+            self.heard(0x0203_0003 | check << 10, &[]);
+            self.heard(0x0300_0000 | word, &[told]);
+            self.heard(0x7F00_0004, &[]);
+        }
     }
 
     #[test]
     fn lines() {
-        let lines: [(&[u8], Line); 8] = [
+        let lines: [(&[u8], Line); 12] = [
             (b"", Line::Nothing),
             (b"#", Line::Nothing),
             (b"# to 00000106", Line::Nothing),
@@ -405,11 +474,15 @@ mod tests {
             (b"from 89EF0000 ", Line::From(0x89EF_0000)),
             (b"to 00000106 a remark", Line::To(0x106)),
             (b"to 00000106 \xFF\t", Line::To(0x106)),
+            (b"set standard", Line::Set(Set::Standard)),
+            (b"set chinese", Line::Set(Set::Chinese)),
+            (b"set standard ", Line::Set(Set::Standard)),
+            (b"set chinese standard\t", Line::Set(Set::Chinese)),
         ];
         for (text, line) in lines {
             assert_eq!(read_line(text), Some(line));
         }
-        let wrong: [&[u8]; 12] = [
+        let wrong: [&[u8]; 24] = [
             b" ",
             b" # no comment",
             b" to 00000106",
@@ -422,6 +495,18 @@ mod tests {
             b"to +0000106",
             b"to 00000106\r",
             b"at 00000106",
+            b"set",
+            b"set ",
+            b" set chinese",
+            b"set  chinese",
+            b"set\tchinese",
+            b"set Chinese",
+            b"set chines",
+            b"set chinesex",
+            b"set chinese\r",
+            b"set standard\ta remark",
+            b"setchinese",
+            b"set 00000001",
         ];
         for text in wrong {
             assert_eq!(read_line(text), None);
@@ -525,6 +610,65 @@ mod tests {
         pager.heard(0x0203_0003 | CHECK_OF_0417 ^ 1 << 10, &[]);
         let refused = "address 3: numeric page refused 11";
         pager.heard(0x0300_0000 | WORD_OF_0417, &[refused]);
+    }
+
+    /// The codes 0, B, 1 and 7 from bit 2 on are 01C6C0, and C0 + C6 + 01 = 187, of
+    /// which 87 = 10 000111; 2 + 7 = 001001; K = 11 0110.
+    const PAGE_OF_0B17: (u32, u32) = (0b0110, 0x01_C6C0 | 0b11);
+    const READ_AS_STANDARD: &str = "address 3: numeric [0U17]";
+    const READ_AS_CHINESE: &str = "address 3: numeric [0B17]";
+
+    /// The set is the pager's: no reset changes it, a refused one neither.
+    #[test]
+    fn sets() {
+        let mut pager = talking();
+        pager.paged(PAGE_OF_0B17, READ_AS_STANDARD);
+        pager.told("set chinese", &["set: chinese"]);
+        pager.paged(PAGE_OF_0B17, READ_AS_CHINESE);
+        pager.told("reset FE000106", &["refused 7: FE000106"]);
+        pager.told("reset FF000106", &["reset: part ID FF000106"]);
+        pager.told("to 00000106", &["talking"]);
+        pager.paged(PAGE_OF_0B17, READ_AS_CHINESE);
+        pager.told("set standard", &["set: standard"]);
+        pager.paged(PAGE_OF_0B17, READ_AS_STANDARD);
+    }
+
+    /// The set that holds when the last word has come decides, whatever held when
+    /// the call was opened. A decoder need not be talking for a set to be chosen.
+    #[test]
+    fn a_set_between_the_packets_of_a_page() {
+        let mut pager = Pager::fresh();
+        let (check, word) = PAGE_OF_0B17;
+        pager.told("set chinese", &["set: chinese"]);
+        pager.told("reset FF000106", &["reset: part ID FF000106"]);
+        pager.told("to 00000106", &["talking"]);
+        pager.heard(0x0100_0302, &[]);
+        pager.told("set standard", &["set: standard"]);
+        pager.heard(0x0203_0003 | check << 10, &[]);
+        pager.told("set chinese", &["set: chinese"]);
+        pager.heard(0x0300_0000 | word, &[READ_AS_CHINESE]);
+    }
+
+    /// By hand, the codes from bit 2 on. A space, 1, a space, 7: 01F070; 70 + F0 + 01
+    /// = 161, of which 61 = 01 100001; 1 + 21 = 100010; K = 01 1101. 4, 1, 7 and a
+    /// space: 031C50; 50 + 1C + 03 = 6F = 01 101111; 1 + 2F = 110000; K = 00 1111.
+    /// 4 and three spaces: 033310; 10 + 33 + 03 = 46 = 01 000110; 1 + 06 = 000111;
+    /// K = 11 1000. Four spaces: 033330; 30 + 33 + 03 = 66 = 01 100110; 1 + 26 =
+    /// 100111; K = 01 1000.
+    #[test]
+    fn spaces_at_the_end() {
+        for (page, told) in [
+            ((0b1101, 0x01_F070 | 0b01), "[ 1 7]"),
+            ((0b1111, 0x03_1C50), "[417], 1 space at the end"),
+            ((0b1000, 0x03_3310 | 0b11), "[4], 3 spaces at the end"),
+            ((0b1000, 0x03_3330 | 0b01), "[], 4 spaces at the end"),
+        ] {
+            let mut pager = talking();
+            let told = format!("address 3: numeric {told}");
+            pager.paged(page, &told);
+            pager.told("set chinese", &["set: chinese"]);
+            pager.paged(page, &told);
+        }
     }
 
     /// One word for two calls, paged in the order opened and not in that of their

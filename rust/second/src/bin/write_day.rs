@@ -9,7 +9,7 @@ use second::frames::{frames_listened, Listener, MASKS, MOST_LISTENERS};
 use second::heard::{AddressPacket, Message, Status, FIRST_TEMPORARY};
 use second::layout::{build, Kind};
 use second::mirror::{self, Mirror};
-use second::numeric::{write, Numbering, MOST_WORDS};
+use second::numeric::{write, Numbering, CHINESE_SET, MOST_WORDS, STANDARD_SET};
 use second::packet::{
     may_send, AddressEnable, AllFrameMode, Configuration, Control, FrameAssignment, PartId,
     UserAddress,
@@ -84,10 +84,11 @@ const GROUP_TEXT: List = List {
 };
 
 const HEAD: &str = "\
-# A sample day of a pager. A line has a packet's way, its eight digits and a remark:
+# A sample day of a pager. A line has a packet's way and its eight digits, or the name of a set, and then a remark:
 #   reset  the host reset the decoder, which told this part ID;
 #   to     the host sends it;
-#   from   the decoder sends it.
+#   from   the decoder sends it;
+#   set    the pager is set to read numeric pages by this set of characters, standard or chinese.
 # What the host makes of them stands in day.expected.
 ";
 
@@ -103,6 +104,8 @@ fn main() {
     day.page_in_a_later_frame();
     day.page_in_the_next_cycle();
     day.noon();
+    day.pages_at_the_customer();
+    day.page_after_the_customer();
     day.first_frame_of_lists();
     day.second_frame_of_lists();
     day.third_frame_of_lists();
@@ -167,6 +170,10 @@ impl Day {
 
     fn from(&self, packet: u32, remark: &str) {
         println!("from {packet:08X} {remark}");
+    }
+
+    fn set(&self, name: &str, remark: &str) {
+        println!("set {name} {remark}");
     }
 
     fn reset(&mut self) {
@@ -346,8 +353,7 @@ impl Day {
             address: NEXT_CYCLE_GROUP,
             vector: 2,
         };
-        let unnumbered = Numbering::default();
-        self.send(&[numeric("0945-07-12", STANDARD_NUMERIC, unnumbered, call, 3)]);
+        self.send(&[standard("0945-07-12", call, 3)]);
         self.end_frame(13, 6);
         let ended = AllFrameMode {
             force: 1,
@@ -372,6 +378,53 @@ impl Day {
             "part ID: nothing else comes until a checksum does",
         );
         self.close("checksum: the register, which makes the decoder talk again");
+    }
+
+    /// The picker's address comes at words 1 to 3, its vectors at words 4 to 6. A bay,
+    /// which fills its words up with spaces; a lot, which has as many characters as its
+    /// words have room for; and a bay with the number of pieces, two spaces between.
+    fn pages_at_the_customer(&self) {
+        self.part(
+            "Frame 45 of cycle 7: the picker helps out at a customer whose sender has the option of Table 39 on",
+        );
+        self.set(
+            "chinese",
+            "the pager reads A to E where the standard set has ?, U, -, ] and [",
+        );
+        let call = |vector| Call {
+            phase: A,
+            address: PICKER_ADDRESS,
+            vector,
+        };
+        let unnumbered = Numbering::default();
+        let numbered = Numbering {
+            message_number: 1,
+            retrieval: 1,
+            special_format: 0,
+        };
+        let page = |text, kind, numbering, vector, start| {
+            numeric(CHINESE_SET, text, kind, numbering, call(vector), start)
+        };
+        self.send(&[
+            page("0B17 E2", STANDARD_NUMERIC, unnumbered, 4, 7),
+            page("0C41BADE07", STANDARD_NUMERIC, unnumbered, 5, 9),
+            page("A04  02", NUMBERED_NUMERIC, numbered, 6, 11),
+        ]);
+        self.end_frame(45, 7);
+    }
+
+    fn page_after_the_customer(&self) {
+        self.part(
+            "Frame 13 of cycle 9: the picker is back, and gets a bin number with the number of pieces",
+        );
+        self.set("standard", "the pager reads as before");
+        let call = Call {
+            phase: A,
+            address: PICKER_ADDRESS,
+            vector: 2,
+        };
+        self.send(&[standard("0417-3", call, 3)]);
+        self.end_frame(13, 9);
     }
 
     /// The picker's address is any-phase: calls come on phase A and on phase C,
@@ -562,10 +615,16 @@ fn bin_and_group_pages() -> [Sent; 3] {
         retrieval: 1,
         special_format: 0,
     };
-    let bin_call = call(PICKER_ADDRESS, 5);
-    let bin = numeric("0417", STANDARD_NUMERIC, Numbering::default(), bin_call, 10);
+    let bin = standard("0417", call(PICKER_ADDRESS, 5), 10);
     let own_call = call(PICKER_ADDRESS, 6);
-    let own = numeric("0930-003", NUMBERED_NUMERIC, numbering, own_call, 8);
+    let own = numeric(
+        STANDARD_SET,
+        "0930-003",
+        NUMBERED_NUMERIC,
+        numbering,
+        own_call,
+        8,
+    );
     let group = Sent {
         call: call(GROUP_ADDRESS, 7),
         start: 9,
@@ -574,11 +633,24 @@ fn bin_and_group_pages() -> [Sent; 3] {
     [bin, own, group]
 }
 
+/// A standard numeric page in characters of the standard set.
+fn standard(text: &str, call: Call, start: u32) -> Sent {
+    let unnumbered = Numbering::default();
+    numeric(
+        STANDARD_SET,
+        text,
+        STANDARD_NUMERIC,
+        unnumbered,
+        call,
+        start,
+    )
+}
+
 /// A numeric page to an address: its vector and where its words begin. K of it
-/// and its words are those of the text.
-fn numeric(text: &str, kind: u32, numbering: Numbering, call: Call, start: u32) -> Sent {
+/// and its words are those of the text in the set that its sender uses.
+fn numeric(set: u32, text: &str, kind: u32, numbering: Numbering, call: Call, start: u32) -> Sent {
     let mut words = [0; MOST_WORDS];
-    let written = write(text.as_bytes(), kind, numbering, &mut words).expect("a page");
+    let written = write(set, text.as_bytes(), kind, numbering, &mut words).expect("a page");
     let words = &words[..written.words];
     Sent {
         call,
