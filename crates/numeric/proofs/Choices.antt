@@ -20,7 +20,7 @@ use Rattle.numeric.specs.declared.Numbering.{Numbering}
 use Rattle.numeric.specs.Pages.{Set, standardSet, chineseSet, setOf, isSet, mostWords, roomOf, wordsFor, spacesAtEnd, filled, isNumbered, inSet, headed}
 use Rattle.numeric.specs.Answers.{flagsOf, writtenOf, writtenChosen, wordsChosen, asWritten, readChosen, textChosen, asRead}
 use Rattle.numeric.proofs.Bits.{filled-length, room-enough}
-use Rattle.numeric.proofs.Laws.{usable-set, there-and-back}
+use Rattle.numeric.proofs.Laws.{usable-set, ReadBack, there-and-back}
 use Rattle.numeric.proofs.Spaces.{spaces-filled}
 
 -- ---- the two sets
@@ -72,13 +72,7 @@ pub chosen-back : (set kind : ℕ) (numbering : Numbering) (text words bytes : L
     → let written = asWritten (writtenChosen set (length words) kind numbering text) in
     let page = take (written .words) (wordsChosen set kind numbering text words) in
     written .number ≡ 0 → roomOf (isNumbered kind) (written .words) ≤ length bytes
-    → (asRead (readChosen set (length bytes) kind (written .check) page) ≡ record {
-      number = 0;
-      numbering = numbering;
-      characters = length (filled (isNumbered kind) text);
-      «spaces_at_end» = spacesAtEnd (filled (isNumbered kind) text);
-    })
-    × (textChosen set kind (written .check) page bytes ≡ put bytes 0 (filled (isNumbered kind) text))
+    → ReadBack kind numbering text bytes (asRead (readChosen set (length bytes) kind (written .check) page)) (textChosen set kind (written .check) page bytes)
 chosen-back set kind numbering text words bytes accepted enough =
     let chosen : isSet set ≡ true =
     not-false (isSet set) (passed (not (isSet set)) refusals.Packet (writtenOf (setOf set) (length words) kind numbering text) accepted .0) in

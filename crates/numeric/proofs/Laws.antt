@@ -26,6 +26,7 @@ use Rattle.refusal.specs.declared.Refusal.the-variants as refusals
 use Rattle.refusal.specs.Told.{refused, given, numberTold}
 use Rattle.refusal.proofs.Laws.{passed}
 use Rattle.numeric.specs.declared.Numbering.{Numbering}
+use Rattle.numeric.specs.declared.PageRead.{PageRead}
 use Rattle.sums.specs.Words.{wordBits, undamaged}
 use Rattle.numeric.specs.Pages.{Set, setWith, spaced, spacesAtEnd, mostWords, headOf, roomOf, wordsFor, filled, rowOf, wordsWith}
 use Rattle.numeric.specs.Pages.{checkOf, inVector, pageOf, textIn, isNumbered, inSet, headed, checked}
@@ -207,18 +208,23 @@ read-written set lent room kind numbering text usable e enough =
       text-back usable (a .fits),
     )
 
--- the lent words, as many as were told, with K as it was told, give the numbering again, and in the lent bytes the text and its spaces
-pub there-and-back : (set : Set) (kind : ℕ) (numbering : Numbering) (text words bytes : List ℕ) → Usable set
-    → let written = asWritten (writtenOf set (length words) kind numbering text) in
-    let page = take (written .words) (wordsAfter set kind numbering text words) in
-    written .number ≡ 0 → roomOf (isNumbered kind) (written .words) ≤ length bytes
-    → (asRead (readOf set (length bytes) kind (written .check) page) ≡ record {
+-- what is told of a page and what the lent bytes hold are the numbering and the text with its spaces, those at its end counted
+abbrev pub ReadBack : ℕ → Numbering → List ℕ → List ℕ → PageRead → List ℕ → Type 0
+ReadBack kind numbering text bytes told after =
+    (told ≡ record {
       number = 0;
       numbering = numbering;
       characters = length (filled (isNumbered kind) text);
       «spaces_at_end» = spacesAtEnd (filled (isNumbered kind) text);
     })
-    × (textAfter set kind (written .check) page bytes ≡ put bytes 0 (filled (isNumbered kind) text))
+    × (after ≡ put bytes 0 (filled (isNumbered kind) text))
+
+-- the lent words, as many as were told, with K as it was told, give the numbering again, and in the lent bytes the text and its spaces
+pub there-and-back : (set : Set) (kind : ℕ) (numbering : Numbering) (text words bytes : List ℕ) → Usable set
+    → let written = asWritten (writtenOf set (length words) kind numbering text) in
+    let page = take (written .words) (wordsAfter set kind numbering text words) in
+    written .number ≡ 0 → roomOf (isNumbered kind) (written .words) ≤ length bytes
+    → ReadBack kind numbering text bytes (asRead (readOf set (length bytes) kind (written .check) page)) (textAfter set kind (written .check) page bytes)
 there-and-back set kind numbering text words bytes usable e enough =
     let page = pageFor set kind numbering text in
     let told = accepted-told set (length words) kind numbering text (accepted set (length words) kind numbering text .0 e) in

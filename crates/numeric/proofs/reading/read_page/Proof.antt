@@ -35,8 +35,9 @@ as-many : (c : tie.After-write-characters)
 as-many c =
     let args = start c .args in
     let page = known (start c) .0 in
-    let room = c .before .before .room-of .ensures in (
-      ap length (c .write-characters .ensures) ∙ text-fits (setWith (args .chinese)) (isNumbered (args .kind)) (args .words .now) (args .text .now) (page .room),
+    let room = c .before .before .room-of .ensures in
+    let fits = text-fits (setWith (args .chinese)) (isNumbered (args .kind)) (args .words .now) (args .text .now) (page .room) in (
+      ap length (c .write-characters .ensures) ∙ fits,
       omega (arith, room, page .room),
     )
 
@@ -93,11 +94,11 @@ returns c =
     let room = wrote .before .before .room-of .ensures in
     let spaces = c .spaces-at-end .ensures ∙ ap spacesAtEnd (first-ones wrote) in
     let says = numbered .numbering-in .ensures in
+    let counted = wrote .before .before .room-of .result in
+    let told = as-told characters (args .kind) (args .words .now) (numbered .numbering-in .result) counted (c .spaces-at-end .result) says room spaces in
     let answer = readOf characters (length (args .text .now)) (args .kind) (args .check) (args .words .now) in
     let text = textIn characters (isNumbered (args .kind)) (args .words .now) in (
-      as-told characters (args .kind) (args .words .now) (numbered .numbering-in .result) (wrote .before .before .room-of .result) (c .spaces-at-end .result) says
-          room spaces
-          ∙ ap asRead (sym (known entry .1)),
+      told ∙ ap asRead (sym (known entry .1)),
       wrote .write-characters .ensures ∙ sym (given-writes answer (args .text .now) text (entry .pre)),
     )
 

@@ -54,7 +54,8 @@ loop-again c =
     let turn = c .before .before .before in
     let text = turn .before .before .args .text .now in
     let left = turn .loop .left in
-    rw (c .before-space .ensures) (look-back text (turn .loop .spaces) left (eqb (getD text (left - 1) 0) 32) refl (c .before .before .loop-test .taken) (turn .loop .inv))
+    rw (c .before-space .ensures)
+    (look-back text (turn .loop .spaces) left (eqb (getD text (left - 1) 0) 32) refl (c .before .before .loop-test .taken) (turn .loop .inv))
 
 returns : tie.Need-returns Inv-loop μ-loop
 returns c =

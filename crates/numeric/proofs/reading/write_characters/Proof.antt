@@ -75,7 +75,8 @@ loop-again c =
       next .0,
       omega (arith, next .1, l .inv .2),
       simp length-set (l .inv .3),
-      rw code (spelled-turn (λ n. getD (setWith (args .chinese)) n 0) (l .text) (args .room) (l .i) (row / 2 ^ head) (omega arith) (omega (arith, l .inv .3, lent)))
+      rw code
+          (spelled-turn (λ n. getD (setWith (args .chinese)) n 0) (l .text) (args .room) (l .i) (row / 2 ^ head) (omega arith) (omega (arith, l .inv .3, lent)))
           ∙ l .inv .4,
     )
 

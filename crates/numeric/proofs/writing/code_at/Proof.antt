@@ -23,7 +23,8 @@ returns-2 : tie.Need-returns-2
 returns-2 c =
     let start = c .before .before .before in
     let args = start .args in
-    (sym (space-of (args .chinese)) ∙ space-code (setWith (args .chinese)) (args .text .now) (args .room) (args .place) (start .pre) (c .before .if1 .left) (c .if2 .taken), omega arith)
+    let code = space-code (setWith (args .chinese)) (args .text .now) (args .room) (args .place) (start .pre) (c .before .if1 .left) (c .if2 .taken) in
+    (sym (space-of (args .chinese)) ∙ code, omega arith)
 
 returns-3 : tie.Need-returns-3
 returns-3 c =

@@ -54,9 +54,9 @@ write-words-requires c κs =
     )
 
 -- the words with K as 0
-zeroes : (c : tie.After-write-words)
-    → c .write-words .last .1 .1 .1 .1 .1 .0
-    ≡ put (start c .args .words .now) 0 (zeroed (setWith (start c .args .chinese)) (isNumbered (start c .args .kind)) (flagsOf (start c .args .numbering)) (start c .args .text .now))
+zeroes : (c : tie.After-write-words) → let a = start c .args in
+    c .write-words .last .1 .1 .1 .1 .1 .0
+    ≡ put (a .words .now) 0 (zeroed (setWith (a .chinese)) (isNumbered (a .kind)) (flagsOf (a .numbering)) (a .text .now))
 unfolding wordsWith
 zeroes c = rw (c .before .before .before .words-for .ensures, c .before .before .head-of .ensures) at (c .write-words .ensures)
 
@@ -106,8 +106,9 @@ slice-read-words c =
 add-words : tie.Need-add-words
 add-words c =
     let at = c .before .before .before .before .before in
-    let args = start at .args in
-    let added = k-added (setWith (args .chinese)) (isNumbered (args .kind)) (flagsOf (args .numbering)) (args .text .now) (args .words .now) (known (start at) .fits .head) in
+    let a = start at .args in
+    let head = known (start at) .fits .head in
+    let added = k-added (setWith (a .chinese)) (isNumbered (a .kind)) (flagsOf (a .numbering)) (a .text .now) (a .words .now) head in
     omega (arith, rw (← zeroes at) at (added .0), c .before .six-bit .ensures .1)
 
 slice-write-words : tie.Need-slice-write-words

@@ -112,7 +112,8 @@ returns c =
     let entry = stored .before .before .before .before in
     let args = entry .args in
     let pre = entry .pre .1 .1 .1 in
-    let row = args .head + 2 ^ size (headOf (args .numbered)) * codesOf (setWith (args .chinese)) (spaced (stored .before .room-of .result) (args .text .now)) in
+    let codes = codesOf (setWith (args .chinese)) (spaced (stored .before .room-of .result) (args .text .now)) in
+    let row = args .head + 2 ^ size (headOf (args .numbered)) * codes in
     all-written (2 ^ 21) row (args .count) (turn .loop .words) (turn .loop .i) _ (c .loop-test .left)
     ∙ turn .loop .inv .4
     ∙ first-turn (2 ^ 21) row (args .count) (args .words .now) (stored .first-word .result) (pre .0) (omega (arith, pre)) (stored .first-word .ensures)
