@@ -55,12 +55,13 @@
  *  39  sum_six_bit       a row of words; the answer is the sum alone
  *  40  sum_ten_bit       as sum_six_bit
  *  41  sum_signature     a row of bytes; the answer is the sum alone
- *  42  numeric_write     kind; message number, retrieval, special format; the
+ *  42  numeric_write     set, kind; message number, retrieval, special format; the
  *                        text, a row of bytes; the lent row of words. The answer:
  *                        number, check, count of words, the lent row
- *  43  numeric_read      kind, check; a row of words; the lent row of bytes. The
- *                        answer: number, message number, retrieval, special
- *                        format, count of characters, the lent row
+ *  43  numeric_read      set, kind, check; a row of words; the lent row of bytes.
+ *                        The answer: number, message number, retrieval, special
+ *                        format, count of characters, count of spaces at the end,
+ *                        the lent row
  *
  *  44  fragment_heading  a row of words. The answer: number, continued, fragment
  *                        number, message number, retrieval, mail drop, signature,
@@ -614,13 +615,14 @@ static void serve_sum_signature(void)
 
 static void serve_numeric_write(void)
 {
+    uint32_t set = take_u32();
     uint32_t kind = take_u32();
     struct mortisevane_numbering numbering;
     take_numbers(&numbering, sizeof numbering);
     size_t characters = take_row(&lent_for_reading, sizeof(uint8_t));
     size_t words = take_row(&lent_for_writing, sizeof(uint32_t));
     struct mortisevane_written answer =
-        mortisevane_numeric_write(row_of(&lent_for_reading), characters, kind, numbering,
+        mortisevane_numeric_write(set, row_of(&lent_for_reading), characters, kind, numbering,
                                   row_of(&lent_for_writing), words);
     check_read(&lent_for_reading);
     check_guards(&lent_for_writing);
@@ -632,18 +634,20 @@ static void serve_numeric_write(void)
 
 static void serve_numeric_read(void)
 {
+    uint32_t set = take_u32();
     uint32_t kind = take_u32();
     uint32_t check = take_u32();
     size_t words = take_row(&lent_for_reading, sizeof(uint32_t));
     size_t characters = take_row(&lent_for_writing, sizeof(uint8_t));
     struct mortisevane_page_read answer =
-        mortisevane_numeric_read(kind, check, row_of(&lent_for_reading), words,
+        mortisevane_numeric_read(set, kind, check, row_of(&lent_for_reading), words,
                                  row_of(&lent_for_writing), characters);
     check_read(&lent_for_reading);
     check_guards(&lent_for_writing);
     give_u32(answer.number);
     give_numbers(&answer.numbering, sizeof answer.numbering);
     give_u64(answer.characters);
+    give_u64(answer.spaces_at_end);
     give_lent(&lent_for_writing);
 }
 

@@ -226,6 +226,7 @@ impl ToldOfRow for PageRead {
         Ok(PageRead {
             numbering: fields.numbers()?,
             characters: fields.count()?,
+            spaces_at_end: fields.count()?,
         })
     }
 }

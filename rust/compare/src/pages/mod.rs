@@ -19,11 +19,13 @@ pub fn compare(exchange: &[String], seed: u64) -> Result<String, String> {
     tell(sums::compare::<SixBit>(exchange, seed.wrapping_add(39))?);
     tell(sums::compare::<TenBit>(exchange, seed.wrapping_add(40))?);
     tell(sums::compare::<Signature>(exchange, seed.wrapping_add(41))?);
+    tell(writing::compare_bytes(exchange, seed.wrapping_add(45))?);
     tell(writing::compare_short_texts(
         exchange,
         seed.wrapping_add(42),
     )?);
     tell(writing::compare(exchange, seed.wrapping_add(43))?);
+    tell(reading::compare_codes(exchange, seed.wrapping_add(46))?);
     tell(reading::compare(exchange, seed.wrapping_add(44))?);
     Ok(format!(
         "pages: {compared} answers (seed {seed}) compared, all agree"
