@@ -72,10 +72,45 @@ STANDS_BEFORE(struct mortisevane_capcode, capcode_read, const uint8_t *text, siz
     return read;
 }
 
-STANDS_BEFORE(struct mortisevane_page_read, numeric_read, uint32_t kind, uint32_t check, const uint32_t *words,
-    size_t words_length, uint8_t *text, size_t text_length)
+STANDS_BEFORE(struct mortisevane_written, numeric_write, uint32_t set, const uint8_t *text, size_t text_length,
+    uint32_t kind, struct mortisevane_numbering numbering, uint32_t *words, size_t words_length)
 {
-    struct mortisevane_page_read read = __real_mortisevane_numeric_read(kind, check, words, words_length, text, text_length);
+    uint8_t taken[MORTISEVANE_PAGE_CHARACTERS];
+    if (is_fault("writes_in_a_set_that_is_neither"))
+        set %= 2;
+    if (is_fault("ignores_the_option_in_writing") && set == MORTISEVANE_SET_CHINESE)
+        set = MORTISEVANE_SET_STANDARD;
+    if (is_fault("takes_a_hyphen_with_the_option_on") && set == MORTISEVANE_SET_CHINESE && text_length <= sizeof taken) {
+        for (size_t place = 0; place < text_length; place++)
+            taken[place] = text[place] == '-' ? 'C' : text[place];
+        text = taken;
+    }
+    return __real_mortisevane_numeric_write(set, text, text_length, kind, numbering, words, words_length);
+}
+
+static size_t count_spaces(const uint8_t *text, size_t length)
+{
+    size_t spaces = 0;
+    for (size_t place = 0; place < length; place++)
+        spaces += text[place] == ' ';
+    return spaces;
+}
+
+STANDS_BEFORE(struct mortisevane_page_read, numeric_read, uint32_t set, uint32_t kind, uint32_t check,
+    const uint32_t *words, size_t words_length, uint8_t *text, size_t text_length)
+{
+    if (is_fault("reads_in_a_set_that_is_neither"))
+        set %= 2;
+    if (is_fault("ignores_the_option_in_reading") && set == MORTISEVANE_SET_CHINESE)
+        set = MORTISEVANE_SET_STANDARD;
+    struct mortisevane_page_read read
+        = __real_mortisevane_numeric_read(set, kind, check, words, words_length, text, text_length);
+    if (is_fault("counts_spaces_anywhere"))
+        read.spaces_at_end = count_spaces(text, read.characters);
+    if (is_fault("counts_no_space_of_spaces_alone") && read.spaces_at_end == read.characters)
+        read.spaces_at_end = 0;
+    if (is_fault("tells_spaces_although_refused") && read.number == MORTISEVANE_REFUSED_ROOM)
+        read.spaces_at_end = words_length;
     if (is_fault("writes_although_refused") && read.number == MORTISEVANE_REFUSED_CHECKSUM && text_length > 0)
         text[text_length - 1] ^= 1;
     if (is_fault("loses_the_first_zero") && read.characters > 0 && text[0] == '0')

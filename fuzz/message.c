@@ -77,6 +77,35 @@ void fuzz_sum_signature(void)
 
 /* ---- Numeric pages ---- */
 
+/* Table 39 with the option off and with it on, each character at the place of its code. */
+enum { SETS = 2, SET_CHARACTERS = 16 };
+static const char sets[SETS][SET_CHARACTERS + 1] = { "0123456789?U -][", "0123456789AB CDE" };
+
+/* One of the two sets; now and then any number, which mostly chooses neither. */
+static uint32_t some_set(void)
+{
+    return (uint32_t)(one_in(32) ? random_of_width(32) : random_below(SETS));
+}
+
+/* Whether every character is one of the set. */
+static bool all_in_set(uint32_t set, const uint8_t *text, size_t length)
+{
+    size_t place = 0;
+    while (place < length && memchr(sets[set], text[place], SET_CHARACTERS) != NULL)
+        place++;
+    return place == length;
+}
+
+/* How many spaces stand after the last character that is none. */
+static size_t spaces_after_others(const uint8_t *text, size_t length)
+{
+    size_t spaces_from = 0;
+    for (size_t place = 0; place < length; place++)
+        if (text[place] != ' ')
+            spaces_from = place + 1;
+    return length - spaces_from;
+}
+
 static bool same_numbering(struct mortisevane_numbering left, struct mortisevane_numbering right)
 {
     return memcmp(&left, &right, sizeof left) == 0;
@@ -101,28 +130,56 @@ static struct mortisevane_numbering some_numbering(uint32_t kind)
     return numbering;
 }
 
-/* Characters of Table 39 up to a page's and more; or any bytes. */
-static struct row lend_some_digits(void)
+/*
+ * Characters of the set up to a page's and more, sometimes with nothing but spaces from a place on; now and then one of
+ * the other set's among them, or a bit changed. Or any bytes.
+ */
+static struct row lend_some_digits(uint32_t set)
 {
-    static const char set[] = "0123456789U -][";
     size_t most = one_in(16) ? MEMORY_BYTES : MORTISEVANE_PAGE_CHARACTERS + 8;
     struct row text = lend_row(&read_memory, random_length(MORTISEVANE_PAGE_CHARACTERS, most));
     uint8_t *filled = to_fill(text);
     if (one_in(8))
         return text;
+    const char *own = sets[set % SETS], *other = sets[(set + 1) % SETS];
     for (size_t place = 0; place < text.length; place++)
-        filled[place] = (uint8_t)set[random_below(sizeof set - 1)];
+        filled[place] = (uint8_t)own[random_below(SET_CHARACTERS)];
+    size_t spaces = one_in(4) ? random_between(0, text.length) : 0;
+    if (one_in(16))
+        spaces = text.length;
+    memset(filled + text.length - spaces, ' ', spaces);
+    if (text.length > 0 && one_in(8)) {
+        uint8_t *changed = filled + random_below(text.length);
+        *changed = (uint8_t)other[random_below(SET_CHARACTERS)];
+    }
     if (text.length > 0 && one_in(16))
         random_flip(filled, text.length);
     return text;
 }
 
-static struct mortisevane_written ask_write(struct row text, uint32_t kind, struct mortisevane_numbering numbering,
-    struct row words)
+/* A set that is neither is refused with 7 before anything else is asked. */
+static void hold_set(uint32_t number, uint32_t set)
 {
-    struct mortisevane_written written = CALL(numeric_write, to_read(text), text.length, kind, numbering, to_write(words),
-        words.length / 4);
+    hold(set < SETS || number == MORTISEVANE_REFUSED_PACKET, "a set that is neither is not refused with 7");
+}
+
+/* What is written has only characters of the set, and what is refused with 18 has another. */
+static void hold_taken(uint32_t number, uint32_t set, struct row text)
+{
+    if (number == 0)
+        hold(all_in_set(set, to_read(text), text.length), "a character that is not in the set is taken");
+    if (number == MORTISEVANE_REFUSED_CHARACTER)
+        hold(!all_in_set(set, to_read(text), text.length), "a character of the set is refused");
+}
+
+static struct mortisevane_written ask_write(uint32_t set, struct row text, uint32_t kind,
+    struct mortisevane_numbering numbering, struct row words)
+{
+    struct mortisevane_written written = CALL(numeric_write, set, to_read(text), text.length, kind, numbering,
+        to_write(words), words.length / 4);
     answered(written.number);
+    hold_set(written.number, set);
+    hold_taken(written.number, set, text);
     hold_written_only(words, 0, 4 * written.words);
     hold(written.number == 0 || written.check == 0, "K told although refused");
     hold((written.number == 0) == (written.words > 0), "words told although refused, or none");
@@ -131,15 +188,26 @@ static struct mortisevane_written ask_write(struct row text, uint32_t kind, stru
     return written;
 }
 
-static struct mortisevane_page_read ask_page(uint32_t kind, uint32_t check, struct row words, struct row text)
+/* What is read has only characters of the set, and the spaces that are told stand at its end. */
+static void hold_read(struct mortisevane_page_read read, uint32_t set, const uint8_t *characters)
 {
-    struct mortisevane_page_read read = CALL(numeric_read, kind, check, to_read(words), words.length / 4, to_write(text),
-        text.length);
-    answered(read.number);
-    hold_written_only(text, 0, read.characters);
-    hold(read.number == 0 || (read.characters == 0 && all_zero(&read.numbering, sizeof read.numbering)),
-        "fields told although refused");
     hold(read.characters <= MORTISEVANE_PAGE_CHARACTERS, "more than a page");
+    hold(all_in_set(set, characters, read.characters), "a character that is not in the set is read");
+    hold(read.spaces_at_end == spaces_after_others(characters, read.characters), "the spaces told are not those at the end");
+}
+
+static struct mortisevane_page_read ask_page(uint32_t set, uint32_t kind, uint32_t check, struct row words, struct row text)
+{
+    struct mortisevane_page_read read = CALL(numeric_read, set, kind, check, to_read(words), words.length / 4,
+        to_write(text), text.length);
+    answered(read.number);
+    hold_set(read.number, set);
+    hold_written_only(text, 0, read.characters);
+    if (read.number == 0)
+        hold_read(read, set, to_fill(text));
+    else
+        hold(read.characters == 0 && read.spaces_at_end == 0 && all_zero(&read.numbering, sizeof read.numbering),
+            "fields told although refused");
     hold_room(read.number, text.length, MORTISEVANE_PAGE_CHARACTERS);
     return read;
 }
@@ -147,18 +215,19 @@ static struct mortisevane_page_read ask_page(uint32_t kind, uint32_t check, stru
 void fuzz_numeric_write(void)
 {
     uint8_t sent[MORTISEVANE_PAGE_CHARACTERS];
+    uint32_t set = some_set();
     uint32_t kind = some_kind();
     struct mortisevane_numbering numbering = some_numbering(kind);
-    struct row text = lend_some_digits();
+    struct row text = lend_some_digits(set);
     struct row words = lend_row(&write_memory, 4 * random_length(MORTISEVANE_PAGE_WORDS, MEMORY_WORDS));
-    struct mortisevane_written written = ask_write(text, kind, numbering, words);
+    struct mortisevane_written written = ask_write(set, text, kind, numbering, words);
     if (written.number != 0)
         return;
     hold(text.length <= sizeof sent, "a text longer than a page taken");
     memcpy(sent, to_read(text), text.length);
     struct row page = lend_copy(to_fill(words), 4 * written.words);
     struct row out = lend_row(&write_memory, MORTISEVANE_PAGE_CHARACTERS);
-    struct mortisevane_page_read read = ask_page(kind, written.check, page, out);
+    struct mortisevane_page_read read = ask_page(set, kind, written.check, page, out);
     hold(read.number == 0 && same_numbering(read.numbering, numbering), "written and read are not the same");
     const uint8_t *characters = to_fill(out);
     hold(read.characters >= text.length && memcmp(characters, sent, text.length) == 0, "written and read as another text");
@@ -169,10 +238,11 @@ void fuzz_numeric_write(void)
 /* The words of a page that was written, changed by a bit or not, or any words, with K of them or any. */
 void fuzz_numeric_read(void)
 {
+    uint32_t set = some_set();
     uint32_t kind = some_kind();
     struct row made = lend_row(&write_memory, 4 * MORTISEVANE_PAGE_WORDS);
-    struct row digits = lend_some_digits();
-    struct mortisevane_written written = ask_write(digits, kind, some_numbering(kind), made);
+    struct row digits = lend_some_digits(set);
+    struct mortisevane_written written = ask_write(set, digits, kind, some_numbering(kind), made);
     uint32_t check = one_in(16) ? (uint32_t)random_of_width(32) : written.check;
     struct row words = one_in(4) ? lend_some_words(MORTISEVANE_PAGE_WORDS) : lend_copy(to_fill(made), 4 * written.words);
     if (words.length > 0 && one_in(4)) {
@@ -187,7 +257,9 @@ void fuzz_numeric_read(void)
     struct row text = lend_row(&write_memory, random_length(MORTISEVANE_PAGE_CHARACTERS, MEMORY_BYTES));
     if (one_in(16))
         kind = some_kind();
-    ask_page(kind, check, words, text);
+    if (one_in(4))
+        set = some_set();
+    ask_page(set, kind, check, words, text);
 }
 
 /* ---- Fragments ---- */
