@@ -405,31 +405,39 @@ static uint8_t texts[MORTISEVANE_CHAIN_BYTES];
 
 /* ---- Numeric pages ---- */
 
-typedef struct mortisevane_page_read page_function(uint32_t kind, uint32_t check, const uint32_t *words,
+typedef struct mortisevane_page_read page_function(uint32_t set, uint32_t kind, uint32_t check, const uint32_t *words,
         size_t words_length, uint8_t *text, size_t text_length);
 static struct mortisevane_page_read page_answer;
 static struct mortisevane_written page;
+static uint32_t page_set;
 
 static void call_page(any_function *export)
 {
-    page_answer = ((page_function *)export)(MORTISEVANE_VECTOR_STANDARD, page.check, memory, (size_t)page.words, texts,
-            MORTISEVANE_PAGE_CHARACTERS);
+    page_answer = ((page_function *)export)(page_set, MORTISEVANE_VECTOR_STANDARD, page.check, memory, (size_t)page.words,
+            texts, MORTISEVANE_PAGE_CHARACTERS);
 }
 
-/* As many characters as eight words hold. */
-static void numeric_read(void)
+/* The text has as many characters as eight words hold, the spaces at its end with them. */
+static void numeric_read(const char *input, uint32_t set, const char *text, size_t spaces)
 {
-    static const char operation[] = "numeric_read", input[] = "8 words";
-    static const char longest[] = "01234567890123456789012345678901234567-][";
     struct mortisevane_numbering numbering = { 0, 0, 0 };
 
-    page = mortisevane_numeric_write((const uint8_t *)longest, sizeof longest - 1, MORTISEVANE_VECTOR_STANDARD, numbering,
-            memory, MORTISEVANE_PAGE_WORDS);
+    page_set = set;
+    page = mortisevane_numeric_write(set, (const uint8_t *)text, MORTISEVANE_PAGE_CHARACTERS, MORTISEVANE_VECTOR_STANDARD,
+            numbering, memory, MORTISEVANE_PAGE_WORDS);
     expect(page.number == 0 && page.words == MORTISEVANE_PAGE_WORDS, "numeric_write", input);
     struct counted counted = count(call_page, (any_function *)mortisevane_numeric_read);
-    expect(page_answer.number == 0 && page_answer.characters == sizeof longest - 1 &&
-            memcmp(texts, longest, sizeof longest - 1) == 0, operation, input);
-    tell_export(operation, input, counted);
+    expect(page_answer.number == 0 && page_answer.characters == MORTISEVANE_PAGE_CHARACTERS &&
+            page_answer.spaces_at_end == spaces && memcmp(texts, text, MORTISEVANE_PAGE_CHARACTERS) == 0, "numeric_read",
+            input);
+    tell_export("numeric_read", input, counted);
+}
+
+static void pages(void)
+{
+    numeric_read("8 words", MORTISEVANE_SET_STANDARD, "01234567890123456789012345678901234567-][", 0);
+    numeric_read("8 words, 4 spaces at the end, option on", MORTISEVANE_SET_CHINESE,
+            "0123456789ABCDE0123456789ABCDE0123456    ", 4);
 }
 
 /* ---- Chains ---- */
@@ -654,7 +662,7 @@ static const struct part {
     const char *name;
     void (*count)(void);
 } parts[] = {
-    { "addresses", addresses }, { "frames", frames_listened }, { "mirror", mirror_steps }, { "pages", numeric_read },
+    { "addresses", addresses }, { "frames", frames_listened }, { "mirror", mirror_steps }, { "pages", pages },
     { "chains", chain_steps }, { "calls", single_words }, { "group", group_words }, { "phases", words_in_all_phases }
 };
 

@@ -1,4 +1,4 @@
-//! Numeric pages of 1 and of 8 words.
+//! Numeric pages of 1 and of 8 words, with the option of Table 39 off and on.
 
 use mortisevane::exports::*;
 use second::numbers::Numbers;
@@ -21,116 +21,235 @@ const fn numbering(message_number: u32) -> SecondNumbering {
     }
 }
 
-/// As many as 8 words hold.
+/// As many characters as 8 words hold, of the same codes with the option off and on.
 const LONGEST: &[u8] = b"01234567890123456789012345678901234567-][";
+const LONGEST_CHINESE: &[u8] = b"01234567890123456789012345678901234567CDE";
+/// As few characters as need 8 words, so that 4 spaces fill the page; of the same codes in both sets.
+const SHORTER: &[u8] = b"0123456789?U-][0123456789?U-][0123456";
+const SHORTER_CHINESE: &[u8] = b"0123456789ABCDE0123456789ABCDE0123456";
+/// 8 words of spaces.
+const SPACES: &[u8] = &[b' '; PAGE_CHARACTERS];
+/// A number that chooses no set.
+const NEITHER: u32 = 2;
 
-/// A text, its vector's type, and what the head of its page says.
-type Page<'a> = (&'a [u8], u32, SecondNumbering);
+/// A text with the set that it is written in, its vector's type, and what the head of its page says.
+#[derive(Clone, Copy)]
+struct Page<'a> {
+    set: u32,
+    text: &'a [u8],
+    kind: u32,
+    numbering: SecondNumbering,
+}
+
+/// A page that is not numbered.
+fn page(set: u32, text: &[u8]) -> Page<'_> {
+    Page {
+        set,
+        text,
+        kind: VECTOR_STANDARD,
+        numbering: NOT_NUMBERED,
+    }
+}
+
+fn numbered_page(text: &[u8]) -> Page<'_> {
+    Page {
+        kind: VECTOR_NUMBERED,
+        numbering: NUMBERED,
+        ..page(SET_STANDARD, text)
+    }
+}
 
 pub fn rows(measure: &mut Measure) {
     measure.group("pages");
-    let small: Page = (b"0417", VECTOR_STANDARD, NOT_NUMBERED);
-    let large: Page = (LONGEST, VECTOR_STANDARD, NOT_NUMBERED);
-    let small_numbered: Page = (b"04", VECTOR_NUMBERED, NUMBERED);
-    let large_numbered: Page = (&LONGEST[..39], VECTOR_NUMBERED, NUMBERED);
-    let mut wrong = LONGEST.to_vec();
-    wrong[40] = b'x';
-    write(measure, "4 characters, 1 word", small);
-    write(measure, "41 characters, 8 words", large);
-    write(measure, "2 characters, 1 word, numbered", small_numbered);
-    write(measure, "39 characters, 8 words, numbered", large_numbered);
-    write(
-        measure,
-        "refused 7: of no kind",
-        (b"0417", VECTOR_HEX, NOT_NUMBERED),
-    );
-    let too_long: Page = (&[b'0'; 42], VECTOR_STANDARD, NOT_NUMBERED);
-    write(measure, "refused 15: 42 characters", too_long);
-    let last_wrong: Page = (&wrong, VECTOR_STANDARD, NOT_NUMBERED);
-    write(measure, "refused 18: the last of 41 characters", last_wrong);
-    read(measure, "1 word", small, 0);
-    read(measure, "8 words", large, 0);
-    read(measure, "1 word, numbered", small_numbered, 0);
-    read(measure, "8 words, numbered", large_numbered, 0);
-    read(measure, "refused 10: the last of 8 words", large, 1 << 21);
-    read(measure, "refused 11: K of 8 words", large, 1);
+    write_rows(measure);
+    read_rows(measure);
+    refused_read_rows(measure);
 }
 
-fn write(measure: &mut Measure, input: &str, (text, kind, numbering): Page) {
-    type Write = fn(&[u8], u32, SecondNumbering, &mut [u32]) -> Result<SecondWritten, Refusal>;
-    let second = numeric::write as Write;
-    let lent = [0xDEAD_BEEF; PAGE_WORDS];
-    let own_numbering = Numbering {
-        message_number: numbering.message_number,
-        retrieval: numbering.retrieval,
-        special_format: numbering.special_format,
+fn write_rows(measure: &mut Measure) {
+    let mut row = |input, page| write(measure, input, page);
+    row("4 characters, 1 word", page(SET_STANDARD, b"0417"));
+    row("41 characters, 8 words", page(SET_STANDARD, LONGEST));
+    row("2 characters, 1 word, numbered", numbered_page(b"04"));
+    let numbered = numbered_page(&LONGEST[..39]);
+    row("39 characters, 8 words, numbered", numbered);
+    row(
+        "4 characters, 1 word, option on",
+        page(SET_CHINESE, b"0A1E"),
+    );
+    let chinese = page(SET_CHINESE, LONGEST_CHINESE);
+    row("41 characters, 8 words, option on", chinese);
+    let of_no_kind = Page {
+        kind: VECTOR_HEX,
+        ..page(SET_STANDARD, b"0417")
     };
+    row("refused 7: of no kind", of_no_kind);
+    row("refused 7: of no set", page(NEITHER, b"0417"));
+    let too_long = page(SET_STANDARD, &[b'0'; 42]);
+    row("refused 15: 42 characters", too_long);
+    let last_wrong = [&LONGEST[..40], b"x"].concat();
+    let last_wrong = page(SET_STANDARD, &last_wrong);
+    row("refused 18: the last of 41 characters", last_wrong);
+    let last_of_other = [&LONGEST_CHINESE[..40], b"["].concat();
+    row(
+        "refused 18: the last of 41 characters, option on",
+        page(SET_CHINESE, &last_of_other),
+    );
+}
+
+fn read_rows(measure: &mut Measure) {
+    let mut row = |input, page| read(measure, input, sent(page));
+    row("1 word", page(SET_STANDARD, b"0417"));
+    row("8 words", page(SET_STANDARD, LONGEST));
+    row("1 word, numbered", numbered_page(b"04"));
+    row("8 words, numbered", numbered_page(&LONGEST[..39]));
+    row("1 word, option on", page(SET_CHINESE, b"0A1E"));
+    row("8 words, option on", page(SET_CHINESE, LONGEST_CHINESE));
+    let shorter = page(SET_STANDARD, SHORTER);
+    row("8 words, 4 spaces at the end", shorter);
+    let shorter = page(SET_CHINESE, SHORTER_CHINESE);
+    row("8 words, 4 spaces at the end, option on", shorter);
+    row("8 words of spaces alone", page(SET_STANDARD, SPACES));
+    let spaces = page(SET_CHINESE, SPACES);
+    row("8 words of spaces alone, option on", spaces);
+}
+
+fn refused_read_rows(measure: &mut Measure) {
+    let large = || sent(page(SET_STANDARD, LONGEST));
+    let of_no_set = Sent {
+        set: NEITHER,
+        ..large()
+    };
+    read(measure, "refused 7: of no set", of_no_set);
+    let damaged = with_changed_last_word(large(), 1 << 21);
+    read(measure, "refused 10: the last of 8 words", damaged);
+    let wrong_check = with_changed_last_word(large(), 1);
+    read(measure, "refused 11: K of 8 words", wrong_check);
+}
+
+fn write(measure: &mut Measure, input: &str, page: Page) {
+    type Write = fn(u32, &[u8], u32, SecondNumbering, &mut [u32]) -> Result<SecondWritten, Refusal>;
+    let second = numeric::write as Write;
+    let Page {
+        set,
+        text,
+        kind,
+        numbering,
+    } = page;
+    let lent = [0xDEAD_BEEF; PAGE_WORDS];
     measure.row(
         "numeric_write",
         input,
         side(
-            (text, own_numbering, lent),
+            (text, own_numbering(numbering), lent),
             |(text, numbering, lent)| unsafe {
+                let (from, length) = (text.as_ptr(), text.len());
                 let (words, room) = (lent.as_mut_ptr(), lent.len());
-                mortisevane_numeric_write(text.as_ptr(), text.len(), kind, *numbering, words, room)
+                mortisevane_numeric_write(set, from, length, kind, *numbering, words, room)
             },
-            |(_, _, lent), written| {
-                let Written {
-                    number,
-                    check,
-                    words,
-                } = *written;
-                [vec![number.into(), check.into(), words as u64], told(lent)].concat()
-            },
+            |(_, _, lent), written| [told_own_written(written), told(lent)].concat(),
         ),
         side(
             (text, lent, second),
-            |(text, lent, second)| second(text, kind, numbering, lent),
-            |(_, lent, _), written| {
-                let tell =
-                    |written: &SecondWritten| vec![written.check.into(), written.words as u64];
-                [answer(written, tell, 2), told(lent)].concat()
-            },
+            |(text, lent, second)| second(set, text, kind, numbering, lent),
+            |(_, lent, _), written| [answer(written, told_written, 2), told(lent)].concat(),
         ),
     );
 }
 
-/// The page of a text, with bits of its last word changed.
-fn read(measure: &mut Measure, input: &str, (text, kind, numbering): Page, changed: u32) {
-    type Read = fn(u32, u32, &[u32], &mut [u8]) -> Result<SecondPageRead, Refusal>;
+fn own_numbering(numbering: SecondNumbering) -> Numbering {
+    Numbering {
+        message_number: numbering.message_number,
+        retrieval: numbering.retrieval,
+        special_format: numbering.special_format,
+    }
+}
+
+fn told_own_written(written: &Written) -> Told {
+    let Written {
+        number,
+        check,
+        words,
+    } = *written;
+    vec![number.into(), check.into(), words as u64]
+}
+
+fn told_written(written: &SecondWritten) -> Told {
+    vec![written.check.into(), written.words as u64]
+}
+
+/// The words of a page with the K of its vector, and the set that they are read in.
+struct Sent {
+    set: u32,
+    kind: u32,
+    check: u32,
+    words: Vec<u32>,
+}
+
+/// A page as the second program writes it.
+fn sent(page: Page) -> Sent {
+    let Page {
+        set,
+        text,
+        kind,
+        numbering,
+    } = page;
+    let mut words = vec![0; PAGE_WORDS];
+    let written = numeric::write(set, text, kind, numbering, &mut words);
+    let SecondWritten {
+        check,
+        words: count,
+    } = written.expect("the text has a page");
+    words.truncate(count);
+    Sent {
+        set,
+        kind,
+        check,
+        words,
+    }
+}
+
+fn with_changed_last_word(mut sent: Sent, changed: u32) -> Sent {
+    *sent.words.last_mut().expect("a page has a word") ^= changed;
+    sent
+}
+
+fn read(measure: &mut Measure, input: &str, sent: Sent) {
+    type Read = fn(u32, u32, u32, &[u32], &mut [u8]) -> Result<SecondPageRead, Refusal>;
     let second = numeric::read as Read;
-    let mut page = [0; PAGE_WORDS];
-    let written = numeric::write(text, kind, numbering, &mut page).expect("the text has a page");
-    let (words, check) = (written.words, written.check);
-    page[words - 1] ^= changed;
-    let page = page[..words].to_vec();
+    let Sent {
+        set,
+        kind,
+        check,
+        words,
+    } = sent;
     let lent = [0xA5; PAGE_CHARACTERS];
     measure.row(
         "numeric_read",
         input,
         side(
-            (page.clone(), lent),
-            |(page, lent)| unsafe {
+            (words.clone(), lent),
+            |(words, lent)| unsafe {
                 let (text, room) = (lent.as_mut_ptr(), lent.len());
-                mortisevane_numeric_read(kind, check, page.as_ptr(), page.len(), text, room)
+                mortisevane_numeric_read(set, kind, check, words.as_ptr(), words.len(), text, room)
             },
-            |(_, lent), read| {
-                let heading = [vec![read.number], words_of(&read.numbering)].concat();
-                [told(&heading), vec![read.characters as u64], bytes(lent)].concat()
-            },
+            |(_, lent), read| [told_own_read(read), bytes(lent)].concat(),
         ),
         side(
-            (page, lent, second),
-            |(page, lent, second)| second(kind, check, page, lent),
-            |(_, lent, _), read| [answer(read, told_read, 4), bytes(lent)].concat(),
+            (words, lent, second),
+            |(words, lent, second)| second(set, kind, check, words, lent),
+            |(_, lent, _), read| [answer(read, told_read, 5), bytes(lent)].concat(),
         ),
     );
 }
 
+fn told_own_read(read: &PageRead) -> Told {
+    let heading = [vec![read.number], words_of(&read.numbering)].concat();
+    let counts = vec![read.characters as u64, read.spaces_at_end as u64];
+    [told(&heading), counts].concat()
+}
+
 fn told_read(read: &SecondPageRead) -> Told {
-    [
-        told(&read.numbering.numbers()),
-        vec![read.characters as u64],
-    ]
-    .concat()
+    let counts = vec![read.characters as u64, read.spaces_at_end as u64];
+    [told(&read.numbering.numbers()), counts].concat()
 }
