@@ -1,14 +1,13 @@
 -- What 02, item 6 promises of numeric pages: the choice of set, and where filling starts.
 use Prim.Native.Nat.{ℕ, _+_, _-_, _≤_}
-use Prim.Native.Char.{code}
 use mathlib.Core.Bool.{Bool, true, false, not, and-false}
 use mathlib.Core.List.{List, [], _∷_, _++_, map, append-assoc}
-use mathlib.Core.Path.{_≡_, refl, sym, ap, _∙_}
+use mathlib.Core.Path.{_≡_, refl, ap, _∙_}
 use native.Mathlib.Nat.{zero-add}
 use native.Mathlib.Omega.{arith}
 use borrow.Author.Tests.{le-ltb, not-false}
 use lib.Dec.{eqb, ltb}
-use lib.ListN.{length, getD, take, replicate, length-append, length-replicate}
+use lib.ListN.{length, getD, take, replicate}
 use lib.Seq.{take-append-seam}
 use Rattle.laws.specs.Lists.{put, placeIn, all, upFrom}
 use Rattle.laws.specs.Texts.{bytesOf}
@@ -17,6 +16,7 @@ use Rattle.refusal.specs.declared.Refusal.the-variants as refusals
 use Rattle.refusal.specs.Told.{refused}
 use Rattle.refusal.proofs.Laws.{passed}
 use Rattle.numeric.specs.declared.Numbering.{Numbering}
+use Rattle.numeric.specs.declared.PageRead.{PageRead}
 use Rattle.numeric.specs.Pages.{Set, standardSet, chineseSet, setOf, isSet, mostWords, roomOf, wordsFor, spacesAtEnd, filled, isNumbered, inSet, headed}
 use Rattle.numeric.specs.Answers.{flagsOf, writtenOf, writtenChosen, wordsChosen, asWritten, readChosen, textChosen, asRead}
 use Rattle.numeric.proofs.Bits.{filled-length, room-enough}
@@ -87,11 +87,11 @@ filled-spaces numbered text =
     spaces-filled text (roomOf numbered (wordsFor numbered (length text)) - length text)
     ∙ rw (filled-length numbered text)
 
--- so of a text that was written with none at its end a reader shows the text itself, and counts the filling and nothing besides
-pub own-characters : (numbered : Bool) (text bytes : List ℕ) → spacesAtEnd text ≡ 0
+-- of a text with none at its end they are the filling and nothing besides, and the characters before them are the text
+own-filled : (numbered : Bool) (text bytes : List ℕ) → spacesAtEnd text ≡ 0
     → let room = length (filled numbered text) in
     let spaces = spacesAtEnd (filled numbered text) in (room ≡ length text + spaces) × (take (room - spaces) (put bytes 0 (filled numbered text)) ≡ text)
-own-characters numbered text bytes none =
+own-filled numbered text bytes none =
     let room = length (filled numbered text) in
     let long = filled-length numbered text in
     let spaces : spacesAtEnd (filled numbered text) ≡ room - length text = filled-spaces numbered text ∙ rw none (zero-add _) in
@@ -100,3 +100,19 @@ own-characters numbered text bytes none =
       omega (arith, spaces, long, enough),
       rw shown (ap (take (length text)) (append-assoc text _ _) ∙ take-append-seam text _),
     )
+
+-- the same of what is told of a page and of what the lent bytes hold
+own-read : (kind : ℕ) (numbering : Numbering) (text bytes : List ℕ) (read : PageRead) (after : List ℕ) → ReadBack kind numbering text bytes read after
+    → spacesAtEnd text ≡ 0 → (read .characters ≡ length text + read .«spaces_at_end») × (take (read .characters - read .«spaces_at_end») after ≡ text)
+own-read kind numbering text bytes read after (told, holds) none = rw (told, holds) (own-filled (isNumbered kind) text bytes none)
+
+-- so a text that was written with no space at its end is read back as its own characters, and as many spaces as there is filling
+pub own-characters : (set kind : ℕ) (numbering : Numbering) (text words bytes : List ℕ)
+    → let written = asWritten (writtenChosen set (length words) kind numbering text) in
+    let page = take (written .words) (wordsChosen set kind numbering text words) in
+    let read = asRead (readChosen set (length bytes) kind (written .check) page) in
+    let after = textChosen set kind (written .check) page bytes in
+    written .number ≡ 0 → roomOf (isNumbered kind) (written .words) ≤ length bytes → spacesAtEnd text ≡ 0
+    → (read .characters ≡ length text + read .«spaces_at_end») × (take (read .characters - read .«spaces_at_end») after ≡ text)
+own-characters set kind numbering text words bytes accepted enough none =
+    own-read kind numbering text bytes _ _ (chosen-back set kind numbering text words bytes accepted enough) none

@@ -5,7 +5,7 @@ use mathlib.Core.Bool.{true, false}
 use mathlib.Core.List.{List, [], _∷_, map}
 use mathlib.Core.Path.{_≡_, refl, ap}
 use native.Mathlib.Omega.{arith}
-use lib.ListN.{replicate}
+use lib.ListN.{take, replicate}
 use Rattle.laws.specs.Lists.{placeIn, all, sumBy}
 use Rattle.laws.specs.Numerals.{number, digits}
 use Rattle.laws.specs.Texts.{bytesOf}
@@ -13,7 +13,8 @@ use Rattle.refusal.specs.declared.Refusal.the-variants as refusals
 use Rattle.refusal.specs.Told.{Told, refused, given, numberTold}
 use Rattle.numeric.specs.declared.Numbering.{Numbering}
 use Rattle.numeric.specs.Pages.{Set, standardSet, chineseSet, roomOf, spacesAfter, spacesAtEnd, filled, wordsWith, checkOf, pageOf, textIn, inSet}
-use Rattle.numeric.specs.Answers.{writtenOf, wordsAfter, writtenChosen, readOf, textAfter, readChosen}
+use Rattle.numeric.specs.Answers.{writtenOf, wordsAfter, writtenChosen, readOf, textAfter, readChosen, textChosen}
+use Rattle.numeric.proofs.Choices.{own-characters}
 use Rattle.numeric.proofs.Spaces.{shown}
 use Rattle.numeric.proofs.Laws.{usable-set, pageFor, checkFor, read-written}
 
@@ -146,6 +147,22 @@ chinese-back = read-written chineseSet 1 4 3 none (bytesOf "0B17") (usable-set t
 pub inner-space : readOf standardSet 4 3 9 (0x031302 ∷ []) ≡ given (0 ∷ 0 ∷ 0 ∷ 4 ∷ 1 ∷ [])
 unfolding standardSet readOf textIn number digits spacesAfter sumBy all
 inner-space = refl
+
+-- "B7" with the option on, two spaces of filling after it: 11 from i2, 7 from i6, 12 from i10 and from i14; the groups ECH, 31H and 03H make 288, of
+-- which 32 is taken; K is 31, 15 in the vector and 1 in the word
+pub filling-example : writtenChosen 1 1 3 none (bytesOf "B7") ≡ given (15 ∷ 1 ∷ [])
+unfolding chineseSet writtenOf pageOf checkOf wordsWith placeIn number digits sumBy inSet all
+filling-example = refl
+
+-- what is read of the word of "B7": four characters, of which two are spaces at the end
+pub filling-read : readChosen 1 4 3 15 (0x0331ED ∷ []) ≡ given (0 ∷ 0 ∷ 0 ∷ 4 ∷ 2 ∷ [])
+unfolding chineseSet readOf textIn number digits spacesAfter sumBy all
+filling-read = refl
+
+-- the characters before them are the text, as the law says, whose premises hold here
+pub filling-shown : take 2 (textChosen 1 3 15 (0x0331ED ∷ []) (bytesOf "....")) ≡ bytesOf "B7"
+unfolding chineseSet writtenOf pageOf checkOf wordsWith placeIn number digits spacesAfter readOf textIn sumBy inSet all
+filling-shown = own-characters 1 3 none (bytesOf "B7") (0 ∷ []) (bytesOf "....") refl (omega arith) refl .1
 
 -- a page of spaces alone: the groups 30H, 33H and 03H make 102; 1 and 38 make 39; K is 24, 8 in the vector and 1 in the word; all its room is spaces
 pub only-spaces : readOf chineseSet 4 3 8 (0x033331 ∷ []) ≡ given (0 ∷ 0 ∷ 0 ∷ 4 ∷ 4 ∷ [])
