@@ -153,7 +153,8 @@ fn numbering_in(numbered: bool, first: u32) -> Numbering
     }
 }
 
-// How many characters of a text are still to be looked at from its end on: those before a space, and none before another.
+// How many characters of a text are still to be looked at, from its end on, after one of them: where that is a space those
+// before it, and where it is another character none.
 fn before_space(space: bool, before: usize) -> usize
     ensures { λ r. ⌜ r ≡ pick space before 0 ⌝ }
 {
