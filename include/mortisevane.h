@@ -968,7 +968,7 @@ struct mortisevane_written {
 
 /*
  * A page read: what its head says, how many characters it has, and how many of them are spaces at
- * its end, where the filling starts. All are 0 after a refusal.
+ * its end. All are 0 after a refusal.
  */
 struct mortisevane_page_read {
     uint32_t number;
@@ -998,9 +998,8 @@ struct mortisevane_written mortisevane_numeric_write(uint32_t set,
  * vector; the words; and memory for the text, for which MORTISEVANE_PAGE_CHARACTERS are always
  * enough.
  * Answers what the head of a numbered page says; how many characters were written, all that the
- * words have room for; and how many of them are spaces at the end. So many characters fewer are
- * what a display has to show: filling is spaces, and which of them the sender wrote nobody can
- * tell.
+ * words have room for; and how many of them are spaces at the end. A display has to show the
+ * characters before these: filling is spaces, and which of them the sender wrote nobody can tell.
  * Refuses 7, 9, 10, 11, the first that applies, and last 1; the memory is then as it was. Here 7 is
  * a set that is neither, a type that is no numeric page's, or a K over 15.
  */

@@ -32,8 +32,8 @@ pub extern "C" fn mortisevane_numeric_write(
 // Takes the set of characters, MORTISEVANE_SET_STANDARD or _CHINESE; the type and the K of the vector; the words; and
 // memory for the text, for which MORTISEVANE_PAGE_CHARACTERS are always enough.
 // Answers what the head of a numbered page says; how many characters were written, all that the words have room for; and
-// how many of them are spaces at the end. So many characters fewer are what a display has to show: filling is spaces, and
-// which of them the sender wrote nobody can tell.
+// how many of them are spaces at the end. A display has to show the characters before these: filling is spaces, and which
+// of them the sender wrote nobody can tell.
 // Refuses 7, 9, 10, 11, the first that applies, and last 1; the memory is then as it was. Here 7 is a set that is neither, a
 // type that is no numeric page's, or a K over 15.
 #[no_mangle]

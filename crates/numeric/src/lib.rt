@@ -3,7 +3,7 @@
 //
 // What the words of a page are is said in specs/Pages, when one is refused and what is told of it in specs/Answers. The
 // round trip is in proofs/Laws, and so is the law `cell`, which says as the tables do which bit of which character stands
-// where. What 02, item 6 asks is in proofs/Choices: the two sets, and the spaces at the end.
+// where. What 02, item 6 asks of the two sets and of the spaces at the end is in proofs/Choices.
 
 // What writing and reading share: the choice of set, the head of a page, and its room.
 mod page;
@@ -49,8 +49,8 @@ pub struct Written {
     pub words: usize,
 }
 
-// A page read: what its head says, how many characters it has, and how many of them are spaces at its end, where the
-// filling starts. All are 0 after a refusal.
+// A page read: what its head says, how many characters it has, and how many of them are spaces at its end. All are 0 after
+// a refusal.
 #[repr(C)]
 pub struct PageRead {
     pub number: u32,

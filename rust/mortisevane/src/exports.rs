@@ -1079,8 +1079,8 @@ pub struct Written {
     pub words: Size,
 }
 
-/// A page read: what its head says, how many characters it has, and how many of them are spaces at its end, where the
-/// filling starts. All are 0 after a refusal.
+/// A page read: what its head says, how many characters it has, and how many of them are spaces at its end. All are 0 after
+/// a refusal.
 #[repr(C)]
 #[derive(Clone, Copy, Debug, Default, PartialEq, Eq)]
 pub struct PageRead {
@@ -1109,8 +1109,8 @@ extern "C" {
     /// memory for the text, for which PAGE_CHARACTERS are always enough.
     ///
     /// Answers what the head of a numbered page says; how many characters were written, all that the words have room for; and
-    /// how many of them are spaces at the end. So many characters fewer are what a display has to show: filling is spaces, and
-    /// which of them the sender wrote nobody can tell.
+    /// how many of them are spaces at the end. A display has to show the characters before these: filling is spaces, and which
+    /// of them the sender wrote nobody can tell.
     ///
     /// Refuses 7, 9, 10, 11, the first that applies, and last 1; the memory is then as it was. Here 7 is a set that is neither, a
     /// type that is no numeric page's, or a K over 15.
