@@ -218,7 +218,8 @@ This document is written by one command, which is also how to make it again:
     tools/bench
 
 It builds `rust/bench` with the library and the second program (`rust/second`), both for release, and runs it once under
-callgrind. Before an operation is counted both programs answer the same input and must agree, in what they tell and in the
+callgrind. The second program is compiled as one unit, so that what is counted of an operation does not change with what else
+its crate holds. Before an operation is counted both programs answer the same input and must agree, in what they tell and in the
 memory that they were lent. Instructions are those of one call, from the operation's first to its return, with all that it
 calls. Each is called through its own symbol, so that neither is taken apart into its caller.
 
