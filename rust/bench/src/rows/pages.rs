@@ -188,23 +188,14 @@ struct Sent {
 
 /// A page as the second program writes it.
 fn sent(page: Page) -> Sent {
-    let Page {
-        set,
-        text,
-        kind,
-        numbering,
-    } = page;
     let mut words = vec![0; PAGE_WORDS];
-    let written = numeric::write(set, text, kind, numbering, &mut words);
-    let SecondWritten {
-        check,
-        words: count,
-    } = written.expect("the text has a page");
-    words.truncate(count);
+    let written = numeric::write(page.set, page.text, page.kind, page.numbering, &mut words);
+    let written = written.expect("the text has a page");
+    words.truncate(written.words);
     Sent {
-        set,
-        kind,
-        check,
+        set: page.set,
+        kind: page.kind,
+        check: written.check,
         words,
     }
 }
