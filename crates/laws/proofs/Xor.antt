@@ -1,12 +1,15 @@
 -- The laws of xor, for all numbers. What the library has of them is passed on, so that all stand in one place.
 use Prim.Native.Nat.{ℕ, _/_, _%_}
 use mathlib.Core.Bool.{Bool}
-use mathlib.Core.Path.{_≡_, refl, sym, _∙_}
+use mathlib.Core.Logic.{⊎-elim}
+use mathlib.Core.Path.{_≡_, refl, sym, ap, _∙_}
 use native.Mathlib.Omega.{arith}
+use borrow.Author.Tests.{eqb-true, eqb-false, eq-eqb, ne-eqb}
 use lib.Arith.{bin-ind}
 use lib.Bits.{bitXor, differ, xor-step, xor-shr, xor-mod}
 use lib.Dec.{eqb, eqb→eq}
 use Rattle.laws.proofs.Counting.{allBelow, of-all-below}
+use Rattle.laws.proofs.Tests.{decided}
 pub use lib.Bits.{xor-comm, xor-self, xor-zero-l, xor-zero-r, xor-lt}
 
 -- whether three bits may be taken together either way
@@ -31,3 +34,23 @@ xor-assoc =
 -- what is put in twice is out again
 pub xor-cancel : (a b : ℕ) → bitXor (bitXor a b) b ≡ a
 xor-cancel a b = xor-assoc a b b ∙ rw xor-self (xor-zero-r a)
+
+-- what is put in twice is out again, also where it is put in first
+pub xor-back : (a b : ℕ) → bitXor a (bitXor a b) ≡ b
+xor-back a b = sym (xor-assoc a a b) ∙ rw (xor-self a)
+
+-- of three numbers the first two may change places
+pub xor-swap : (a b c : ℕ) → bitXor a (bitXor b c) ≡ bitXor b (bitXor a c)
+xor-swap a b c = sym (xor-assoc a b c) ∙ ap (λ (x : ℕ). bitXor x c) (xor-comm a b) ∙ xor-assoc b a c
+
+-- what is put in twice is out again, with another number between
+pub xor-across : (a b c : ℕ) → bitXor a (bitXor b (bitXor a c)) ≡ bitXor b c
+xor-across a b c = xor-swap a b (bitXor a c) ∙ ap (bitXor b) (xor-back a c)
+
+-- with the same number put into both, two numbers are alike exactly if they were before
+pub xor-apart : (a b c : ℕ) → eqb (bitXor a b) (bitXor a c) ≡ eqb b c
+xor-apart a b c =
+    ⊎-elim
+    (λ same. eq-eqb _ _ (ap (bitXor a) (eqb-true b c same)) ∙ sym same)
+    (λ other. ne-eqb _ _ (λ e. eqb-false b c other (sym (xor-back a b) ∙ ap (bitXor a) e ∙ xor-back a c)) ∙ sym other)
+    (decided (eqb b c))
