@@ -215,15 +215,20 @@ closing-holds : (m : Mirror) → sound m ≡ true → (closingOf m) .packet .bit
 unfolding builtOf
 closing-holds m small = rw small
 
--- a checksum that holds a sound register makes the decoder talk
-register-talks : (m : Mirror) → m .register < 2 ^ 24 → talks (stepOf m (m .register)) ≡ true
-register-talks m small =
-    checksum-talks m (m .register) (eq-eqb (idOf (m .register)) checksumID (omega arith))
-    ∙ rw (eq-eqb (dataOf (m .register)) (m .register) (omega arith)) (or-true (talks m))
+-- after a checksum that holds 24 bits the decoder talks if it did before, or if its register is these bits
+register-starts : (m : Mirror) (register : ℕ) → register < 2 ^ 24 → talks (stepOf m register) ≡ (talks m || eqb register (m .register))
+register-starts m register small =
+    let bits : dataOf register ≡ register = omega arith in
+    checksum-talks m register (eq-eqb (idOf register) checksumID (omega arith)) ∙ ap (λ (b : ℕ). talks m || eqb b (m .register)) bits
+
+-- after the closing checksum of a sound mirror any decoder talks if it did before, or if its register is the mirror's
+pub closing-starts : (m h : Mirror) → sound h ≡ true
+    → talks (stepOf m ((closingOf h) .packet .bits)) ≡ (talks m || eqb (h .register) (m .register))
+closing-starts m h small = rw (closing-holds h small) (register-starts m (h .register) (ltb-true (h .register) (2 ^ 24) small))
 
 -- after the closing checksum of a sound mirror the decoder talks, whether or not it did before
 pub closing-talks : (m : Mirror) → sound m ≡ true → talks (stepOf m ((closingOf m) .packet .bits)) ≡ true
-closing-talks m small = rw (closing-holds m small) (register-talks m (ltb-true (m .register) (2 ^ 24) small))
+closing-talks m small = closing-starts m m small ∙ rw (eq-eqb (m .register) (m .register) refl) (or-true (talks m))
 
 -- 24 bits stay 24 bits
 sound-by : (out : Bool) (register bits : ℕ) → register < 2 ^ 24 → bits < 2 ^ 24 → ltb (pick out register (bitXor register bits)) (2 ^ 24) ≡ true

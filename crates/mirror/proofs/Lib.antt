@@ -1,2 +1,4 @@
 pub mod Examples
 pub mod Laws
+pub mod StartUpExamples
+pub mod StartUpLaws

@@ -1,1 +1,2 @@
 pub mod Handshake
+pub mod StartUp

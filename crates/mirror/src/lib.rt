@@ -2,7 +2,8 @@
 // handshake"; S8.4.2). The host runs every packet that it sends through the mirror, and so knows what the decoder knows.
 //
 // What a packet does to a mirror is said in specs/Handshake; the laws of any run of packets are in proofs/Laws, worked
-// runs in proofs/Examples.
+// runs in proofs/Examples. What a start-up is, with a list that the host sent and one that reached the decoder, is said in
+// specs/StartUp; what the checksum shows of it, and what it does not, is in proofs/StartUpLaws and proofs/StartUpExamples.
 
 // The two ends of a start-up: the mirror after a reset, and the checksum that makes the decoder talk.
 mod ends;
