@@ -16,6 +16,7 @@ pub const USAGE: &str = "usage: compare exports EXCHANGE_COMMAND.. [--seed NUMBE
        compare air EXCHANGE_COMMAND.. [--seed NUMBER]
        compare calls EXCHANGE_COMMAND.. [--seed NUMBER]
        compare start-up FILE EXCHANGE_COMMAND..
+       compare checksum FILE EXCHANGE_COMMAND.. [--seed NUMBER]
        compare lines LISTING_COMMAND.. [--count NUMBER] [--seed NUMBER]
        compare explained LISTING_COMMAND.. [--count NUMBER] [--seed NUMBER]
        compare edges LISTING_COMMAND..
@@ -60,6 +61,11 @@ pub enum Task {
     StartUp {
         file: String,
         exchange: Vec<String>,
+    },
+    Checksum {
+        file: String,
+        exchange: Vec<String>,
+        seed: u64,
     },
     Lines {
         listing: Vec<String>,
@@ -115,6 +121,7 @@ pub fn read(words: &[String]) -> Option<Task> {
             Some(Task::Calls { exchange, seed })
         }
         "start-up" => read_start_up(rest),
+        "checksum" => read_checksum(rest),
         "lines" => read_lines(rest),
         "explained" => read_explained(rest),
         "edges" => {
@@ -161,6 +168,16 @@ fn read_start_up(words: &[String]) -> Option<Task> {
     Some(Task::StartUp {
         file: file.clone(),
         exchange,
+    })
+}
+
+fn read_checksum(words: &[String]) -> Option<Task> {
+    let (file, command) = words.split_first()?;
+    let (exchange, seed) = command_and_seed(command)?;
+    Some(Task::Checksum {
+        file: file.clone(),
+        exchange,
+        seed,
     })
 }
 
@@ -315,6 +332,28 @@ mod tests {
             exchange: words("run exchange"),
         };
         assert_eq!(read(&words("start-up table.md run exchange")), Some(task));
+    }
+
+    #[test]
+    fn checksums_have_a_file_a_command_and_maybe_a_seed() {
+        for (options, seed) in [("", DEFAULT_SEED), (" --seed 7", 7)] {
+            let task = Task::Checksum {
+                file: "tables.md".to_string(),
+                exchange: words("run exchange"),
+                seed,
+            };
+            let line = format!("checksum tables.md run exchange{options}");
+            assert_eq!(read(&words(&line)), Some(task), "{line}");
+        }
+        for line in [
+            "checksum",
+            "checksum tables.md",
+            "checksum tables.md --seed 1",
+            "checksum tables.md run --seed",
+            "checksum tables.md run --seed one",
+        ] {
+            assert_eq!(read(&words(line)), None, "{line}");
+        }
     }
 
     #[test]

@@ -5,6 +5,7 @@ mod air;
 mod boundaries;
 mod calls;
 mod chains;
+mod checksum;
 mod child;
 mod command_line;
 mod counted;
@@ -20,8 +21,10 @@ mod packets;
 mod pages;
 mod random;
 mod start_up;
+mod tables;
 mod tally;
 mod texts;
+mod worked;
 mod yardstick;
 
 use std::env;
@@ -59,6 +62,11 @@ fn carry_out(task: &Task) -> Result<(), String> {
         Task::Air { exchange, seed } => air::compare(exchange, *seed)?,
         Task::Calls { exchange, seed } => calls::compare(exchange, *seed)?,
         Task::StartUp { file, exchange } => start_up::compare(file, exchange)?,
+        Task::Checksum {
+            file,
+            exchange,
+            seed,
+        } => checksum::compare(file, exchange, *seed)?,
         Task::Lines {
             listing,
             count,
@@ -70,20 +78,22 @@ fn carry_out(task: &Task) -> Result<(), String> {
             seed,
         } => explained::compare(listing, *count, *seed)?,
         Task::Edges { listing } => edges::compare(listing)?,
-        Task::WriteLines { count, seed } => {
-            return all_written(lines::write(io::stdout().lock(), *count, *seed));
-        }
-        Task::WriteCapcodes { count, seed } => {
-            return all_written(lines::write_capcodes(io::stdout().lock(), *count, *seed));
-        }
-        Task::CopyLines => {
-            return all_written(lines::copy(io::stdin().lock(), io::stdout().lock()));
+        Task::WriteLines { .. } | Task::WriteCapcodes { .. } | Task::CopyLines => {
+            return write(task);
         }
     };
     println!("{compared}");
     Ok(())
 }
 
-fn all_written(lines: io::Result<()>) -> Result<(), String> {
-    lines.map_err(|error| format!("the lines cannot be written: {error}"))
+/// Of lines that are only written; a comparison writes none.
+fn write(task: &Task) -> Result<(), String> {
+    let output = io::stdout().lock();
+    let written = match task {
+        Task::WriteLines { count, seed } => lines::write(output, *count, *seed),
+        Task::WriteCapcodes { count, seed } => lines::write_capcodes(output, *count, *seed),
+        Task::CopyLines => lines::copy(io::stdin().lock(), output),
+        _ => Ok(()),
+    };
+    written.map_err(|error| format!("the lines cannot be written: {error}"))
 }

@@ -1,126 +1,49 @@
-//! The sample start-up of docs/start-up.md: both mirrors are held to its table,
-//! which was worked out without either.
+//! The sample start-up of docs/start-up.md: both mirrors are held to its tables,
+//! which were worked out without either.
 
 use std::fs;
 
 use second::mirror::Mirror;
 
-use crate::exchange::{self, Request};
-use crate::host::Told;
-use crate::packets::mirrors::{Closing, Reset, Run, Step};
-use crate::packets::readers::MaySend;
-
-/// One row: a packet, and the mirror after it.
-#[derive(Clone, Copy, Debug, PartialEq, Eq)]
-struct Row {
-    packet: u32,
-    after: Mirror,
-}
+use crate::tables::{cells, read_packet, read_register, read_talking, tables, Line};
+use crate::worked::{is_checksum, Row, Worked};
 
 pub fn compare(path: &str, exchange: &[String]) -> Result<String, String> {
     let text = fs::read_to_string(path).map_err(|error| format!("{path}: {error}"))?;
-    let rows = read_table(&text).map_err(|fault| format!("{path}: {fault}"))?;
-    let [first, rest @ .., last] = rows.as_slice() else {
-        return Err(format!("{path}: has no start-up of at least two rows"));
-    };
-    let before_last = rest.last().unwrap_or(first);
-    hold(exchange, vec![reset(first)])?;
-    hold(exchange, steps(&rows))?;
-    hold(exchange, vec![whole_run(first, &rows[1..], last)])?;
-    hold(exchange, vec![closing(before_last, last)])?;
-    hold(exchange, may_send(&rows[1..]))?;
-    let steps = rows.len() - 1;
+    let in_file = |fault| format!("{path}: {fault}");
+    let rows = read_rows(&text).map_err(in_file)?;
+    let steps = rows.len().saturating_sub(1);
+    let packets = rows.iter().map(|row| row.packet);
+    let closings = packets.filter(|packet| is_checksum(*packet)).count();
+    if steps == 0 {
+        return Err(in_file("has no start-up of at least two rows".to_string()));
+    }
+    let worked = Worked::new(&[rows], &[]);
+    worked.hold(exchange).map_err(in_file)?;
     Ok(format!(
-        "start-up: a reset, {steps} steps, the run of them and the closing checksum \
+        "start-up: a reset, {steps} steps, the run of them and the {closings} closing checksums \
          are as {path} has them, and the {steps} packets may be sent"
     ))
 }
 
-/// Holds the second program to what the table says, and then the library to
-/// the second program.
-fn hold<R: Request>(exchange: &[String], held: Vec<(R, R::Answer)>) -> Result<(), String> {
-    for (request, table) in &held {
-        let second = request.second();
-        if second != *table {
-            let question = request.question();
-            return Err(format!(
-                "{question}\n  table   {table:?}\n  second  {second:?}"
-            ));
-        }
-    }
-    let requests: Vec<R> = held.into_iter().map(|(request, _)| request).collect();
-    exchange::compare(exchange, requests.into_iter()).map(drop)
+/// The rows of all tables in the text: each goes on where the one before it ends.
+fn read_rows(text: &str) -> Result<Vec<Row>, String> {
+    let tables = tables(text);
+    let rows: Result<Vec<Vec<Row>>, String> =
+        tables.iter().map(|table| table.rows(read_row)).collect();
+    rows.map(|rows| rows.concat())
 }
 
-fn accepted<F>(fields: F) -> Told<F> {
-    Told { number: 0, fields }
-}
-
-fn reset(row: &Row) -> (Reset, Told<Mirror>) {
-    let packet = row.packet;
-    (Reset { packet }, accepted(row.after))
-}
-
-fn steps(rows: &[Row]) -> Vec<(Step, Told<Mirror>)> {
-    let step = |pair: &[Row]| {
-        let (mirror, packet) = (pair[0].after, pair[1].packet);
-        (Step { mirror, packet }, accepted(pair[1].after))
-    };
-    rows.windows(2).map(step).collect()
-}
-
-fn whole_run(first: &Row, rest: &[Row], last: &Row) -> (Run, Told<Mirror>) {
-    let packets = rest.iter().map(|row| row.packet).collect();
-    let mirror = first.after;
-    (Run { mirror, packets }, accepted(last.after))
-}
-
-/// The last packet is the one that closes what stands before it.
-fn closing(before: &Row, last: &Row) -> (Closing, Told<u32>) {
-    let mirror = before.after;
-    (Closing { mirror }, accepted(last.packet))
-}
-
-/// All but the part ID go from the host to the decoder.
-fn may_send(rows: &[Row]) -> Vec<(MaySend, Told<()>)> {
-    let packets = rows.iter().map(|row| row.packet);
-    packets
-        .map(|packet| (MaySend { packet }, accepted(())))
-        .collect()
-}
-
-/// The rows of the only table in the text, below its heading and its rule.
-fn read_table(text: &str) -> Result<Vec<Row>, String> {
-    let lines = text.lines().filter(|line| line.starts_with('|'));
-    let rows = lines.skip(2);
-    rows.map(|line| read_row(line).ok_or_else(|| format!("is no row of a start-up: {line}")))
-        .collect()
-}
-
-fn read_row(line: &str) -> Option<Row> {
-    let cells: Vec<&str> = line.split('|').map(str::trim).collect();
-    let ["", packet, _, register, talking, ""] = cells[..] else {
-        return None;
-    };
-    let talking = match talking {
-        "yes" => 1,
-        "no" => 0,
-        _ => return None,
-    };
+fn read_row(line: &Line) -> Option<Row> {
+    let [packet, _, register, talking] = cells(line.text)?;
     Some(Row {
-        packet: read_hexadecimal(packet, 8)?,
+        line: line.number,
+        packet: read_packet(packet)?,
         after: Mirror {
-            register: read_hexadecimal(register, 6)?,
-            talking,
+            register: read_register(register)?,
+            talking: read_talking(talking)?,
         },
     })
-}
-
-fn read_hexadecimal(digits: &str, width: usize) -> Option<u32> {
-    let all_digits = digits.bytes().all(|byte| byte.is_ascii_hexdigit());
-    (digits.len() == width && all_digits)
-        .then(|| u32::from_str_radix(digits, 16).ok())
-        .flatten()
 }
 
 #[cfg(test)]
@@ -156,7 +79,16 @@ mod tests {
             .collect()
     }
 
-    /// The packets of the table are those that its second column speaks of.
+    /// What is sent again: the address at location 0, and that it is enabled.
+    fn address_block(word: u32) -> [u32; 2] {
+        let address = UserAddress {
+            word,
+            ..Default::default()
+        };
+        [built(address), built(AddressEnable { enabled: 1 })]
+    }
+
+    /// The packets of the tables are those that their second column speaks of.
     #[test]
     fn the_packets_are_those_of_the_capcode() {
         let (capcode, place) = read_with_place(b"E0001234").expect("it is a CAPCODE");
@@ -178,31 +110,36 @@ mod tests {
             }),
         ];
         packets.extend(frame_assignments(place.base_frame, capcode.collapse));
-        packets.push(built(UserAddress {
-            word,
-            ..Default::default()
-        }));
-        packets.push(built(AddressEnable { enabled: 1 }));
+        packets.extend(address_block(word));
         packets.push(built(Control {
             on: 1,
             ..Default::default()
         }));
         packets.push(built(Checksum { value: 0x01_8544 }));
-        let rows = read_table(SAMPLE).expect("the sample is a start-up");
+        for value in [0x01_0197, 0x01_8544] {
+            packets.extend(address_block(word));
+            packets.push(built(Checksum { value }));
+        }
+        let rows = read_rows(SAMPLE).expect("the sample is a start-up");
         let table: Vec<u32> = rows.iter().map(|row| row.packet).collect();
         assert_eq!(table, packets);
+    }
+
+    fn row_of(text: &str) -> Option<Row> {
+        read_row(&Line { number: 7, text })
     }
 
     #[test]
     fn rows() {
         let row = Row {
+            line: 7,
             packet: 0x0340_0000,
             after: Mirror {
                 register: 0x40_0116,
                 talking: 1,
             },
         };
-        assert_eq!(read_row("| 03400000 | words | 400116 | yes |"), Some(row));
+        assert_eq!(row_of("| 03400000 | words | 400116 | yes |"), Some(row));
         for slip in [
             "| 3400000 | words | 400116 | yes |",
             "| 03400000 | words | +40116 | yes |",
@@ -212,29 +149,39 @@ mod tests {
             "| 03400000 | words | 400116 | yes | no |",
             "03400000",
         ] {
-            assert_eq!(read_row(slip), None, "{slip}");
+            assert_eq!(row_of(slip), None, "{slip}");
         }
     }
 
     #[test]
     fn a_table_with_a_slip_is_none() {
         let slip = "| Packet | |\n|---|\n| FF000106 | words | 000106 | no |\n| FF |\n";
-        assert!(read_table(slip).is_err());
-        assert_eq!(read_table("no table"), Ok(vec![]));
+        let told = read_rows(slip).expect_err("there is a slip");
+        assert_eq!(told, "line 4 is no row of its table: | FF |");
+        assert_eq!(read_rows("no table"), Ok(vec![]));
     }
 
-    /// A wrong number in the table is told before the library is asked.
     #[test]
-    fn a_wrong_table_is_told() {
-        let step = Step {
-            mirror: Mirror::default(),
-            packet: 0x0100_0010,
-        };
-        let wrong = accepted(Mirror {
-            register: 0x11,
-            talking: 0,
-        });
-        let told = hold(&[], vec![(step, wrong)]).expect_err("the table is wrong");
-        assert!(told.contains("table   Told"), "{told}");
+    fn the_second_program_is_as_the_sample_has_it() {
+        let rows = read_rows(SAMPLE).expect("the sample is a start-up");
+        assert_eq!(Worked::new(&[rows], &[]).hold_second(), Ok(()));
+    }
+
+    #[test]
+    fn every_wrong_number_of_the_sample_is_told() {
+        let rows = read_rows(SAMPLE).expect("the sample is a start-up");
+        let changes: [fn(&mut Row); 3] = [
+            |row| row.packet ^= 1,
+            |row| row.after.register ^= 1 << 23,
+            |row| row.after.talking ^= 1,
+        ];
+        for place in 0..rows.len() {
+            for change in changes {
+                let mut wrong = rows.clone();
+                change(&mut wrong[place]);
+                let outcome = Worked::new(&[wrong], &[]).hold_second();
+                assert!(outcome.is_err(), "line {}", rows[place].line);
+            }
+        }
     }
 }
