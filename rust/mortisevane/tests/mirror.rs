@@ -5,7 +5,9 @@ use mortisevane::{Mirror, Refusal};
 /// The rows of docs/start-up.md: the packet, the register after it, and whether the decoder is talking then.
 fn start_up() -> Vec<(u32, u32, bool)> {
     let number = |cell: &str| u32::from_str_radix(cell, 16).expect("it is a hexadecimal number");
-    let rows = include_str!("../../../docs/start-up.md").lines().filter(|line| line.starts_with("| ")).skip(1);
+    let lines = include_str!("../../../docs/start-up.md").lines().filter(|line| line.starts_with("| "));
+    // Of its two tables the second goes on where the first ends, after a heading of its own.
+    let rows = lines.filter(|line| !line.starts_with("| Packet"));
     rows.map(|row| row.split('|').map(str::trim).collect::<Vec<_>>())
         .map(|cells| (number(cells[1]), number(cells[3]), cells[4] == "yes"))
         .collect()
@@ -14,7 +16,7 @@ fn start_up() -> Vec<(u32, u32, bool)> {
 #[test]
 fn the_start_up_packet_by_packet() {
     let rows = start_up();
-    assert_eq!(rows.len(), 14);
+    assert_eq!(rows.len(), 20);
     let mut mirror = Mirror::reset(rows[0].0).unwrap();
     assert_eq!((mirror.register, mirror.is_talking()), (rows[0].1, rows[0].2));
     for (packet, register, talking) in &rows[1..] {
