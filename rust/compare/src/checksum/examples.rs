@@ -6,12 +6,15 @@ use std::fs;
 
 use second::mirror::Mirror;
 
-use crate::tables::{cells, read_packet, read_register, read_talking, tables, Line};
+use crate::tables::{cells, read_packet, read_register, read_talking, tables, Line, Table};
 use crate::worked::{is_checksum, Row, Worked};
 
-/// Tables with another heading are no examples.
+/// That of every example.
 const HEADING: &str =
     "| Sent | Host's register | Reached | Decoder's register | Talking | What it is |";
+
+/// Tables with fewer columns, or with more, are no examples.
+const COLUMNS: usize = 6;
 
 /// What stands in place of a packet where none was sent, or none arrives.
 const NOTHING: &str = "-";
@@ -39,13 +42,21 @@ pub fn compare(path: &str, exchange: &[String]) -> Result<usize, String> {
 /// The rows of each.
 fn read_examples(text: &str) -> Result<Vec<Vec<Both>>, String> {
     let tables = tables(text);
-    let examples = tables.iter().filter(|table| table.heading() == HEADING);
-    let examples: Vec<Vec<Both>> = examples
-        .map(|table| table.rows(read_both))
-        .collect::<Result<_, _>>()?;
+    let examples = tables
+        .iter()
+        .filter(|table| cells::<COLUMNS>(table.heading()).is_some());
+    let examples: Vec<Vec<Both>> = examples.map(read_example).collect::<Result<_, _>>()?;
     match examples.len() {
         0 => Err(format!("has no table with the heading {HEADING}")),
         _ => Ok(examples),
+    }
+}
+
+/// A slip in a heading is told, so that no example is passed over.
+fn read_example(table: &Table) -> Result<Vec<Both>, String> {
+    match table.heading() {
+        HEADING => table.rows(read_both),
+        other => Err(format!("has a table with the heading {other}")),
     }
 }
 
@@ -71,7 +82,7 @@ fn worked(examples: &[Vec<Both>]) -> Result<Worked, String> {
 }
 
 fn read_both(line: &Line) -> Option<Both> {
-    let [sent, host_register, reached, decoder_register, talking, _] = cells(line.text)?;
+    let [sent, host_register, reached, decoder_register, talking, _] = cells::<COLUMNS>(line.text)?;
     Some(Both {
         line: line.number,
         sent: read_packet_or_nothing(sent)?,
@@ -205,7 +216,8 @@ mod tests {
         let row = "| 78000001 | 0085D5 | - | 0085D4 |";
         let slip = "| 78000001 | 0085D5 | | 0085D4 |";
         assert_told(row, slip, "line 5 is no row of its table: | 78000001");
-        assert_told("Reached", "Arrived", "has no table with the heading | Sent");
+        let told = "has a table with the heading | Sent | Host's register | Arrived |";
+        assert_told("Reached", "Arrived", told);
         assert_told("|---|---|---|---|---|---|\n", "", "line 2 is no rule");
         let told = "line 5 changes a mirror without a packet";
         assert_told("| - | 0085D4 | no |", "| - | 0085D5 | no |", told);
@@ -227,7 +239,8 @@ mod tests {
     fn other_tables_are_passed_over() {
         let other = "| Sent | What |\n|---|---|\n| nothing | of it |\n\n";
         assert_eq!(second(&[other, EXAMPLE, "\n", other].concat()), Ok(()));
-        assert!(second(other).is_err());
+        let told = format!("has no table with the heading {HEADING}");
+        assert_eq!(second(other), Err(told));
     }
 
     #[test]
