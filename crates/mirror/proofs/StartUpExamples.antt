@@ -9,8 +9,7 @@ use Rattle.laws.specs.Lists.{all, sumBy}
 use Rattle.packet.specs.Fields.{builtOf}
 use Rattle.mirror.specs.declared.Mirror.{Mirror}
 use Rattle.mirror.specs.Handshake.{talks, stepOf, runOf, sumOf}
-use Rattle.mirror.specs.StartUp.{Reordered, effectOf, noChecksum, allSendable, fromReset, checksumFor, starts, repeated}
-use Rattle.mirror.proofs.Laws.{leftOut}
+use Rattle.mirror.specs.StartUp.{Reordered, effectOf, isSummed, noChecksum, allSendable, fromReset, checksumFor, starts, repeated}
 
 -- the part ID of the PCD5008
 abbrev partID : ℕ
@@ -134,7 +133,7 @@ not-silent-before = refl
 -- ---- what is not noticed
 
 -- `changed-ID`: the address of location 0 arrives as that of location 1; its premises hold
-pub other-location : (leftOut 0x800084D2 ≡ false) × (leftOut 0x810084D2 ≡ false) × (starts partID sent (0x810084D2 ∷ 0x78000001 ∷ 0x02000001 ∷ []) ≡ true)
+pub other-location : (isSummed 0x800084D2 ≡ true) × (isSummed 0x810084D2 ≡ true) × (starts partID sent (0x810084D2 ∷ 0x78000001 ∷ 0x02000001 ∷ []) ≡ true)
 unfolding runOf builtOf
 other-location = (refl, refl, refl)
 
@@ -159,18 +158,32 @@ lost = refl
 abbrev block : List ℕ
 block = 0x800084D2 ∷ 0x78000001 ∷ []
 
+-- the other packets of a start-up: configuration, and control
+abbrev others : List ℕ
+others = 0x01010090 ∷ 0x02000001 ∷ []
+
 -- a start-up with the block so many times
 abbrev with-block : ℕ → List ℕ
-with-block k = 0x01010090 ∷ [] ++ (repeated k block ++ 0x02000001 ∷ [])
+with-block k = 0x01010090 ∷ (repeated k block ++ 0x02000001 ∷ [])
 
--- `block-twice`, `block-thrice`: the closing checksum for the block not sent, once, twice and three times, as in docs/start-up.md
-pub closings : map {A = ℕ} {B = ℕ} (λ k. checksumFor partID (with-block k)) (0 ∷ 1 ∷ 2 ∷ 3 ∷ []) ≡ 0x00010197 ∷ 0x00018544 ∷ 0x00010197 ∷ 0x00018544 ∷ []
+-- a start-up with the block at the beginning, in the middle and at the end
+abbrev apart : List ℕ
+apart = block ++ (0x01010090 ∷ (block ++ (0x02000001 ∷ block)))
+
+-- `block-twice`, `block-thrice`: the closing checksum for the block not sent, once, twice and three times, as in docs/start-up.md; and three times, apart
+pub closings : map {A = List ℕ} {B = ℕ} (checksumFor partID) (with-block 0 ∷ with-block 1 ∷ with-block 2 ∷ with-block 3 ∷ apart ∷ [])
+    ≡ 0x00010197 ∷ 0x00018544 ∷ 0x00010197 ∷ 0x00018544 ∷ 0x00018544 ∷ []
 unfolding repeated runOf builtOf
 closings = refl
 
--- `repeated-exactly`: sent twice, it never arrived, arrived once, twice; sent three times, it never arrived, arrived once, twice, three times
+-- the premises of `repeated-exactly` hold: the block three times, apart, and once
+pub three-and-once : Reordered apart (repeated 3 block ++ others) × Reordered (with-block 1) (repeated 1 block ++ others) × (noChecksum (with-block 1) ≡ true)
+unfolding repeated sumBy all
+three-and-once = (λ n. omega arith, λ n. omega arith, refl)
+
+-- `repeated-exactly`: sent twice, it never arrived, arrived once, twice; sent three times, apart, it never arrived, arrived once, twice, three times
 pub arrivals : startedAfter (with-block 2) (with-block 0 ∷ with-block 1 ∷ with-block 2 ∷ [])
-    ++ startedAfter (with-block 3) (with-block 0 ∷ with-block 1 ∷ with-block 2 ∷ with-block 3 ∷ [])
+    ++ startedAfter apart (with-block 0 ∷ with-block 1 ∷ with-block 2 ∷ with-block 3 ∷ [])
     ≡ true ∷ false ∷ true ∷ false ∷ true ∷ false ∷ true ∷ []
 unfolding repeated runOf builtOf
 arrivals = refl
@@ -179,6 +192,11 @@ arrivals = refl
 pub nothing-summed : starts partID (0x20002000 ∷ 0x21002000 ∷ 0x02000001 ∷ []) (0x02000001 ∷ []) ≡ true
 unfolding runOf builtOf
 nothing-summed = refl
+
+-- `repeated-exactly` where other packets are not the same: the block is sent once and arrives once, and the control packet is changed
+pub not-others : starts partID (with-block 1) (0x01010090 ∷ block ++ (0x02000003 ∷ [])) ≡ false
+unfolding repeated runOf builtOf
+not-others = refl
 
 -- `repeated-exactly` at a list with a checksum: it holds the register, and the block that never arrives leaves the decoder talking
 pub not-repeated : starts partID (0x00000106 ∷ block) (0x00000106 ∷ []) ≡ true

@@ -19,7 +19,7 @@ use Rattle.packet.specs.Names.{idOf, dataOf, among, firstSpecialID, lastSpecial
 use Rattle.packet.specs.Rule.{neverSent, zerosRight, maySend}
 use Rattle.mirror.specs.declared.Mirror.{Mirror}
 use Rattle.mirror.specs.Handshake.{isChecksum, isSpecial, talks, stepOf, runOf, sumOf, resetBy, closingOf}
-use Rattle.mirror.specs.StartUp.{times, Reordered, effectOf, noChecksum, allSendable, fromReset, starts, repeated, odd}
+use Rattle.mirror.specs.StartUp.{times, Reordered, effectOf, isSummed, noChecksum, allSendable, fromReset, starts, repeated, odd}
 use Rattle.mirror.proofs.Laws.{leftOut, register-after, sum-joined, other-silences, closing-starts, stays-sound, reset-sound}
 
 -- ---- the register
@@ -28,7 +28,7 @@ use Rattle.mirror.proofs.Laws.{leftOut, register-after, sum-joined, oth
 abbrev pub shareOf : ℕ → ℕ
 shareOf n = pick (leftOut n) 0 (dataOf n)
 
--- a packet's bits are put into a sum, or its share is
+-- to put a packet's bits into a sum, unless it is left out, is to put its share into it
 share-by : (out : Bool) (bits sum : ℕ) → pick out sum (bitXor bits sum) ≡ bitXor (pick out 0 bits) sum
 share-by true bits sum = refl
 share-by false bits sum = refl
@@ -41,6 +41,10 @@ sum-of-packet n ns = share-by (leftOut n) (dataOf n) (sumOf ns)
 -- the sum of a list with a packet in it
 sum-around : (before : List ℕ) (n : ℕ) (after : List ℕ) → sumOf (before ++ n ∷ after) ≡ bitXor (sumOf before) (bitXor (shareOf n) (sumOf after))
 sum-around before n after = sum-joined before (n ∷ after) ∙ ap (bitXor (sumOf before)) (sum-of-packet n after)
+
+-- with the same packets before them, lists with the same sum still have the same sum
+same-after : (before ns ks : List ℕ) → sumOf ns ≡ sumOf ks → sumOf (before ++ ns) ≡ sumOf (before ++ ks)
+same-after before ns ks same = sum-joined before ns ∙ ap (bitXor (sumOf before)) same ∙ sym (sum-joined before ks)
 
 -- lists with the same sum leave the same register
 pub same-register : (m : Mirror) (ns ks : List ℕ) → sumOf ns ≡ sumOf ks → (runOf m ns) .register ≡ (runOf m ks) .register
@@ -106,14 +110,14 @@ reordered-register m ns ks same = same-register m ns ks (sum-reordered ns ks sam
 sum-twice : (before block between after : List ℕ)
     → sumOf (before ++ (block ++ (between ++ (block ++ after)))) ≡ sumOf (before ++ (between ++ after))
 sum-twice before block between after =
-    sum-joined before (block ++ (between ++ (block ++ after)))
-    ∙ ap
-    (bitXor (sumOf before))
+    same-after
+    before
+    (block ++ (between ++ (block ++ after)))
+    (between ++ after)
     (sum-joined block (between ++ (block ++ after))
     ∙ ap (bitXor (sumOf block)) (sum-joined between (block ++ after) ∙ ap (bitXor (sumOf between)) (sum-joined block after))
     ∙ xor-across (sumOf block) (sumOf between) (sumOf after)
     ∙ sym (sum-joined between after))
-    ∙ sym (sum-joined before (between ++ after))
 
 -- a block that is sent twice whole, wherever the two stand: the register is as if it had not been sent
 pub block-twice : (m : Mirror) (before block between after : List ℕ)
@@ -126,10 +130,12 @@ pub packet-twice : (m : Mirror) (before : List ℕ) (n : ℕ) (between after : L
     → (runOf m (before ++ n ∷ (between ++ n ∷ after))) .register ≡ (runOf m (before ++ (between ++ after))) .register
 packet-twice m before n between after = block-twice m before (n ∷ []) between after
 
--- a block that is sent a third time: the register is as if it had been sent once
-pub block-thrice : (m : Mirror) (before block after : List ℕ)
-    → (runOf m (before ++ (block ++ (block ++ (block ++ after))))) .register ≡ (runOf m (before ++ (block ++ after))) .register
-block-thrice m before block after = block-twice m before block [] (block ++ after)
+-- a block that is sent a third time, wherever the three stand: the register is as if it had been sent once
+pub block-thrice : (m : Mirror) (before block between later after : List ℕ)
+    → (runOf m (before ++ (block ++ (between ++ (block ++ (later ++ (block ++ after))))))) .register
+    ≡ (runOf m (before ++ (block ++ (between ++ (later ++ after))))) .register
+block-thrice m before block between later after =
+    same-register m _ _ (same-after before _ _ (same-after block _ _ (sum-twice between block later after)))
 
 -- the effect of a list is its sum, whatever the register was before
 pub effect-sum : (m : Mirror) (ns : List ℕ) → effectOf m ns ≡ sumOf ns
@@ -269,16 +275,22 @@ one-missing p before n after may none bits =
 -- ---- what is not noticed
 
 -- 02: "a changed ID isn't noticed where both IDs are summed ones"
-pub changed-ID : (p : ℕ) (before : List ℕ) (n k : ℕ) (after : List ℕ) → leftOut n ≡ false → leftOut k ≡ false → dataOf n ≡ dataOf k
+pub changed-ID : (p : ℕ) (before : List ℕ) (n k : ℕ) (after : List ℕ) → isSummed n ≡ true → isSummed k ≡ true → dataOf n ≡ dataOf k
     → starts p (before ++ n ∷ after) (before ++ k ∷ after) ≡ true
 changed-ID p before n k after summed-n summed-k same =
     unnoticed
     p
     (before ++ n ∷ after)
     (before ++ k ∷ after)
-    (sum-around before n after
-    ∙ ap (λ (share : ℕ). bitXor (sumOf before) (bitXor share (sumOf after))) (share-summed n summed-n ∙ same ∙ sym (share-summed k summed-k))
-    ∙ sym (sum-around before k after))
+    (same-after
+    before
+    (n ∷ after)
+    (k ∷ after)
+    (sum-of-packet n after
+    ∙ ap
+    (λ (share : ℕ). bitXor share (sumOf after))
+    (share-summed n (not-true (leftOut n) summed-n) ∙ same ∙ sym (share-summed k (not-true (leftOut k) summed-k)))
+    ∙ sym (sum-of-packet k after)))
 
 -- packets that arrive in another order are not noticed
 pub reordered-starts : (p : ℕ) (sent reached : List ℕ) → Reordered sent reached → starts p sent reached ≡ true
@@ -302,20 +314,12 @@ sum-repeated (suc k) block = sum-joined block (repeated k block) ∙ ap (bitXor 
     turned true = xor-self (sumOf block)
     turned false = xor-zero-r (sumOf block)
 
--- a block without a checksum has none however often it is sent
-none-repeated : (k : ℕ) (block : List ℕ) → noChecksum block ≡ true → noChecksum (repeated k block) ≡ true
-unfolding repeated all
-none-repeated zero block none = refl
-none-repeated (suc k) block none = none-joined block (repeated k block) none (none-repeated k block none)
-
--- the sum of a list in which a block stands so many times
-sum-with : (before block after : List ℕ) (k : ℕ)
-    → sumOf (before ++ (repeated k block ++ after)) ≡ bitXor (sumOf before) (bitXor (sumOf after) (pick (odd k) (sumOf block) 0))
-sum-with before block after k =
-    sum-joined before (repeated k block ++ after)
-    ∙ ap
-    (bitXor (sumOf before))
-    (sum-joined (repeated k block) after ∙ xor-comm (sumOf (repeated k block)) (sumOf after) ∙ ap (bitXor (sumOf after)) (sum-repeated k block))
+-- the sum of other packets and a block that is sent so many times
+sum-with : (block others : List ℕ) (k : ℕ) → sumOf (repeated k block ++ others) ≡ bitXor (sumOf others) (pick (odd k) (sumOf block) 0)
+sum-with block others k =
+    sum-joined (repeated k block) others
+    ∙ xor-comm (sumOf (repeated k block)) (sumOf others)
+    ∙ ap (bitXor (sumOf others)) (sum-repeated k block)
 
 -- two sums of one block are alike where both are odd or both even, and else where the block puts nothing into the sum
 alike-by : (sent reached : Bool) (sum : ℕ) → eqb (pick sent sum 0) (pick reached sum 0) ≡ (Bool·beq sent reached || eqb sum 0)
@@ -324,19 +328,18 @@ alike-by true false sum = refl
 alike-by false true sum = eqb-swap 0 sum
 alike-by false false sum = refl
 
--- a block is sent so many times and arrives whole so many times: the closing checksum starts the decoder exactly if both
--- numbers are odd or both even, or if the block puts nothing into the sum
-pub repeated-exactly : (p : ℕ) (before block after : List ℕ) (sent reached : ℕ) → noChecksum (before ++ (block ++ after)) ≡ true
-    → starts p (before ++ (repeated sent block ++ after)) (before ++ (repeated reached block ++ after))
-    ≡ (Bool·beq (odd sent) (odd reached) || eqb (sumOf block) 0)
-repeated-exactly p before block after sent reached none =
-    let outer = none-apart before (block ++ after) none in
-    let inner = none-apart block after (outer .1) in
-    let arrived = none-joined (repeated reached block) after (none-repeated reached block (inner .0)) (inner .1) in
-    starts-exactly p (before ++ (repeated sent block ++ after)) (before ++ (repeated reached block ++ after)) (none-joined before _ (outer .0) arrived)
-    ∙ ap₂ eqb (sum-with before block after sent) (sum-with before block after reached)
-    ∙ xor-apart (sumOf before) _ _
-    ∙ xor-apart (sumOf after) _ _
+-- a block is sent so many times and arrives whole so many times, wherever it stands among the other packets, which all arrive: the
+-- closing checksum starts the decoder exactly if both numbers are odd or both even, or if the block puts nothing into the sum
+pub repeated-exactly : (p : ℕ) (block others : List ℕ) (sent reached : ℕ) (ns ks : List ℕ) → Reordered ns (repeated sent block ++ others)
+    → Reordered ks (repeated reached block ++ others) → noChecksum ks ≡ true
+    → starts p ns ks ≡ (Bool·beq (odd sent) (odd reached) || eqb (sumOf block) 0)
+repeated-exactly p block others sent reached ns ks of-sent of-reached none =
+    starts-exactly p ns ks none
+    ∙ ap₂
+    eqb
+    (sum-reordered ns (repeated sent block ++ others) of-sent ∙ sum-with block others sent)
+    (sum-reordered ks (repeated reached block ++ others) of-reached ∙ sum-with block others reached)
+    ∙ xor-apart (sumOf others) _ _
     ∙ alike-by (odd sent) (odd reached) (sumOf block)
 
 -- a block never arrived, and a checksum was sent in vain; the block is sent again, and then the closing checksum for the block
@@ -348,10 +351,10 @@ sent-again p before block after c check =
     p
     (before ++ (block ++ after))
     (before ++ (after ++ c ∷ block))
-    (sum-joined before (block ++ after)
-    ∙ ap
-    (bitXor (sumOf before))
+    (same-after
+    before
+    (block ++ after)
+    (after ++ c ∷ block)
     (sum-joined block after
     ∙ xor-comm (sumOf block) (sumOf after)
-    ∙ sym (sum-around after c block ∙ ap (λ (share : ℕ). bitXor (sumOf after) (bitXor share (sumOf block))) (share-left c (rw check))))
-    ∙ sym (sum-joined before (after ++ c ∷ block)))
+    ∙ sym (sum-around after c block ∙ ap (λ (share : ℕ). bitXor (sumOf after) (bitXor share (sumOf block))) (share-left c (rw check)))))

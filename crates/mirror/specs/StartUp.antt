@@ -1,6 +1,6 @@
 -- A start-up as two lists: what the host sent after a reset, and what reached the decoder (document 02, item 10).
 use Prim.Native.Nat.{ℕ, zero, suc}
-use mathlib.Core.Bool.{Bool, false, not}
+use mathlib.Core.Bool.{Bool, false, not, _||_}
 use mathlib.Core.List.{List, [], _++_}
 use mathlib.Core.Path.{_≡_}
 use lib.Bits.{bitXor}
@@ -9,7 +9,7 @@ use Rattle.laws.specs.Choice.{bitOf}
 use Rattle.laws.specs.Lists.{all, sumBy}
 use Rattle.packet.specs.Rule.{maySend}
 use Rattle.mirror.specs.declared.Mirror.{Mirror}
-use Rattle.mirror.specs.Handshake.{isChecksum, talks, stepOf, runOf, resetBy, closingOf}
+use Rattle.mirror.specs.Handshake.{isChecksum, isSpecial, talks, stepOf, runOf, resetBy, closingOf}
 
 -- how often a packet stands in a list
 abbrev pub times : ℕ → List ℕ → ℕ
@@ -19,9 +19,13 @@ times n ns = sumBy (λ k. bitOf (eqb n k)) ns
 abbrev pub Reordered : List ℕ → List ℕ → Type 0
 Reordered ns ks = (n : ℕ) → times n ns ≡ times n ks
 
--- the effect of a list on the register: the bits that differ after it
+-- "their separate effects": the bits of the register that differ after a list
 abbrev pub effectOf : Mirror → List ℕ → ℕ
 effectOf m ns = bitXor (m .register) ((runOf m ns) .register)
+
+-- "both IDs are summed ones": a packet whose data bits go into the register, so no checksum and none of 1CH to 1FH
+abbrev pub isSummed : ℕ → Bool
+isSummed n = not (isChecksum n || isSpecial n)
 
 -- "lists that hold no checksum packet"
 abbrev pub noChecksum : List ℕ → Bool
@@ -31,7 +35,7 @@ noChecksum ns = all (λ n. not (isChecksum n)) ns
 abbrev pub allSendable : List ℕ → Bool
 allSendable ns = all maySend ns
 
--- "from one reset", after a list
+-- "from one reset": the mirror after a list of packets
 abbrev pub fromReset : ℕ → List ℕ → Mirror
 fromReset partID ns = runOf ((resetBy partID) .mirror) ns
 
@@ -43,7 +47,7 @@ checksumFor partID sent = (closingOf (fromReset partID sent)) .packet .bits
 abbrev pub starts : ℕ → List ℕ → List ℕ → Bool
 starts partID sent reached = talks (stepOf (fromReset partID reached) (checksumFor partID sent))
 
--- a block that is sent so many times, one after the other
+-- "to resend one block": the block so many times, one after the other
 unfoldable pub repeated : ℕ → List ℕ → List ℕ
 repeated zero block = []
 repeated (suc k) block = block ++ repeated k block
