@@ -2,15 +2,16 @@
 //! case that the events must bring.
 
 use crate::exchange::{self, Request};
+use crate::tally::Tally;
 
 /// What is counted of the events that were compared.
 pub trait Counts<R> {
     fn add(&mut self, event: &R);
 
-    fn tell(&self);
+    /// The answers, in the order in which they are told.
+    fn tallies(&self) -> Vec<&Tally>;
 
-    /// The cases that came too seldom.
-    fn too_few(&self) -> Vec<String>;
+    fn cases(&self) -> &Cases;
 }
 
 /// Says the counts of each export, and it is a fault of the events if they bring too
@@ -21,8 +22,10 @@ pub fn compare<R: Request>(
     counts: &mut impl Counts<R>,
 ) -> Result<usize, String> {
     let compared = exchange::compare_and_show(exchange, events, |event, _| counts.add(event))?;
-    counts.tell();
-    match counts.too_few() {
+    for tally in counts.tallies() {
+        println!("{tally}");
+    }
+    match counts.cases().too_few(1) {
         too_few if too_few.is_empty() => Ok(compared),
         too_few => Err(format!("too few compared: {}", too_few.join(", "))),
     }

@@ -90,14 +90,12 @@ impl Counts<Event> for Judged {
         }
     }
 
-    fn tell(&self) {
-        for tally in [&self.texts, &self.copies, &self.others, &self.drops] {
-            println!("{tally}");
-        }
+    fn tallies(&self) -> Vec<&Tally> {
+        vec![&self.texts, &self.copies, &self.others, &self.drops]
     }
 
-    fn too_few(&self) -> Vec<String> {
-        self.cases.too_few(1)
+    fn cases(&self) -> &Cases {
+        &self.cases
     }
 }
 

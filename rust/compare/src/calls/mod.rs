@@ -74,20 +74,18 @@ impl Counts<Event> for Tallies {
         tally.add(told.number(), word);
     }
 
-    fn tell(&self) {
-        for tally in [
+    fn tallies(&self) -> Vec<&Tally> {
+        vec![
             &self.fresh,
             &self.addresses,
             &self.heard,
             &self.ends,
             &self.places,
-        ] {
-            println!("{tally}");
-        }
+        ]
     }
 
-    fn too_few(&self) -> Vec<String> {
-        self.cases.too_few(1)
+    fn cases(&self) -> &Cases {
+        &self.cases
     }
 }
 

@@ -68,14 +68,12 @@ impl Counts<Event> for Tallies {
         }
     }
 
-    fn tell(&self) {
-        for tally in [&self.fresh, &self.steps, &self.drops] {
-            println!("{tally}");
-        }
+    fn tallies(&self) -> Vec<&Tally> {
+        vec![&self.fresh, &self.steps, &self.drops]
     }
 
-    fn too_few(&self) -> Vec<String> {
-        self.cases.too_few(1)
+    fn cases(&self) -> &Cases {
+        &self.cases
     }
 }
 

@@ -71,14 +71,12 @@ impl Counts<Event> for Judged {
         }
     }
 
-    fn tell(&self) {
-        for tally in &self.tallies {
-            println!("{tally}");
-        }
+    fn tallies(&self) -> Vec<&Tally> {
+        self.tallies.iter().collect()
     }
 
-    fn too_few(&self) -> Vec<String> {
-        self.cases.too_few(1)
+    fn cases(&self) -> &Cases {
+        &self.cases
     }
 }
 
