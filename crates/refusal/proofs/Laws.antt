@@ -15,15 +15,16 @@ use Rattle.refusal.specs.declared.Refusal.{Refusal}
 use Rattle.refusal.specs.declared.Refusal.the-variants.{Room, State, Text, «Type», Range, Offset, Packet}
 use Rattle.refusal.specs.declared.Refusal.the-variants.{Address, Size, Damaged, Checksum, Full, NoChain}
 use Rattle.refusal.specs.declared.Refusal.the-variants.{OutOfTurn, TooLong, Signature, NoCall, Character}
-use Rattle.refusal.specs.declared.Refusal.the-variants.{DigitBeforeLetter, LeadingFour, DigitAfterLetter}
+use Rattle.refusal.specs.declared.Refusal.the-variants.{DigitBeforeLetter, LeadingFour, DigitAfterLetter, BeyondRepair, NoSync}
 use Rattle.refusal.specs.Told.{numberOf, numberUnless, Told, told, refused, refusedAt, given, ask, numberTold, writtenBy}
 
--- the refusal of a number
+-- the refusal of a number; in the places of 0 and of 22 to 24, which no refusal has, stands Room
 abbrev ofNumber : ℕ → Refusal
 ofNumber n =
     getD
     (Room ∷ Room ∷ State ∷ Text ∷ «Type» ∷ Range ∷ Offset ∷ Packet ∷ Address ∷ Size ∷ Damaged ∷ Checksum ∷ Full
-    ∷ NoChain ∷ OutOfTurn ∷ TooLong ∷ Signature ∷ NoCall ∷ Character ∷ DigitBeforeLetter ∷ LeadingFour ∷ DigitAfterLetter ∷ [])
+    ∷ NoChain ∷ OutOfTurn ∷ TooLong ∷ Signature ∷ NoCall ∷ Character ∷ DigitBeforeLetter ∷ LeadingFour ∷ DigitAfterLetter
+    ∷ Room ∷ Room ∷ Room ∷ BeyondRepair ∷ NoSync ∷ [])
     n
     Room
 
@@ -49,6 +50,8 @@ ofNumber-back Character = refl
 ofNumber-back DigitBeforeLetter = refl
 ofNumber-back LeadingFour = refl
 ofNumber-back DigitAfterLetter = refl
+ofNumber-back BeyondRepair = refl
+ofNumber-back NoSync = refl
 
 -- two refusals of one number are the same
 pub number-tells : (a b : Refusal) → numberOf a ≡ numberOf b → a ≡ b
@@ -77,6 +80,8 @@ number-positive Character = omega arith
 number-positive DigitBeforeLetter = omega arith
 number-positive LeadingFour = omega arith
 number-positive DigitAfterLetter = omega arith
+number-positive BeyondRepair = omega arith
+number-positive NoSync = omega arith
 
 -- the values of an answer
 abbrev pub toldValues : Told → List ℕ

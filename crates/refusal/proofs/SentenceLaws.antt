@@ -20,7 +20,7 @@ use Rattle.refusal.specs.declared.Refusal.{Refusal}
 use Rattle.refusal.specs.declared.Refusal.the-variants.{Room, State, Text, «Type», Range, Offset, Packet}
 use Rattle.refusal.specs.declared.Refusal.the-variants.{Address, Size, Damaged, Checksum, Full, NoChain}
 use Rattle.refusal.specs.declared.Refusal.the-variants.{OutOfTurn, TooLong, Signature, NoCall, Character}
-use Rattle.refusal.specs.declared.Refusal.the-variants.{DigitBeforeLetter, LeadingFour, DigitAfterLetter}
+use Rattle.refusal.specs.declared.Refusal.the-variants.{DigitBeforeLetter, LeadingFour, DigitAfterLetter, BeyondRepair, NoSync}
 use Rattle.refusal.specs.Told.{numberOf}
 use Rattle.refusal.specs.Sentences.{sentences, sentenceAt, inPlaces, isFeed, lineEnd, firstLine, afterLine, linesFrom, joined}
 
@@ -191,3 +191,5 @@ refusal-said Character = refl
 refusal-said DigitBeforeLetter = refl
 refusal-said LeadingFour = refl
 refusal-said DigitAfterLetter = refl
+refusal-said BeyondRepair = refl
+refusal-said NoSync = refl

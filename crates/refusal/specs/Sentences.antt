@@ -33,7 +33,10 @@ sentences =
     ∷ bytesOf "a digit that cannot stand here: A to L take one digit or none, U to Z 000 to 127 and one more"
     ∷ bytesOf "a 4 at the start: no digit means 4, so leave it out"
     ∷ bytesOf "the text stops too soon, or has a digit too many after the letter"
-    ∷ [] ∷ [] ∷ [] ∷ [] ∷ [] ∷ [] ∷ [] ∷ [] ∷ [] ∷ [] ∷ [] ∷ [] ∷ [] ∷ [] ∷ [] ∷ [] ∷ [] ∷ []
+    ∷ [] ∷ [] ∷ []
+    ∷ bytesOf "beyond repair: more bits are wrong than can be mended"
+    ∷ bytesOf "no sync word stood where one had to"
+    ∷ [] ∷ [] ∷ [] ∷ [] ∷ [] ∷ [] ∷ [] ∷ [] ∷ [] ∷ [] ∷ [] ∷ [] ∷ []
     ∷ bytesOf "the line is empty"
     ∷ bytesOf "the text ends before its letter"
     ∷ bytesOf "too few digits: an address up to 2031614 has seven, its zeros written"

@@ -10,10 +10,10 @@ use Rattle.refusal.specs.declared.Refusal.{Refusal}
 use Rattle.refusal.specs.declared.Refusal.the-variants.{Room, State, Text, «Type», Range, Offset, Packet}
 use Rattle.refusal.specs.declared.Refusal.the-variants.{Address, Size, Damaged, Checksum, Full, NoChain}
 use Rattle.refusal.specs.declared.Refusal.the-variants.{OutOfTurn, TooLong, Signature, NoCall, Character}
-use Rattle.refusal.specs.declared.Refusal.the-variants.{DigitBeforeLetter, LeadingFour, DigitAfterLetter}
+use Rattle.refusal.specs.declared.Refusal.the-variants.{DigitBeforeLetter, LeadingFour, DigitAfterLetter, BeyondRepair, NoSync}
 
 -- 01, "The eighteen answers of no": the column No; 02, item 1: "20 for a 4 at place 0, 19 for any other digit before the letter, 21 for a digit after
--- the letter"
+-- the letter"; 02, item 5: "25 beyond repair, 26 not after a sync word"
 abbrev pub numberOf : Refusal → ℕ
 numberOf Room = 1
 numberOf State = 2
@@ -36,6 +36,8 @@ numberOf Character = 18
 numberOf DigitBeforeLetter = 19
 numberOf LeadingFour = 20
 numberOf DigitAfterLetter = 21
+numberOf BeyondRepair = 25
+numberOf NoSync = 26
 
 -- an answer as 01 tells it: the number of its refusal, or 0 where nothing is refused, and its values
 pub data Told : Type 0 where
@@ -67,12 +69,13 @@ abbrev pub kept : Bool → ℕ → ℕ
 kept good n = pick good n 0
 
 -- 01, "Order": the order in which the questions are asked, with the refusals that share a place. The first Room is the one for the chains' bytes, the
--- last the one for every other buffer. 02, item 1: "19, 20 and 21 share 3's place in the order"
+-- last the one for every other buffer. 02, item 1: "19, 20 and 21 share 3's place in the order"; 02, item 5: "Refusals: 25 beyond repair, 26 not after
+-- a sync word, following 10"
 unfoldable pub order : List (List Refusal)
 order =
     (Room ∷ []) ∷ (State ∷ []) ∷ (Text ∷ DigitBeforeLetter ∷ LeadingFour ∷ DigitAfterLetter ∷ []) ∷ («Type» ∷ []) ∷ (Range ∷ []) ∷ (Offset ∷ [])
-    ∷ (Packet ∷ []) ∷ (Address ∷ []) ∷ (Size ∷ []) ∷ (Damaged ∷ []) ∷ (Checksum ∷ []) ∷ (NoChain ∷ []) ∷ (OutOfTurn ∷ []) ∷ (TooLong ∷ [])
-    ∷ (Character ∷ []) ∷ (Signature ∷ []) ∷ (Full ∷ []) ∷ (NoCall ∷ []) ∷ (Room ∷ []) ∷ []
+    ∷ (Packet ∷ []) ∷ (Address ∷ []) ∷ (Size ∷ []) ∷ (Damaged ∷ []) ∷ (BeyondRepair ∷ []) ∷ (NoSync ∷ []) ∷ (Checksum ∷ []) ∷ (NoChain ∷ [])
+    ∷ (OutOfTurn ∷ []) ∷ (TooLong ∷ []) ∷ (Character ∷ []) ∷ (Signature ∷ []) ∷ (Full ∷ []) ∷ (NoCall ∷ []) ∷ (Room ∷ []) ∷ []
 
 -- the number that is told
 abbrev pub numberTold : Told → ℕ

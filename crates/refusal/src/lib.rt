@@ -1,5 +1,5 @@
 // The answers of no: 1 to 18 (document 01, "The eighteen answers of no"), each under the paper's word and with the paper's
-// number, and 19 to 21, into which 02, item 1 splits 3.
+// number, 19 to 21, into which 02, item 1 splits 3, and 25 and 26, which 02, item 5 adds for POCSAG pages.
 ghost use mathlib.Core.Path.{_≡_};
 ghost use Rattle.refusal.specs.Told.{numberOf, numberUnless, kept};
 
@@ -88,10 +88,14 @@ pub enum Refusal {
     LeadingFour,
     // A CAPCODE text that goes wrong at a digit after its letter, or stops too soon.
     DigitAfterLetter,
+    // A POCSAG word with more wrong bits than can be mended; a page with such a word in it.
+    BeyondRepair,
+    // A POCSAG word that does not follow a sync word; a page whose end was not heard.
+    NoSync,
 }
 
 impl Refusal {
-    // The number of a refusal: 1 to 18 are 01's, 19 to 21 are 02's.
+    // The number of a refusal: 1 to 18 are 01's, those from 19 on are 02's.
     pub fn number(self) -> u32
         ensures { λ r. ⌜ r ≡ numberOf self ⌝ }
     {
@@ -117,6 +121,8 @@ impl Refusal {
             Refusal::DigitBeforeLetter => 19,
             Refusal::LeadingFour => 20,
             Refusal::DigitAfterLetter => 21,
+            Refusal::BeyondRepair => 25,
+            Refusal::NoSync => 26,
         }
     }
 

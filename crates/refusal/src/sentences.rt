@@ -9,7 +9,7 @@ use crate::Sentence;
 
 // The table. Line n is that of refusal n up to 39, and a refusal that has no sentence has an empty line. The lines from 40 on
 // have their names as constants of `Sentence`.
-const TABLE: [u8; 1481] = *b"\
+const TABLE: [u8; 1569] = *b"\
 \n\
 the lent memory is too short\n\
 the state that was handed back is outside its limits\n\
@@ -35,8 +35,8 @@ the text stops too soon, or has a digit too many after the letter\n\
 \n\
 \n\
 \n\
-\n\
-\n\
+beyond repair: more bits are wrong than can be mended\n\
+no sync word stood where one had to\n\
 \n\
 \n\
 \n\

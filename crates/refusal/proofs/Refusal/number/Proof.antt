@@ -68,6 +68,12 @@ enum-told-20 c = search needs
 enum-told-21 : tie.Need-enum-told-21
 enum-told-21 c = search needs
 
+enum-told-22 : tie.Need-enum-told-22
+enum-told-22 c = search needs
+
+enum-told-23 : tie.Need-enum-told-23
+enum-told-23 c = search needs
+
 returns : tie.Need-returns
 returns c = sym (ap numberOf (c .enum-told .given .1))
 
@@ -131,6 +137,12 @@ returns-20 c = sym (ap numberOf (c .enum-told20 .given .1))
 returns-21 : tie.Need-returns-21
 returns-21 c = sym (ap numberOf (c .enum-told21 .given .1))
 
+returns-22 : tie.Need-returns-22
+returns-22 c = sym (ap numberOf (c .enum-told22 .given .1))
+
+returns-23 : tie.Need-returns-23
+returns-23 c = sym (ap numberOf (c .enum-told23 .given .1))
+
 pub number-spec : {M : Type 1} → statement M
 number-spec =
     tie.close
@@ -156,6 +168,8 @@ number-spec =
     enum-told-19
     enum-told-20
     enum-told-21
+    enum-told-22
+    enum-told-23
     returns
     returns-2
     returns-3
@@ -176,4 +190,6 @@ number-spec =
     returns-18
     returns-19
     returns-20
-    returns-21)
+    returns-21
+    returns-22
+    returns-23)
