@@ -1,12 +1,13 @@
--- A number as its lowest bit and the rest.
-use Prim.Native.Nat.{ℕ, suc, _+_, _*_, _/_, _%_, _^_, _≤_, max}
+-- A number as its lowest bit and the rest, and how many of its bits are set.
+use Prim.Native.Nat.{ℕ, zero, suc, _+_, _*_, _/_, _%_, _^_, _≤_, _<_, max}
 use mathlib.Core.Bool.{Bool, true, false, _||_}
-use mathlib.Core.Path.{_≡_, refl, _∙_}
-use native.Mathlib.Nat.{pow-succ', div-div-eq-div-mul}
+use mathlib.Core.Path.{_≡_, refl, sym, ap, _∙_}
+use native.Mathlib.Nat.{pow-succ', div-div-eq-div-mul, one-mul}
 use native.Mathlib.Omega.{arith}
 use mir.Val.{boolByte}
-use lib.Bits.{bitOr, or-step}
-use lib.Count.{ones, ones-step}
+use lib.Arith.{bin-ind, lt-one}
+use lib.Bits.{bitOr, bitXor, or-step, xor-add-and, xor-shifted, xor-shr, xor-mod}
+use lib.Count.{ones, onesIn, ones-step, ones-cat}
 use Rattle.laws.specs.Choice.{bitOf}
 
 -- a bit and the rest, apart again
@@ -54,3 +55,27 @@ or-of a b m n =
     or-step (bitOf a + 2 * m) (bitOf b + 2 * n)
     ∙ rw (lowest a, lowest b, without-lowest a, without-lowest b, larger-bit)
     (omega arith)
+
+-- ---- how many bits are set
+
+-- a number of so many bits has its ones among them; the ones of a number that is written out are computed so
+pub ones-within : (k n : ℕ) → n < 2 ^ k → ones n ≡ onesIn k n
+unfolding ones onesIn
+ones-within zero n below = rw (lt-one below)
+ones-within (suc k) n below =
+    let half : n / 2 < 2 ^ k = let double : 2 ^ suc k ≡ 2 * 2 ^ k = pow-succ' 2 k in omega (arith, below, double) in
+    ones-step n ∙ ap (λ (rest : ℕ). n % 2 + rest) (ones-within k (n / 2) half)
+
+-- the ones of a xor are odd in number exactly if those of both numbers together are
+pub ones-xor : (a b : ℕ) → ones (bitXor a b) % 2 ≡ (ones a + ones b) % 2
+unfolding ones
+ones-xor =
+    bin-ind (λ (n : ℕ). (b : ℕ) → ones (bitXor n b) % 2 ≡ (ones n + ones b) % 2) (λ b. omega arith)
+    (λ n rest b. rw (ones-step (bitXor n b), ones-step n, ones-step b, xor-shr n b 1, xor-mod n b 1)
+    (omega (arith, rest (b / 2), xor-add-and (n % 2) (b % 2))))
+
+-- a bit above all others is one more
+pub ones-above : (k n : ℕ) → n < 2 ^ k → ones (bitXor (2 ^ k) n) ≡ suc (ones n)
+unfolding ones
+ones-above k n below =
+    ap (λ (power : ℕ). ones (bitXor power n)) (sym (one-mul (2 ^ k))) ∙ ap ones (xor-shifted 1 k n below) ∙ ones-cat k 1 n below ∙ omega arith

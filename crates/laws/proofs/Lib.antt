@@ -1,5 +1,6 @@
 pub mod Bits
 pub mod Counting
+pub mod Endings
 pub mod LayoutExamples
 pub mod Layouts
 pub mod Lists

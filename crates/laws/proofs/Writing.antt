@@ -1,14 +1,16 @@
 -- Texts put into a buffer one after the other, from the front or from the back, and the first part of what is joined.
-use Prim.Native.Nat.{ℕ, zero, suc, _+_, _-_, _≤_, _<_}
+use Prim.Native.Nat.{ℕ, zero, suc, _+_, _-_, _/_, _%_, _^_, _≤_, _<_}
 use mathlib.Core.Path.{_≡_, refl, sym, ap, _∙_}
-use mathlib.Core.List.{List, [], _∷_, _++_, append-assoc, append-nil}
+use mathlib.Core.List.{List, [], _∷_, _++_, map, append-assoc, append-nil}
 use native.Mathlib.Nat.{add-zero, add-assoc, zero-add}
 use native.Mathlib.Numerals.{add-one}
 use native.Mathlib.Omega.{arith}
-use lib.ListN.{length, take, drop, set, length-append, take-append-drop, length-drop}
-use lib.Seq.{length-take-le, take-all, take-add, take-at, drop-at, take-take, drop-drop, take-append-le}
+use lib.ListN.{length, getD, take, drop, set, length-append, take-append-drop, length-drop, drop-of-length-le}
+use lib.Seq.{drop-cons, length-take-le, take-all, take-add, take-at, drop-at, take-take, drop-drop, take-append-le}
 use lib.Seq.{drop-append-le, drop-append-add, set-split, append-snoc}
 use Rattle.laws.specs.Lists.{put}
+use Rattle.laws.specs.Numerals.{digits}
+use Rattle.laws.proofs.Numerals.{digits-next}
 
 module _ {ℓ} {A : Type ℓ} where
   -- an empty text changes nothing
@@ -129,3 +131,20 @@ module _ {ℓ} {A : Type ℓ} where
   -- what was put at a place stands there
   pub put-there : (buffer xs : List A) (place : ℕ) → place ≤ length buffer → take (length xs) (drop place (put buffer place xs)) ≡ xs
   put-there buffer xs place within = rw (zero-add, add-zero) at (put-grows buffer xs place 0 (omega arith))
+
+-- a rule applied to each number of a row: one is stored, and the others are still to come
+pub put-each : (rule : ℕ → ℕ) (out row : List ℕ) (i : ℕ) → i < length row → i < length out
+    → put (set out i (rule (getD row i 0))) (i + 1) (map rule (drop (i + 1) row)) ≡ put out i (map rule (drop i row))
+put-each rule out row i more fits =
+    rw (drop-cons row i 0 more, add-one i) (put-next out (map rule (drop (suc i) row)) i (rule (getD row i 0)) fits)
+
+-- at the end of the row all are stored
+pub put-all : (rule : ℕ → ℕ) (out row : List ℕ) (i : ℕ) → length row ≤ i → out ≡ put out i (map rule (drop i row))
+put-all rule out row i end = rw (drop-of-length-le row end) (sym (put-nothing out i))
+
+-- digits of a number spelled, so many, each by a rule: one is stored, and the others are still to come
+pub spelled-turn : (base : ℕ) (rule : ℕ → ℕ) (out : List ℕ) (room i x : ℕ) → i < room → room ≤ length out
+    → put (set out i (rule (x / base ^ i % base))) (i + 1) (map rule (digits base (room - (i + 1)) (x / base ^ (i + 1))))
+    ≡ put out i (map rule (digits base (room - i) (x / base ^ i)))
+spelled-turn base rule out room i x more fits =
+    rw (digits-next base room x i more, add-one i) (put-next out _ i (rule (x / base ^ i % base)) (omega arith))

@@ -43,6 +43,10 @@ xor-back a b = sym (xor-assoc a a b) ∙ rw (xor-self a)
 pub xor-swap : (a b c : ℕ) → bitXor a (bitXor b c) ≡ bitXor b (bitXor a c)
 xor-swap a b c = sym (xor-assoc a b c) ∙ ap (λ (x : ℕ). bitXor x c) (xor-comm a b) ∙ xor-assoc b a c
 
+-- of three numbers the last two may change places
+pub xor-last : (a b c : ℕ) → bitXor (bitXor a b) c ≡ bitXor (bitXor a c) b
+xor-last a b c = xor-assoc a b c ∙ ap (bitXor a) (xor-comm b c) ∙ sym (xor-assoc a c b)
+
 -- what is put in twice is out again, with another number between
 pub xor-across : (a b c : ℕ) → bitXor a (bitXor b (bitXor a c)) ≡ bitXor b c
 xor-across a b c = xor-swap a b (bitXor a c) ∙ ap (bitXor b) (xor-back a c)

@@ -1,4 +1,4 @@
--- Rows: what lent memory holds after a write, a search, a test of all, a sum.
+-- Rows: what lent memory holds after a write, a search, a test of all, those at the end, a sum.
 use Prim.Native.Nat.{ℕ, zero, suc, _+_}
 use mathlib.Core.Bool.{Bool, true, false, _&&_, _||_}
 use mathlib.Core.List.{List, [], _∷_, _++_}
@@ -34,6 +34,15 @@ anyOf test (x ∷ row) = test x || anyOf test row
 unfoldable pub those {ℓ} : {A : Type ℓ} → (A → Bool) → List A → List A
 those test [] = []
 those test (x ∷ row) = pick (test x) (x ∷ those test row) (those test row)
+
+-- how many numbers at the end of a row pass a test, where so many stood before it
+unfoldable pub lastAfter : (ℕ → Bool) → ℕ → List ℕ → ℕ
+lastAfter test before [] = before
+lastAfter test before (x ∷ row) = lastAfter test (pick (test x) (suc before) 0) row
+
+-- how many numbers at the end of a row pass a test: each that does not begins the count again
+abbrev pub lastThat : (ℕ → Bool) → List ℕ → ℕ
+lastThat test row = lastAfter test 0 row
 
 -- the numbers from a first one on, so many of them
 unfoldable pub upFrom : ℕ → ℕ → List ℕ

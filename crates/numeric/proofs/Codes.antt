@@ -38,6 +38,12 @@ digit-character chinese code small =
     (of-all-below (λ n. eqb (48 + n) (getD (setWith chinese) n 0)) 10
     (of-either (λ set. T (allBelow (λ n. eqb (48 + n) (getD set n 0)) 10)) tt tt chinese) code small)
 
+-- a code over 15 is of no character
+pub no-character : (chinese : Bool) (code : ℕ) → 15 < code → 0 ≡ getD (setWith chinese) code 0
+no-character chinese code large =
+    let past : length (setWith chinese) ≤ code = omega (arith, sixteen-of chinese) in
+    sym (List·getD-eq-default (setWith chinese) 0 past)
+
 -- the code of a digit is its byte less that of 0
 pub digit-code : (chinese : Bool) (n : ℕ) → 48 ≤ n → n < 58 → n - 48 ≡ placeIn (setWith chinese) n
 unfolding standardSet chineseSet placeIn

@@ -6,13 +6,13 @@ use mathlib.Core.List.{List, [], _∷_, map}
 use mathlib.Core.Path.{_≡_, refl, ap}
 use native.Mathlib.Omega.{arith}
 use lib.ListN.{take, replicate}
-use Rattle.laws.specs.Lists.{placeIn, all, sumBy}
+use Rattle.laws.specs.Lists.{placeIn, all, lastAfter, sumBy}
 use Rattle.laws.specs.Numerals.{number, digits}
 use Rattle.laws.specs.Texts.{bytesOf}
 use Rattle.refusal.specs.declared.Refusal.the-variants as refusals
 use Rattle.refusal.specs.Told.{Told, refused, given, numberTold}
 use Rattle.numeric.specs.declared.Numbering.{Numbering}
-use Rattle.numeric.specs.Pages.{Set, standardSet, chineseSet, roomOf, spacesAfter, spacesAtEnd, filled, wordsWith, checkOf, pageOf, textIn, inSet}
+use Rattle.numeric.specs.Pages.{Set, standardSet, chineseSet, roomOf, spacesAtEnd, filled, wordsWith, checkOf, pageOf, textIn, inSet}
 use Rattle.numeric.specs.Answers.{writtenOf, wordsAfter, writtenChosen, readOf, textAfter, readChosen, textChosen}
 use Rattle.numeric.proofs.Choices.{own-characters}
 use Rattle.numeric.proofs.Spaces.{shown}
@@ -64,13 +64,13 @@ standard-words = refl
 
 -- what is read of that word
 pub standard-read : readOf standardSet 4 3 6 (0x01C503 ∷ []) ≡ given (0 ∷ 0 ∷ 0 ∷ 4 ∷ 0 ∷ [])
-unfolding standardSet readOf textIn number digits spacesAfter sumBy all
+unfolding standardSet readOf textIn number digits lastAfter sumBy all
 standard-read = refl
 
 -- what is read of the word with all bits after the characters set: the groups 00H, C5H and 1DH make 226; 3 and 34
 -- make 37; K is 26, 10 in the vector and 1 in the word
 pub left-over-example : readOf standardSet 4 3 10 (0x1DC501 ∷ []) ≡ given (0 ∷ 0 ∷ 0 ∷ 4 ∷ 0 ∷ [])
-unfolding standardSet readOf textIn number digits spacesAfter sumBy all
+unfolding standardSet readOf textIn number digits lastAfter sumBy all
 left-over-example = refl
 
 -- the text of that word is the same
@@ -92,7 +92,7 @@ numbered-words = refl
 
 -- what is read of those words: four of the eight characters are spaces at the end
 pub numbered-read : readOf standardSet 8 7 2 (0x050316 ∷ 0x19998E ∷ []) ≡ given (1 ∷ 1 ∷ 5 ∷ 8 ∷ 4 ∷ [])
-unfolding standardSet readOf textIn number digits spacesAfter sumBy all
+unfolding standardSet readOf textIn number digits lastAfter sumBy all
 numbered-read = refl
 
 -- the text of those words with its spaces
@@ -145,7 +145,7 @@ chinese-back = read-written chineseSet 1 4 3 none (bytesOf "0B17") (usable-set t
 -- "0 4" with one space inside and one after it: 12 from i6, 4 from i10 and 12 from i14; the groups 00H, 13H and 03H make 22; K is 41, 9 in the vector
 -- and 2 in the word; one space stands at the end
 pub inner-space : readOf standardSet 4 3 9 (0x031302 ∷ []) ≡ given (0 ∷ 0 ∷ 0 ∷ 4 ∷ 1 ∷ [])
-unfolding standardSet readOf textIn number digits spacesAfter sumBy all
+unfolding standardSet readOf textIn number digits lastAfter sumBy all
 inner-space = refl
 
 -- "B7" with the option on, two spaces of filling after it: 11 from i2, 7 from i6, 12 from i10 and from i14; the groups ECH, 31H and 03H make 288, of
@@ -156,22 +156,22 @@ filling-example = refl
 
 -- what is read of the word of "B7": four characters, of which two are spaces at the end
 pub filling-read : readChosen 1 4 3 15 (0x0331ED ∷ []) ≡ given (0 ∷ 0 ∷ 0 ∷ 4 ∷ 2 ∷ [])
-unfolding chineseSet readOf textIn number digits spacesAfter sumBy all
+unfolding chineseSet readOf textIn number digits lastAfter sumBy all
 filling-read = refl
 
 -- the characters before them are the text, as the law says, whose premises hold here
 pub filling-shown : take 2 (textChosen 1 3 15 (0x0331ED ∷ []) (bytesOf "....")) ≡ bytesOf "B7"
-unfolding chineseSet writtenOf pageOf checkOf wordsWith placeIn number digits spacesAfter readOf textIn sumBy inSet all
+unfolding chineseSet writtenOf pageOf checkOf wordsWith placeIn number digits lastAfter readOf textIn sumBy inSet all
 filling-shown = own-characters 1 3 none (bytesOf "B7") (0 ∷ []) (bytesOf "....") refl (omega arith) refl .1
 
 -- a page of spaces alone: the groups 30H, 33H and 03H make 102; 1 and 38 make 39; K is 24, 8 in the vector and 1 in the word; all its room is spaces
 pub only-spaces : readOf chineseSet 4 3 8 (0x033331 ∷ []) ≡ given (0 ∷ 0 ∷ 0 ∷ 4 ∷ 4 ∷ [])
-unfolding chineseSet readOf textIn number digits spacesAfter sumBy all
+unfolding chineseSet readOf textIn number digits lastAfter sumBy all
 only-spaces = refl
 
 -- spaces within a text are not counted, and those of a text of spaces alone, or of none, are all
 pub end-spaces : map spacesAtEnd (bytesOf "04 17     " ∷ bytesOf "    " ∷ bytesOf "0 1" ∷ [] ∷ []) ≡ 5 ∷ 4 ∷ 0 ∷ 0 ∷ []
-unfolding spacesAfter
+unfolding lastAfter
 end-spaces = refl
 
 -- ---- what is refused
@@ -259,7 +259,7 @@ read-examples = refl
 
 -- a space that the sender wrote at the end is counted with the filling, so that what is shown is not all that was written
 pub own-space : (spacesAtEnd (filled false (bytesOf "4 ")) ≡ 3) × (shown (filled false (bytesOf "4 ")) ≡ bytesOf "4")
-unfolding spacesAfter
+unfolding lastAfter
 own-space = (refl, refl)
 
 -- a set without the space
@@ -322,7 +322,7 @@ head-needed = refl
 
 -- S 24 is read as 0, and both characters as spaces
 pub head-misread : readOf standardSet 2 7 12 (0x033000 ∷ []) ≡ given (0 ∷ 0 ∷ 0 ∷ 2 ∷ 2 ∷ [])
-unfolding standardSet readOf textIn number digits spacesAfter sumBy all
+unfolding standardSet readOf textIn number digits lastAfter sumBy all
 head-misread = refl
 
 -- the zero after it is one of them

@@ -1,13 +1,12 @@
 -- Numeric pages (document 01, "Numeric pages"; 02, item 6; S8.7.8.2, Tables 39, 41 and 42). Every definition takes the set of characters.
-use Prim.Native.Nat.{ℕ, suc, _+_, _-_, _*_, _/_, _%_, _^_}
+use Prim.Native.Nat.{ℕ, _+_, _-_, _*_, _/_, _%_, _^_}
 use Prim.Native.Char.{code}
 use mathlib.Core.Bool.{Bool, true, false, _&&_}
 use mathlib.Core.List.{List, [], _∷_, _++_, map}
 use lib.Dec.{leb, ltb, eqb}
 use lib.ListN.{length, replicate, getD}
-use Rattle.laws.specs.Choice.{pick}
 use Rattle.laws.specs.Layouts.{Layout, field, size, fieldsOf, fit, packed}
-use Rattle.laws.specs.Lists.{placeIn, all}
+use Rattle.laws.specs.Lists.{placeIn, all, lastThat}
 use Rattle.laws.specs.Numerals.{number, digits}
 use Rattle.laws.specs.Texts.{bytesOf}
 use Rattle.packet.specs.VectorTables.{numberedType}
@@ -62,14 +61,13 @@ wordsFor numbered characters = (size (headOf numbered) + 4 * characters + (wordB
 abbrev pub spaced : ℕ → List ℕ → List ℕ
 spaced room text = text ++ replicate (room - length text) (code " ")
 
--- how many spaces stand at the end of a text, where so many stood before it
-unfoldable pub spacesAfter : ℕ → List ℕ → ℕ
-spacesAfter spaces [] = spaces
-spacesAfter spaces (c ∷ text) = spacesAfter (pick (eqb c (code " ")) (suc spaces) 0) text
+-- whether a character is a space
+abbrev pub isSpace : ℕ → Bool
+isSpace c = eqb c (code " ")
 
 -- 02, item 6: "how many spaces stand at the end": each character that is none begins the count again
 abbrev pub spacesAtEnd : List ℕ → ℕ
-spacesAtEnd text = spacesAfter 0 text
+spacesAtEnd text = lastThat isSpace text
 
 -- a text and its spaces, in as many words as the text needs
 abbrev pub filled : Bool → List ℕ → List ℕ

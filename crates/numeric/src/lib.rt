@@ -11,9 +11,10 @@ mod page;
 // A text as the message words of a page, with its K.
 mod writing;
 
-// The words of a page as text.
+// The words of a page as text, and the character of a code.
 mod reading;
 
+pub use reading::character_of;
 pub use reading::read;
 pub use writing::write;
 

@@ -20,14 +20,12 @@ use crate::PageRead;
 use packet::Vector;
 use refusal::Refusal;
 
-// The character of a code: a digit, or by the column of Table 39.
-fn character_of(chinese: bool, code: u32) -> u8
+// The character of a code after those of the digits, by the column of Table 39.
+fn after_digits(chinese: bool, code: u32) -> u8
+    requires { ⌜ 10 ≤ code ⌝ }
     requires { ⌜ code < 16 ⌝ }
     ensures { λ r. ⌜ r ≡ getD (setWith chinese) code 0 ⌝ }
 {
-    if code < 10 {
-        return b'0' + code as u8;
-    }
     if chinese {
         match code {
             10 => b'A',
@@ -47,6 +45,20 @@ fn character_of(chinese: bool, code: u32) -> u8
             _ => b' ',
         }
     }
+}
+
+// The character of a code in one of the two sets, that of the option on or off: a digit, or by the column of Table 39. A code
+// over 15 has none, and is told as 0.
+pub fn character_of(chinese: bool, code: u32) -> u8
+    ensures { λ r. ⌜ r ≡ getD (setWith chinese) code 0 ⌝ }
+{
+    if code < 10 {
+        return b'0' + code as u8;
+    }
+    if 15 < code {
+        return 0;
+    }
+    after_digits(chinese, code)
 }
 
 // 01's table, 7: whether the vector's type is that of a numeric page, and its K has four bits.

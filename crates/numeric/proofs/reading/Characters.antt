@@ -1,18 +1,16 @@
--- The characters' codes in the bits of the words, and the characters written one after the other.
+-- The characters' codes in the bits of the words.
 use Prim.Native.Nat.{ℕ, suc, _+_, _-_, _*_, _/_, _%_, _^_, _≤_, _<_}
 use mathlib.Core.Bool.{true}
 use mathlib.Core.Path.{_≡_, sym, ap, _∙_}
-use mathlib.Core.List.{List, [], map}
+use mathlib.Core.List.{List, []}
 use native.Mathlib.Nat.{add-mul-div-left, mul-assoc, mul-comm, mul-zero, add-zero, mul-add}
 use native.Mathlib.Numerals.{add-one}
 use native.Mathlib.Omega.{arith}
-use lib.ListN.{length, drop, getD, set, drop-of-length-le}
+use lib.ListN.{length, drop, getD, drop-of-length-le}
 use lib.Pow.{pow-add, pow-pos, shr-shr}
 use lib.Seq.{drop-cons}
-use Rattle.laws.specs.Lists.{put}
-use Rattle.laws.specs.Numerals.{number, digits}
-use Rattle.laws.proofs.Numerals.{digits-next, number-drop, pow-mul}
-use Rattle.laws.proofs.Writing.{put-next}
+use Rattle.laws.specs.Numerals.{number}
+use Rattle.laws.proofs.Numerals.{number-drop, pow-mul}
 use Rattle.sums.specs.Words.{undamaged}
 
 -- a word and those after it, from a bit of the word on
@@ -75,10 +73,3 @@ module _ (words : List ℕ) (at place : ℕ) (good : undamaged words ≡ true) (
 -- the bits after the head and so many characters
 pub after-characters : (n head i place : ℕ) → place ≡ head + 4 * i → n / 2 ^ place ≡ n / 2 ^ head / 16 ^ i
 after-characters n head i place e = rw (e, ← shr-shr n head (4 * i), ← pow-mul 2 4 i)
-
--- characters spelled from a number, so many, each by a rule: one is stored, and the others are still to come
-pub spelled-turn : (rule : ℕ → ℕ) (out : List ℕ) (room i x : ℕ) → i < room → room ≤ length out
-    → put (set out i (rule (x / 16 ^ i % 16))) (i + 1) (map rule (digits 16 (room - (i + 1)) (x / 16 ^ (i + 1))))
-    ≡ put out i (map rule (digits 16 (room - i) (x / 16 ^ i)))
-spelled-turn rule out room i x more fits =
-    rw (digits-next 16 room x i more, add-one i) (put-next out _ i (rule (x / 16 ^ i % 16)) (omega arith))

@@ -2,21 +2,21 @@
 use Prim.Native.Nat.{_-_}
 use mathlib.Core.Path.{refl}
 use native.Mathlib.Omega.{arith}
-use lib.Dec.{eqb}
 use lib.ListN.{getD}
-use Rattle.numeric.proofs.Spaces.{Counted, count-starts, look-back, counted-most, fewer-left, count-ends}
+use Rattle.laws.proofs.Endings.{Counted, count-starts, look-back, counted-most, fewer-left, count-ends}
+use Rattle.numeric.specs.Pages.{isSpace}
 use borrow.Author.Needs.{needs}
 use Rattle.numeric.proofs.reading.spaces_at_end.Statement.{statement}
 use Rattle.numeric.proofs.reading.spaces_at_end.Tie as tie
 
 abbrev Inv-loop : tie.InvT-loop
-Inv-loop text spaces₀ left₀ spaces left = Counted text spaces left
+Inv-loop text spaces₀ left₀ spaces left = Counted isSpace text spaces left
 
 abbrev μ-loop : tie.MeasureT-loop
 μ-loop text spaces₀ left₀ spaces left = left
 
 loop-holds : tie.Need-loop-holds Inv-loop μ-loop
-loop-holds c = count-starts (c .before .args .text .now)
+loop-holds c = count-starts isSpace (c .before .args .text .now)
 
 sub-is-space : tie.Need-sub-is-space Inv-loop μ-loop
 sub-is-space c = search needs
@@ -33,7 +33,7 @@ add-spaces c =
     let text = turn .before .before .args .text .now in
     let spaces = turn .loop .spaces in
     let left = turn .loop .left in
-    let most = counted-most text spaces left (eqb (getD text (left - 1) 0) 32) (c .before .loop-test .taken) (turn .loop .inv) in
+    let most = counted-most isSpace text spaces left (isSpace (getD text (left - 1) 0)) (c .before .loop-test .taken) (turn .loop .inv) in
     record { fits = omega (arith, most, turn .before .before .good) }
 
 sub-before-space : tie.Need-sub-before-space Inv-loop μ-loop
@@ -47,7 +47,7 @@ loop-less c =
     let turn = c .before .before .before in
     let text = turn .before .before .args .text .now in
     let left = turn .loop .left in
-    rw (c .before-space .ensures) (fewer-left left (eqb (getD text (left - 1) 0) 32) (c .before .before .loop-test .taken))
+    rw (c .before-space .ensures) (fewer-left left (isSpace (getD text (left - 1) 0)) (c .before .before .loop-test .taken))
 
 loop-again : tie.Need-loop-again Inv-loop μ-loop
 loop-again c =
@@ -55,12 +55,12 @@ loop-again c =
     let text = turn .before .before .args .text .now in
     let left = turn .loop .left in
     rw (c .before-space .ensures)
-    (look-back text (turn .loop .spaces) left (eqb (getD text (left - 1) 0) 32) refl (c .before .before .loop-test .taken) (turn .loop .inv))
+    (look-back isSpace text (turn .loop .spaces) left (isSpace (getD text (left - 1) 0)) refl (c .before .before .loop-test .taken) (turn .loop .inv))
 
 returns : tie.Need-returns Inv-loop μ-loop
 returns c =
     let turn = c .before in
-    count-ends (turn .before .before .args .text .now) (turn .loop .spaces) (turn .loop .left) (c .loop-test .left) (turn .loop .inv)
+    count-ends isSpace (turn .before .before .args .text .now) (turn .loop .spaces) (turn .loop .left) (c .loop-test .left) (turn .loop .inv)
 
 pub spaces-at-end-spec : {M : Type 1} → statement M
 spaces-at-end-spec =

@@ -9,10 +9,10 @@ use lib.ListN.{length, getD, length-set}
 use Rattle.laws.specs.Layouts.{size}
 use Rattle.laws.specs.Lists.{put}
 use Rattle.laws.specs.Numerals.{number, digits}
-use Rattle.laws.proofs.Writing.{put-nothing}
+use Rattle.laws.proofs.Writing.{put-nothing, spelled-turn}
 use Rattle.numeric.specs.Pages.{setWith, headOf, textIn}
 use Rattle.numeric.proofs.Heads.{head-small}
-use Rattle.numeric.proofs.reading.Characters.{after-characters, spelled-turn}
+use Rattle.numeric.proofs.reading.Characters.{after-characters}
 use borrow.Author.Needs.{needs}
 use Rattle.numeric.proofs.reading.write_characters.Statement.{statement}
 use Rattle.numeric.proofs.reading.write_characters.Tie as tie
@@ -76,7 +76,7 @@ loop-again c =
       omega (arith, next .1, l .inv .2),
       simp length-set (l .inv .3),
       rw code
-          (spelled-turn (λ n. getD (setWith (args .chinese)) n 0) (l .text) (args .room) (l .i) (row / 2 ^ head) (omega arith) (omega (arith, l .inv .3, lent)))
+          (spelled-turn 16 (λ n. getD (setWith (args .chinese)) n 0) (l .text) (args .room) (l .i) (row / 2 ^ head) (omega arith) (omega (arith, l .inv .3, lent)))
           ∙ l .inv .4,
     )
 
