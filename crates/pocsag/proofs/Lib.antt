@@ -1,0 +1,15 @@
+pub mod Arrival
+pub mod CodeExamples
+pub mod CodeLaws
+pub mod Division
+pub mod Entries
+pub mod Portions
+pub mod Readable
+pub mod Rows
+pub mod Sending
+pub mod SendingExamples
+pub mod SentWords
+pub mod Spelling
+pub mod TextLaws
+pub mod Truth
+pub mod Turning

@@ -1,0 +1,9 @@
+pub mod Codewords
+pub mod Mending
+pub mod MendingPieces
+pub mod Batches
+pub mod Hearing
+pub mod Texts
+pub mod Sender
+pub mod Runs
+pub mod Received
