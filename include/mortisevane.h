@@ -83,6 +83,10 @@ enum mortisevane_refused_numbers {
     MORTISEVANE_REFUSED_LEADING_FOUR = 20,
     /* A CAPCODE text that goes wrong at a digit after its letter, or stops too soon. */
     MORTISEVANE_REFUSED_DIGIT_AFTER_LETTER = 21,
+    /* A POCSAG word with more wrong bits than can be mended; a page with such a word in it. */
+    MORTISEVANE_REFUSED_BEYOND_REPAIR = 25,
+    /* A POCSAG word that does not follow a sync word; a page whose end was not heard. */
+    MORTISEVANE_REFUSED_NO_SYNC = 26,
 };
 
 /* The classes of addresses. */
@@ -177,6 +181,26 @@ enum mortisevane_set_numbers {
      * `[`.
      */
     MORTISEVANE_SET_CHINESE = 1,
+};
+
+/* The two words of POCSAG that are no page's. */
+enum mortisevane_pocsag_numbers {
+    /* 02, item 5: "sync word 7CD215D8": it stands before each batch. */
+    MORTISEVANE_POCSAG_SYNC = 2094142936,
+    /*
+     * 02, item 5: "idle word 7A89C197": it stands where there is nothing to send, and ends a page.
+     */
+    MORTISEVANE_POCSAG_IDLE = 2055848343,
+};
+
+/* How the text of a POCSAG page is read. Nothing in a page says how its sender wrote it. */
+enum mortisevane_pocsag_text_numbers {
+    /* Four bits a character, the set of Table 39 with the option off. */
+    MORTISEVANE_POCSAG_TEXT_NUMERIC = 0,
+    /* Four bits a character, the set of Table 39 with the option on. */
+    MORTISEVANE_POCSAG_TEXT_NUMERIC_CHINESE = 1,
+    /* Seven bits a character. */
+    MORTISEVANE_POCSAG_TEXT_SEVEN_BIT = 2,
 };
 
 /* Limits, and how much memory is to be lent. */
@@ -1311,6 +1335,121 @@ struct mortisevane_frame_end mortisevane_call_end(struct mortisevane_calls calls
 size_t mortisevane_call_place(struct mortisevane_call call);
 
 /*
+ * POCSAG pages, as C and Rust link them. Every function takes any input, and its contract is that
+ * of the function it calls. Words come as they were received, 32 bits with the first that was sent
+ * the highest. The reader goes in and comes back by value; zeros are a fresh start, and whatever is
+ * handed back has a meaning. The message words of a page lie at the start of the lent memory,
+ * twenty bits each with the first that was sent the lowest, until the next message word.
+ */
+
+/*
+ * Where the reading stands. Zeros are a fresh start, and whatever is handed back has a meaning.
+ * `left` is how many words of the batch are still to come, 1 to 16; where it is 0, or larger, a
+ * sync word must come next. `is_open` is not 0 while a page is open. Then there are: its address
+ * and function; how many of its message words have come whole, which stand at the start of the lent
+ * memory; how many bits were mended in its words; and its fault: 0 for none, 15 where it became
+ * longer than the lent memory, and any other number, which is 25, where a word of it was beyond
+ * repair.
+ */
+struct mortisevane_pocsag_reader {
+    uint32_t left;
+    uint32_t is_open;
+    uint32_t address;
+    uint32_t function;
+    mortisevane_size words;
+    uint32_t mended;
+    uint32_t fault;
+};
+
+/*
+ * A page that has ended, where `is_ended` is 1: its number, address and function, how many of its
+ * message words came whole, and how many bits were mended. With the number 0 it is handed out.
+ * Otherwise it went wrong at the word after those: 25 where that word was beyond repair, 26 where
+ * the sync was lost there, or the words ended, before the end of the page was heard, 15 where there
+ * was no room for it.
+ */
+struct mortisevane_pocsag_page {
+    uint32_t is_ended;
+    uint32_t number;
+    uint32_t address;
+    uint32_t function;
+    mortisevane_size words;
+    uint32_t mended;
+};
+
+/*
+ * What a row of words did, up to the first that has something to tell: its number, how many words
+ * were taken, the page that ended at it, and where the reading stands.
+ */
+struct mortisevane_pocsag_heard {
+    uint32_t number;
+    mortisevane_size taken;
+    struct mortisevane_pocsag_page page;
+    struct mortisevane_pocsag_reader reader;
+};
+
+/*
+ * A text read: how many characters it has, and how many of them at the end are fill. Both are 0
+ * after a refusal.
+ */
+struct mortisevane_pocsag_text {
+    uint32_t number;
+    mortisevane_size characters;
+    mortisevane_size fill_at_end;
+};
+
+/*
+ * Mends a row of received words where they stand.
+ * Takes the words, and memory for as many numbers.
+ * Answers 0; each word is then the one that was sent, if no more than two of its 31 code bits were
+ * wrong, and beside it stands how many were, 0 to 2, or 25 where the word is beyond repair. Such a
+ * word stays as it came.
+ * Refuses 1 where the memory is shorter than the row; the words and the memory are then as they
+ * were.
+ */
+uint32_t mortisevane_pocsag_mend(uint32_t *words, size_t words_length,
+        uint32_t *bits, size_t bits_length);
+
+/*
+ * Received words, one after the other, up to and with the first that has something to tell.
+ * Takes the reader, as it was answered last; the words; and the memory for the message words of a
+ * page, of any length, as it was left last.
+ * Answers how many words were taken, the number of the last of them, the page that ended at it, and
+ * the reader. Where no word has anything to tell all are taken; otherwise the rest is to be given
+ * again. A page whose number is 0 is handed out, and its message words are the first of the memory.
+ * With another number it was not received as a whole: 25 where a word of it was beyond repair, 26
+ * where its end was not heard, 15 where the memory was too short; its first words came whole.
+ * Refuses 25 for a word beyond repair, 26 for a word that does not follow a sync word, 17 for a
+ * message word of no page, the first that applies; such a word was taken, and a word beyond repair
+ * takes its place in the batch.
+ */
+struct mortisevane_pocsag_heard mortisevane_pocsag_hear(struct mortisevane_pocsag_reader reader,
+        const uint32_t *words, size_t words_length, uint32_t *lent, size_t lent_length);
+
+/*
+ * The close: no more words come.
+ * Takes the reader, as it was answered last. To go on after it, begin with zeros.
+ * Answers the page that was still open, whose end was not heard, or that there was none.
+ * Refuses a page by 25 where a word of it was beyond repair, else by 26; no page is handed out
+ * here.
+ */
+struct mortisevane_pocsag_page mortisevane_pocsag_close(struct mortisevane_pocsag_reader reader);
+
+/*
+ * The message words of a page as text, its zeros with it.
+ * Takes the kind of text, MORTISEVANE_POCSAG_TEXT_NUMERIC, _NUMERIC_CHINESE or _SEVEN_BIT, which
+ * nothing in a page tells; the words, as the lent memory has them; and memory for the text, five
+ * bytes a word for a numeric page and three for another.
+ * Answers how many characters were written, all that the words hold, and how many of them at the
+ * end are fill: spaces in a numeric page, the characters 00H, 03H and 04H in a text. A display has
+ * to show the characters before these.
+ * Refuses 7 for a kind that there is not, 10 for a word of more than twenty bits, the first that
+ * applies, and last 1; the memory is then as it was.
+ */
+struct mortisevane_pocsag_text mortisevane_pocsag_read(uint32_t kind,
+        const uint32_t *words, size_t words_length, uint8_t *text, size_t text_length);
+
+/*
  * The layout of every struct, in bytes: how large it is, and where each of its fields stands. The library was compiled
  * for this one. A compiler that lays a struct out otherwise stops here.
  */
@@ -1667,6 +1806,34 @@ MORTISEVANE_LARGE(frame_end, 728);
 MORTISEVANE_PLACED(frame_end, number, 0);
 MORTISEVANE_PLACED(frame_end, incomplete, 8);
 MORTISEVANE_PLACED(frame_end, calls, 368);
+
+MORTISEVANE_LARGE(pocsag_reader, 32);
+MORTISEVANE_PLACED(pocsag_reader, left, 0);
+MORTISEVANE_PLACED(pocsag_reader, is_open, 4);
+MORTISEVANE_PLACED(pocsag_reader, address, 8);
+MORTISEVANE_PLACED(pocsag_reader, function, 12);
+MORTISEVANE_PLACED(pocsag_reader, words, 16);
+MORTISEVANE_PLACED(pocsag_reader, mended, 24);
+MORTISEVANE_PLACED(pocsag_reader, fault, 28);
+
+MORTISEVANE_LARGE(pocsag_page, 32);
+MORTISEVANE_PLACED(pocsag_page, is_ended, 0);
+MORTISEVANE_PLACED(pocsag_page, number, 4);
+MORTISEVANE_PLACED(pocsag_page, address, 8);
+MORTISEVANE_PLACED(pocsag_page, function, 12);
+MORTISEVANE_PLACED(pocsag_page, words, 16);
+MORTISEVANE_PLACED(pocsag_page, mended, 24);
+
+MORTISEVANE_LARGE(pocsag_heard, 80);
+MORTISEVANE_PLACED(pocsag_heard, number, 0);
+MORTISEVANE_PLACED(pocsag_heard, taken, 8);
+MORTISEVANE_PLACED(pocsag_heard, page, 16);
+MORTISEVANE_PLACED(pocsag_heard, reader, 48);
+
+MORTISEVANE_LARGE(pocsag_text, 24);
+MORTISEVANE_PLACED(pocsag_text, number, 0);
+MORTISEVANE_PLACED(pocsag_text, characters, 8);
+MORTISEVANE_PLACED(pocsag_text, fill_at_end, 16);
 
 #undef MORTISEVANE_PLACED
 #undef MORTISEVANE_LARGE

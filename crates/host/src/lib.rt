@@ -31,3 +31,6 @@ mod chains;
 
 // Calls in a frame.
 mod calls;
+
+// POCSAG pages.
+mod pocsag_pages;

@@ -45,7 +45,7 @@ pub struct Library {
 }
 
 /// The crate, the type, and what stands before the names.
-const GROUPS: [(&str, &str, &str, &str); 7] = [
+const GROUPS: [(&str, &str, &str, &str); 9] = [
     ("refusal", "Refusal", "REFUSED", "The refusals, by their numbers: 1 to 18 are the paper's, and those from 19 on came with later requests. A `number` of 0 says that nothing was refused."),
     ("capcode", "Class", "CLASS", "The classes of addresses."),
     ("packet", "Packet", "PACKET", "The IDs of packets, the highest byte of their 32 bits. The same ID means one thing to the decoder and another from it."),
@@ -53,6 +53,8 @@ const GROUPS: [(&str, &str, &str, &str); 7] = [
     ("packet", "ShortMessage", "SHORT_MESSAGE", "The types of short messages."),
     ("packet", "Instruction", "INSTRUCTION", "The types of short instructions."),
     ("numeric", "CharacterSet", "SET", "The sets of characters of numeric pages, the two columns of Table 39. Nothing in a page says by which its sender wrote it."),
+    ("pocsag", "Codeword", "POCSAG", "The two words of POCSAG that are no page's."),
+    ("pocsag", "TextKind", "POCSAG_TEXT", "How the text of a POCSAG page is read. Nothing in a page says how its sender wrote it."),
 ];
 
 /// The file of the sentences for people, and the constant in it that is their table, a line for each.

@@ -54,6 +54,10 @@ pub const REFUSED_DIGIT_BEFORE_LETTER: u32 = 19;
 pub const REFUSED_LEADING_FOUR: u32 = 20;
 /// A CAPCODE text that goes wrong at a digit after its letter, or stops too soon.
 pub const REFUSED_DIGIT_AFTER_LETTER: u32 = 21;
+/// A POCSAG word with more wrong bits than can be mended; a page with such a word in it.
+pub const REFUSED_BEYOND_REPAIR: u32 = 25;
+/// A POCSAG word that does not follow a sync word; a page whose end was not heard.
+pub const REFUSED_NO_SYNC: u32 = 26;
 
 // The classes of addresses.
 /// The classes of addresses: short.
@@ -179,9 +183,23 @@ pub const SET_STANDARD: u32 = 0;
 /// Table 39 with the option of the People's Republic of China on: A to E for `?`, `U`, `-`, `\]`, `\[`.
 pub const SET_CHINESE: u32 = 1;
 
+// The two words of POCSAG that are no page's.
+/// 02, item 5: "sync word 7CD215D8": it stands before each batch.
+pub const POCSAG_SYNC: u32 = 2094142936;
+/// 02, item 5: "idle word 7A89C197": it stands where there is nothing to send, and ends a page.
+pub const POCSAG_IDLE: u32 = 2055848343;
+
+// How the text of a POCSAG page is read. Nothing in a page says how its sender wrote it.
+/// Four bits a character, the set of Table 39 with the option off.
+pub const POCSAG_TEXT_NUMERIC: u32 = 0;
+/// Four bits a character, the set of Table 39 with the option on.
+pub const POCSAG_TEXT_NUMERIC_CHINESE: u32 = 1;
+/// Seven bits a character.
+pub const POCSAG_TEXT_SEVEN_BIT: u32 = 2;
+
 /// What each refusal means, in a sentence for people, at the place of its number. The one at place 0, where nothing was
 /// refused, is empty.
-pub const SENTENCES: [&str; 22] = [
+pub const SENTENCES: [&str; 27] = [
     "",
     "the lent memory is too short",
     "the state that was handed back is outside its limits",
@@ -204,6 +222,11 @@ pub const SENTENCES: [&str; 22] = [
     "a digit that cannot stand here: A to L take one digit or none, U to Z 000 to 127 and one more",
     "a 4 at the start: no digit means 4, so leave it out",
     "the text stops too soon, or has a digit too many after the letter",
+    "",
+    "",
+    "",
+    "beyond repair: more bits are wrong than can be mended",
+    "no sync word stood where one had to",
 ];
 
 // Limits, and how much memory is to be lent.
@@ -1416,6 +1439,111 @@ extern "C" {
     pub fn mortisevane_call_place(call: Call) -> usize;
 }
 
+// POCSAG pages, as C and Rust link them. Every function takes any input, and its contract is that of the function it
+// calls. Words come as they were received, 32 bits with the first that was sent the highest. The reader goes in and comes
+// back by value; zeros are a fresh start, and whatever is handed back has a meaning. The message words of a page lie at the
+// start of the lent memory, twenty bits each with the first that was sent the lowest, until the next message word.
+
+/// Where the reading stands. Zeros are a fresh start, and whatever is handed back has a meaning.
+/// 
+/// `left` is how many words of the batch are still to come, 1 to 16; where it is 0, or larger, a sync word must come next.
+/// `is_open` is not 0 while a page is open. Then there are: its address and function; how many of its message words have come
+/// whole, which stand at the start of the lent memory; how many bits were mended in its words; and its fault: 0 for none, 15
+/// where it became longer than the lent memory, and any other number, which is 25, where a word of it was beyond repair.
+#[repr(C)]
+#[derive(Clone, Copy, Debug, Default, PartialEq, Eq)]
+pub struct PocsagReader {
+    pub left: u32,
+    pub is_open: u32,
+    pub address: u32,
+    pub function: u32,
+    pub words: Size,
+    pub mended: u32,
+    pub fault: u32,
+}
+
+/// A page that has ended, where `is_ended` is 1: its number, address and function, how many of its message words came whole,
+/// and how many bits were mended. With the number 0 it is handed out. Otherwise it went wrong at the word after those: 25
+/// where that word was beyond repair, 26 where the sync was lost there, or the words ended, before the end of the page was
+/// heard, 15 where there was no room for it.
+#[repr(C)]
+#[derive(Clone, Copy, Debug, Default, PartialEq, Eq)]
+pub struct PocsagPage {
+    pub is_ended: u32,
+    pub number: u32,
+    pub address: u32,
+    pub function: u32,
+    pub words: Size,
+    pub mended: u32,
+}
+
+/// What a row of words did, up to the first that has something to tell: its number, how many words were taken, the page that
+/// ended at it, and where the reading stands.
+#[repr(C)]
+#[derive(Clone, Copy, Debug, Default, PartialEq, Eq)]
+pub struct PocsagHeard {
+    pub number: u32,
+    pub taken: Size,
+    pub page: PocsagPage,
+    pub reader: PocsagReader,
+}
+
+/// A text read: how many characters it has, and how many of them at the end are fill. Both are 0 after a refusal.
+#[repr(C)]
+#[derive(Clone, Copy, Debug, Default, PartialEq, Eq)]
+pub struct PocsagText {
+    pub number: u32,
+    pub characters: Size,
+    pub fill_at_end: Size,
+}
+
+extern "C" {
+    /// Mends a row of received words where they stand.
+    ///
+    /// Takes the words, and memory for as many numbers.
+    ///
+    /// Answers 0; each word is then the one that was sent, if no more than two of its 31 code bits were wrong, and beside it stands
+    /// how many were, 0 to 2, or 25 where the word is beyond repair. Such a word stays as it came.
+    ///
+    /// Refuses 1 where the memory is shorter than the row; the words and the memory are then as they were.
+    pub fn mortisevane_pocsag_mend(words: *mut u32, words_length: usize, bits: *mut u32, bits_length: usize) -> u32;
+
+    /// Received words, one after the other, up to and with the first that has something to tell.
+    ///
+    /// Takes the reader, as it was answered last; the words; and the memory for the message words of a page, of any length, as it
+    /// was left last.
+    ///
+    /// Answers how many words were taken, the number of the last of them, the page that ended at it, and the reader. Where no word
+    /// has anything to tell all are taken; otherwise the rest is to be given again. A page whose number is 0 is handed out, and
+    /// its message words are the first of the memory. With another number it was not received as a whole: 25 where a word of it
+    /// was beyond repair, 26 where its end was not heard, 15 where the memory was too short; its first words came whole.
+    ///
+    /// Refuses 25 for a word beyond repair, 26 for a word that does not follow a sync word, 17 for a message word of no page, the
+    /// first that applies; such a word was taken, and a word beyond repair takes its place in the batch.
+    pub fn mortisevane_pocsag_hear(reader: PocsagReader, words: *const u32, words_length: usize, lent: *mut u32, lent_length: usize) -> PocsagHeard;
+
+    /// The close: no more words come.
+    ///
+    /// Takes the reader, as it was answered last. To go on after it, begin with zeros.
+    ///
+    /// Answers the page that was still open, whose end was not heard, or that there was none.
+    ///
+    /// Refuses a page by 25 where a word of it was beyond repair, else by 26; no page is handed out here.
+    pub fn mortisevane_pocsag_close(reader: PocsagReader) -> PocsagPage;
+
+    /// The message words of a page as text, its zeros with it.
+    ///
+    /// Takes the kind of text, POCSAG_TEXT_NUMERIC, _NUMERIC_CHINESE or _SEVEN_BIT, which nothing in a page tells; the
+    /// words, as the lent memory has them; and memory for the text, five bytes a word for a numeric page and three for another.
+    ///
+    /// Answers how many characters were written, all that the words hold, and how many of them at the end are fill: spaces in a
+    /// numeric page, the characters 00H, 03H and 04H in a text. A display has to show the characters before these.
+    ///
+    /// Refuses 7 for a kind that there is not, 10 for a word of more than twenty bits, the first that applies, and last 1; the
+    /// memory is then as it was.
+    pub fn mortisevane_pocsag_read(kind: u32, words: *const u32, words_length: usize, text: *mut u8, text_length: usize) -> PocsagText;
+}
+
 // The layout of every struct, in bytes: how large it is, and where each of its fields stands. The library was compiled
 // for this one. A compiler that lays a struct out otherwise stops here.
 const _: () = assert!(size_of::<Class>() == 8);
@@ -1697,3 +1825,27 @@ const _: () = assert!(size_of::<FrameEnd>() == 728);
 const _: () = assert!(offset_of!(FrameEnd, number) == 0);
 const _: () = assert!(offset_of!(FrameEnd, incomplete) == 8);
 const _: () = assert!(offset_of!(FrameEnd, calls) == 368);
+const _: () = assert!(size_of::<PocsagReader>() == 32);
+const _: () = assert!(offset_of!(PocsagReader, left) == 0);
+const _: () = assert!(offset_of!(PocsagReader, is_open) == 4);
+const _: () = assert!(offset_of!(PocsagReader, address) == 8);
+const _: () = assert!(offset_of!(PocsagReader, function) == 12);
+const _: () = assert!(offset_of!(PocsagReader, words) == 16);
+const _: () = assert!(offset_of!(PocsagReader, mended) == 24);
+const _: () = assert!(offset_of!(PocsagReader, fault) == 28);
+const _: () = assert!(size_of::<PocsagPage>() == 32);
+const _: () = assert!(offset_of!(PocsagPage, is_ended) == 0);
+const _: () = assert!(offset_of!(PocsagPage, number) == 4);
+const _: () = assert!(offset_of!(PocsagPage, address) == 8);
+const _: () = assert!(offset_of!(PocsagPage, function) == 12);
+const _: () = assert!(offset_of!(PocsagPage, words) == 16);
+const _: () = assert!(offset_of!(PocsagPage, mended) == 24);
+const _: () = assert!(size_of::<PocsagHeard>() == 80);
+const _: () = assert!(offset_of!(PocsagHeard, number) == 0);
+const _: () = assert!(offset_of!(PocsagHeard, taken) == 8);
+const _: () = assert!(offset_of!(PocsagHeard, page) == 16);
+const _: () = assert!(offset_of!(PocsagHeard, reader) == 48);
+const _: () = assert!(size_of::<PocsagText>() == 24);
+const _: () = assert!(offset_of!(PocsagText, number) == 0);
+const _: () = assert!(offset_of!(PocsagText, characters) == 8);
+const _: () = assert!(offset_of!(PocsagText, fill_at_end) == 16);
