@@ -21,13 +21,14 @@ pub enum Refusal {
     Offset = 6,
     /// A packet that is not to be sent or not of that kind, or with a 0 bit
     /// set; a field too large, such as a frame over 127 or a collapse over 5, or
-    /// a vector's K over 15 or an N over 63.
+    /// a vector's K over 15 or an N over 63; a kind of page that is none.
     Packet = 7,
     /// The address number is not 0 to 31.
     Address = 8,
     /// Over 16 addresses; words, or a call's span, outside the limits.
     Size = 9,
-    /// A word over 21 bits, or marked in error.
+    /// A word over 21 bits, or marked in error; a message word of a POCSAG page over
+    /// 20 bits.
     Damaged = 10,
     /// K differs.
     Checksum = 11,
@@ -38,11 +39,11 @@ pub enum Refusal {
     /// F is not the next; an open call's key or its vector comes again, or a word
     /// that came before.
     OutOfTurn = 14,
-    /// A text over the room.
+    /// A text over the room; a POCSAG page over the lent memory.
     TooLong = 15,
     /// The total of a message's last fragment differs.
     Signature = 16,
-    /// A vector or a word of no call.
+    /// A vector or a word of no call; a message word of no POCSAG page.
     NoCall = 17,
     /// A character that is not in the set or is over 7FH, or ETX in a text to
     /// write.
@@ -53,11 +54,16 @@ pub enum Refusal {
     LeadingFour = 20,
     /// A CAPCODE text goes wrong at a digit after its letter, or stops too soon.
     DigitAfterLetter = 21,
+    /// A POCSAG word with more wrong bits than are mended, or with wrong parity.
+    BeyondRepair = 25,
+    /// A POCSAG word that does not follow a sync word; a page that ended without the
+    /// word that should have ended it.
+    NoSync = 26,
 }
 
 impl Refusal {
     /// Its number: 1 to 18 are those of 01's table, 19 to 21 those of 02's first
-    /// item.
+    /// item, 25 and 26 those of its fifth.
     pub fn number(self) -> u32 {
         self as u32
     }
