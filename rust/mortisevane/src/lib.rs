@@ -5,7 +5,7 @@
 //! turns pointers and lengths into slices, and the number of a refusal into a [`Result`].
 //!
 //! Two rules run through all of it. A page and a CAPCODE are characters, so their zeros stay: `0417` is not `417`. And
-//! every input gets an answer: a value, or one of the twenty-one refusals of [`Refusal`].
+//! every input gets an answer: a value, or one of the twenty-three refusals of [`Refusal`].
 //!
 //! | module | what it is for |
 //! |---|---|
@@ -19,10 +19,12 @@
 //! | [`fragment`] | a text cut into fragments, one fragment read |
 //! | [`chains`] | fragments joined to texts |
 //! | [`calls`] | which message words of a frame belong to which page |
+//! | [`pocsag`] | pages of the older POCSAG code: words mended, pages read from batches, and their text |
 //!
 //! There is no allocation and no hidden state. Memory is lent as slices, and the states ([`Mirror`], [`Chains`],
-//! [`Calls`]) are plain numbers that a caller may keep anywhere and hand back: an unsound one is refused,
-//! [`Refusal::State`]. `Default` makes fresh chains and calls; a mirror begins with [`Mirror::reset`].
+//! [`Calls`], [`pocsag::Reader`]) are plain numbers that a caller may keep anywhere and hand back: an unsound one is refused,
+//! [`Refusal::State`], and no reader is unsound. `Default` makes fresh chains, calls and readers; a mirror begins with
+//! [`Mirror::reset`].
 //!
 //! In this documentation "01" is the paper that defines the pager host, and "02" the list of later change requests; S8.x
 //! and Table n are the PCD5008 data sheet's.
@@ -93,6 +95,7 @@ pub mod frames;
 pub mod mirror;
 pub mod numeric;
 pub mod packet;
+pub mod pocsag;
 pub mod refusal;
 pub mod sums;
 

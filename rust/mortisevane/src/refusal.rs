@@ -1,4 +1,5 @@
-//! The refusals by their numbers: 1 to 18 are 01's, and 19 to 21 those of 02, the list of later change requests.
+//! The refusals by their numbers: 1 to 18 are 01's, and 19 to 21, 25 and 26 those of 02, the list of later change requests.
+//! The numbers 22 to 24 are not given yet.
 //!
 //! ```
 //! use mortisevane::{Capcode, Refusal};
@@ -62,11 +63,15 @@ pub enum Refusal {
     LeadingFour = exports::REFUSED_LEADING_FOUR,
     /// A CAPCODE text that goes wrong at a digit after its letter, or stops too soon.
     DigitAfterLetter = exports::REFUSED_DIGIT_AFTER_LETTER,
+    /// A POCSAG word with more wrong bits than are mended, or with wrong parity; a page with such a word.
+    BeyondRepair = exports::REFUSED_BEYOND_REPAIR,
+    /// A POCSAG word that is not after a sync word; a page that ended without the word that should end it.
+    NoSync = exports::REFUSED_NO_SYNC,
 }
 
 impl Refusal {
     /// All of them, in the order of their numbers.
-    pub const ALL: [Refusal; 21] = [
+    pub const ALL: [Refusal; 23] = [
         Refusal::Room,
         Refusal::State,
         Refusal::Text,
@@ -88,9 +93,11 @@ impl Refusal {
         Refusal::DigitBeforeLetter,
         Refusal::LeadingFour,
         Refusal::DigitAfterLetter,
+        Refusal::BeyondRepair,
+        Refusal::NoSync,
     ];
 
-    /// Its number: 1 to 18 are 01's, 19 to 21 are 02's.
+    /// Its number: 1 to 18 are 01's, 19 to 21, 25 and 26 are 02's.
     pub const fn number(self) -> u32 {
         self as u32
     }

@@ -7,13 +7,13 @@ use mortisevane::refusal::NoRefusal;
 use mortisevane::{capcode, chains, exports, Refusal};
 
 #[test]
-fn the_twenty_one_are_numbered_from_1() {
+fn the_twenty_three_are_numbered_from_1_to_26_but_for_three() {
     let numbers: Vec<u32> = Refusal::ALL.iter().map(|refusal| refusal.number()).collect();
-    assert_eq!(numbers, (1..=21).collect::<Vec<u32>>());
+    assert_eq!(numbers, (1..=21).chain([25, 26]).collect::<Vec<u32>>());
     for refusal in Refusal::ALL {
         assert_eq!(Refusal::try_from(refusal.number()), Ok(refusal));
     }
-    for number in [0, 22, u32::MAX] {
+    for number in [0, 22, 23, 24, 27, u32::MAX] {
         assert_eq!(Refusal::try_from(number), Err(NoRefusal(number)));
     }
     assert_eq!(NoRefusal(22).to_string(), "22 is the number of no refusal");
@@ -23,7 +23,7 @@ fn the_twenty_one_are_numbered_from_1() {
 fn each_is_told_in_words_of_its_own() {
     let told = Refusal::ALL.map(|refusal| refusal.to_string());
     let meanings: BTreeSet<&str> = told.iter().map(|told| told.split_once(": ").expect("a meaning follows").1).collect();
-    assert_eq!(meanings.len(), 21);
+    assert_eq!(meanings.len(), 23);
     let told_of = |refusal: Refusal, told: &str| assert_eq!(refusal.to_string(), format!("refused {told}"));
     told_of(Refusal::Type, "4: the letter is all-phase, which the decoder does not support");
     told_of(Refusal::Character, "18: a character is not in the set");
@@ -33,12 +33,14 @@ fn each_is_told_in_words_of_its_own() {
 }
 
 #[test]
-fn there_is_a_sentence_for_each_and_none_for_0() {
-    let (none, sentences) = exports::SENTENCES.split_first().expect("0 has a place");
-    assert_eq!((*none, sentences.len()), ("", Refusal::ALL.len()));
-    for (refusal, sentence) in Refusal::ALL.into_iter().zip(sentences) {
-        assert_eq!(refusal.to_string(), format!("refused {}: {sentence}", refusal.number()));
+fn there_is_a_sentence_for_each_and_none_for_other_numbers() {
+    for (number, sentence) in (0..).zip(exports::SENTENCES) {
+        match Refusal::try_from(number) {
+            Ok(refusal) => assert_eq!(refusal.to_string(), format!("refused {number}: {sentence}")),
+            Err(_) => assert_eq!(sentence, "", "{number}"),
+        }
     }
+    assert_eq!(exports::SENTENCES.iter().filter(|sentence| !sentence.is_empty()).count(), Refusal::ALL.len());
 }
 
 #[test]
