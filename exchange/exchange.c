@@ -105,6 +105,18 @@
  *                        part
  *  54  call_place        a record. The answer: u64 place
  *
+ * A reader of POCSAG words is left, whether a page is open, address, function, a u64, the
+ * count of words, mended and fault. A page is whether it ended, number, address, function, a
+ * u64, the count of words, and mended.
+ *
+ *  55  pocsag_mend       the lent row of words; the lent row of bits, words too. The
+ *                        answer: number, both lent rows
+ *  56  pocsag_hear       a reader; a row of words; the lent row of words. The answer:
+ *                        number, count of words taken, a page, a reader, the lent row
+ *  57  pocsag_close      a reader. The answer: a page
+ *  58  pocsag_read       kind; a row of words; the lent row of bytes. The answer: number,
+ *                        count of characters, count of fill at the end, the lent row
+ *
  * Requests may be sent without waiting for answers. All answers so far are
  * written out before the program waits for more requests. The end of input
  * between two requests ends the program with status 0; a request that is cut,
@@ -354,9 +366,10 @@ struct lent {
     size_t length;
 };
 
-/* No export is lent more than one of each. */
+/* No export is lent more than one row for reading or two for writing. */
 static struct lent lent_for_reading;
 static struct lent lent_for_writing;
+static struct lent also_lent_for_writing;
 
 /* Where the row begins. What is in it, the export knows. */
 static void *row_of(struct lent *lent) { return lent->memory + GUARD_LENGTH; }
@@ -890,6 +903,91 @@ static void serve_call_place(void)
     give_u64(mortisevane_call_place(call));
 }
 
+/* ---- POCSAG pages ---- */
+
+static void serve_pocsag_mend(void)
+{
+    size_t words = take_row(&lent_for_writing, sizeof(uint32_t));
+    size_t bits = take_row(&also_lent_for_writing, sizeof(uint32_t));
+    uint32_t number = mortisevane_pocsag_mend(row_of(&lent_for_writing), words, row_of(&also_lent_for_writing), bits);
+    check_guards(&lent_for_writing);
+    check_guards(&also_lent_for_writing);
+    give_u32(number);
+    give_lent(&lent_for_writing);
+    give_lent(&also_lent_for_writing);
+}
+
+static struct mortisevane_pocsag_reader take_pocsag_reader(void)
+{
+    struct mortisevane_pocsag_reader reader;
+    reader.left = take_u32();
+    reader.is_open = take_u32();
+    reader.address = take_u32();
+    reader.function = take_u32();
+    reader.words = take_u64();
+    reader.mended = take_u32();
+    reader.fault = take_u32();
+    return reader;
+}
+
+static void give_pocsag_reader(const struct mortisevane_pocsag_reader *reader)
+{
+    give_u32(reader->left);
+    give_u32(reader->is_open);
+    give_u32(reader->address);
+    give_u32(reader->function);
+    give_u64(reader->words);
+    give_u32(reader->mended);
+    give_u32(reader->fault);
+}
+
+static void give_pocsag_page(const struct mortisevane_pocsag_page *page)
+{
+    give_u32(page->is_ended);
+    give_u32(page->number);
+    give_u32(page->address);
+    give_u32(page->function);
+    give_u64(page->words);
+    give_u32(page->mended);
+}
+
+static void serve_pocsag_hear(void)
+{
+    struct mortisevane_pocsag_reader reader = take_pocsag_reader();
+    size_t words = take_row(&lent_for_reading, sizeof(uint32_t));
+    size_t lent = take_row(&lent_for_writing, sizeof(uint32_t));
+    struct mortisevane_pocsag_heard heard =
+        mortisevane_pocsag_hear(reader, row_of(&lent_for_reading), words, row_of(&lent_for_writing), lent);
+    check_read(&lent_for_reading);
+    check_guards(&lent_for_writing);
+    give_u32(heard.number);
+    give_u64(heard.taken);
+    give_pocsag_page(&heard.page);
+    give_pocsag_reader(&heard.reader);
+    give_lent(&lent_for_writing);
+}
+
+static void serve_pocsag_close(void)
+{
+    struct mortisevane_pocsag_page page = mortisevane_pocsag_close(take_pocsag_reader());
+    give_pocsag_page(&page);
+}
+
+static void serve_pocsag_read(void)
+{
+    uint32_t kind = take_u32();
+    size_t words = take_row(&lent_for_reading, sizeof(uint32_t));
+    size_t characters = take_row(&lent_for_writing, sizeof(uint8_t));
+    struct mortisevane_pocsag_text answer =
+        mortisevane_pocsag_read(kind, row_of(&lent_for_reading), words, row_of(&lent_for_writing), characters);
+    check_read(&lent_for_reading);
+    check_guards(&lent_for_writing);
+    give_u32(answer.number);
+    give_u64(answer.characters);
+    give_u64(answer.fill_at_end);
+    give_lent(&lent_for_writing);
+}
+
 /* ---- Which byte names which export ---- */
 
 static void (*const exports[])(void) = {
@@ -947,6 +1045,10 @@ static void (*const exports[])(void) = {
     [52] = serve_call_hear,
     [53] = serve_call_end,
     [54] = serve_call_place,
+    [55] = serve_pocsag_mend,
+    [56] = serve_pocsag_hear,
+    [57] = serve_pocsag_close,
+    [58] = serve_pocsag_read,
 };
 
 static void serve_request(uint8_t export)

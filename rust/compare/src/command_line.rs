@@ -15,6 +15,7 @@ pub const USAGE: &str = "usage: compare exports EXCHANGE_COMMAND.. [--seed NUMBE
        compare chains EXCHANGE_COMMAND.. [--seed NUMBER]
        compare air EXCHANGE_COMMAND.. [--seed NUMBER]
        compare calls EXCHANGE_COMMAND.. [--seed NUMBER]
+       compare pocsag EXCHANGE_COMMAND.. [--seed NUMBER]
        compare start-up FILE EXCHANGE_COMMAND..
        compare checksum FILE EXCHANGE_COMMAND.. [--seed NUMBER]
        compare lines LISTING_COMMAND.. [--count NUMBER] [--seed NUMBER]
@@ -55,6 +56,10 @@ pub enum Task {
         seed: u64,
     },
     Calls {
+        exchange: Vec<String>,
+        seed: u64,
+    },
+    Pocsag {
         exchange: Vec<String>,
         seed: u64,
     },
@@ -119,6 +124,10 @@ pub fn read(words: &[String]) -> Option<Task> {
         "calls" => {
             let (exchange, seed) = command_and_seed(rest)?;
             Some(Task::Calls { exchange, seed })
+        }
+        "pocsag" => {
+            let (exchange, seed) = command_and_seed(rest)?;
+            Some(Task::Pocsag { exchange, seed })
         }
         "start-up" => read_start_up(rest),
         "checksum" => read_checksum(rest),
@@ -282,7 +291,7 @@ mod tests {
     }
 
     #[test]
-    fn pages_fragments_chains_air_and_calls_may_have_a_seed() {
+    fn pages_fragments_chains_air_calls_and_pocsag_may_have_a_seed() {
         for (options, seed) in [("", DEFAULT_SEED), (" --seed 7", 7)] {
             let exchange = words("run exchange");
             let task = Task::Pages { exchange, seed };
@@ -303,6 +312,10 @@ mod tests {
             let exchange = words("run exchange");
             let task = Task::Calls { exchange, seed };
             let line = format!("calls run exchange{options}");
+            assert_eq!(read(&words(&line)), Some(task), "{line}");
+            let exchange = words("run exchange");
+            let task = Task::Pocsag { exchange, seed };
+            let line = format!("pocsag run exchange{options}");
             assert_eq!(read(&words(&line)), Some(task), "{line}");
         }
     }
@@ -384,6 +397,9 @@ mod tests {
             "calls",
             "calls --seed 1",
             "calls run --seed",
+            "pocsag",
+            "pocsag --seed 1",
+            "pocsag run --seed",
             "start-up",
             "start-up table.md",
             "lines --count 5",

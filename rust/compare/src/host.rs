@@ -11,6 +11,8 @@ use second::fragment::{FragmentRead, TextCut};
 use second::heard::Address;
 use second::numbers::Numbers;
 use second::numeric::{PageRead, Written};
+use second::pocsag::reader::{Page, Reader};
+use second::pocsag::text::TextRead;
 
 use crate::exchange::{Fields, Item};
 
@@ -240,6 +242,15 @@ impl ToldOfRow for FragmentRead {
     }
 }
 
+impl ToldOfRow for TextRead {
+    fn read(fields: &mut Fields) -> io::Result<Self> {
+        Ok(TextRead {
+            characters: fields.count()?,
+            fill_at_end: fields.count()?,
+        })
+    }
+}
+
 impl ToldOfRow for TextCut {
     fn read(fields: &mut Fields) -> io::Result<Self> {
         Ok(TextCut {
@@ -376,4 +387,61 @@ pub fn read_calls(fields: &mut Fields) -> io::Result<Calls> {
         };
     }
     Ok(calls)
+}
+
+/// What is told of a POCSAG page that ended; all 0 where none did.
+#[derive(Clone, Copy, Debug, Default, PartialEq, Eq)]
+pub struct MortisevanePocsagPage {
+    pub is_ended: u32,
+    pub number: u32,
+    pub address: u32,
+    pub function: u32,
+    pub words: usize,
+    pub mended: u32,
+}
+
+impl MortisevanePocsagPage {
+    pub fn read(fields: &mut Fields) -> io::Result<Self> {
+        Ok(MortisevanePocsagPage {
+            is_ended: fields.u32()?,
+            number: fields.u32()?,
+            address: fields.u32()?,
+            function: fields.u32()?,
+            words: fields.count()?,
+            mended: fields.u32()?,
+        })
+    }
+}
+
+/// What POCSAG words are answered with, but for the reader and the lent row.
+#[derive(Clone, Copy, Debug, Default, PartialEq, Eq)]
+pub struct MortisevanePocsagHeard {
+    pub number: u32,
+    pub taken: usize,
+    pub page: MortisevanePocsagPage,
+}
+
+impl MortisevanePocsagHeard {
+    pub fn read(fields: &mut Fields) -> io::Result<Self> {
+        Ok(MortisevanePocsagHeard {
+            number: fields.u32()?,
+            taken: fields.count()?,
+            page: MortisevanePocsagPage::read(fields)?,
+        })
+    }
+}
+
+/// The reader of POCSAG words.
+pub fn read_pocsag_reader(fields: &mut Fields) -> io::Result<Reader> {
+    Ok(Reader {
+        left: fields.u32()?,
+        page: Page {
+            is_open: fields.u32()?,
+            address: fields.u32()?,
+            function: fields.u32()?,
+            words: fields.count()?,
+            mended: fields.u32()?,
+            fault: fields.u32()?,
+        },
+    })
 }

@@ -19,6 +19,7 @@ mod lines;
 mod listing_program;
 mod packets;
 mod pages;
+mod pocsag;
 mod random;
 mod start_up;
 mod tables;
@@ -61,6 +62,7 @@ fn carry_out(task: &Task) -> Result<(), String> {
         Task::Chains { exchange, seed } => chains::compare(exchange, *seed)?,
         Task::Air { exchange, seed } => air::compare(exchange, *seed)?,
         Task::Calls { exchange, seed } => calls::compare(exchange, *seed)?,
+        Task::Pocsag { exchange, seed } => pocsag::compare(exchange, *seed)?,
         Task::StartUp { file, exchange } => start_up::compare(file, exchange)?,
         Task::Checksum {
             file,

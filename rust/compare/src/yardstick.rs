@@ -6,12 +6,14 @@ use second::capcode::{self, Capcode, Refused};
 use second::chain::{Joined, NotJoined};
 use second::frames::{self, Listener};
 use second::mirror::Mirror;
+use second::pocsag::reader::{Ended, Heard as PocsagHeard};
 use second::refusal::Refusal;
 
 use crate::host::{
     Lent, MortisevaneAddress, MortisevaneAssignment, MortisevaneCapcode, MortisevaneChain,
     MortisevaneClass, MortisevaneFrames, MortisevaneHeard, MortisevaneLength, MortisevaneListeners,
-    MortisevaneOpened, MortisevaneWait, MortisevaneWords, Told,
+    MortisevaneOpened, MortisevanePocsagHeard, MortisevanePocsagPage, MortisevaneWait,
+    MortisevaneWords, Told,
 };
 
 /// An answer of no: its number, and 0 in every other field.
@@ -225,4 +227,32 @@ pub fn call_hear(answer: Result<Heard, Refusal>) -> MortisevaneHeard {
         },
         Err(refusal) => refused!(MortisevaneHeard, refusal),
     }
+}
+
+/// What is told of a POCSAG page, if one ended.
+pub fn pocsag_page(ended: Option<Ended>) -> MortisevanePocsagPage {
+    let Some(ended) = ended else {
+        return MortisevanePocsagPage::default();
+    };
+    MortisevanePocsagPage {
+        is_ended: 1,
+        number: number_of(ended.refusal),
+        address: ended.address,
+        function: ended.function,
+        words: ended.words,
+        mended: ended.mended,
+    }
+}
+
+/// The answer to POCSAG words.
+pub fn pocsag_hear(heard: PocsagHeard) -> MortisevanePocsagHeard {
+    MortisevanePocsagHeard {
+        number: number_of(heard.told.refusal),
+        taken: heard.taken,
+        page: pocsag_page(heard.told.ended),
+    }
+}
+
+fn number_of(refusal: Option<Refusal>) -> u32 {
+    refusal.map_or(0, Refusal::number)
 }
