@@ -5,9 +5,9 @@
  * is not the case. An answer that is not the one to be expected ends it with status 1. An argument names one part of the
  * operations, and then only that part is counted.
  *
- * Of most operations the instructions are counted from the first to the return. `chain_step`, `call_hear` and `call_end`
- * take state by value and give it back by value, so of them those of the caller are counted too: the records copied in, and
- * the records and the answer copied out to where they are kept.
+ * Of most operations the instructions are counted from the first to the return. `chain_step`, `call_hear`, `call_end` and
+ * `pocsag_hear` take state by value and give it back by value, so of them those of the caller are counted too: the records
+ * copied in, and the records and the answer copied out to where they are kept.
  */
 #include "board.h"
 #include "mortisevane.h"
@@ -656,6 +656,144 @@ static void words_in_all_phases(void)
     hear_word("a word, to 2 of 8 calls in four phases", PHASE_START, 3, 0);
 }
 
+/* ---- POCSAG pages ---- */
+
+enum {
+    BATCH_WORDS = 17,
+    BEFORE_MESSAGE = 2,
+    PAGE_WORDS = BATCH_WORDS - BEFORE_MESSAGE,
+    /* The address is in frame 0, the first of the batch, and its function is 0. */
+    PAGE_ADDRESS = 0x091A28,
+    PAGE_BITS = 0x0C7140,
+    WORD_BITS = 20,
+    CODE_BITS = 4,
+    CHARACTER_BITS = 7,
+    TEXT_CHARACTERS = 40
+};
+
+/* Their words, as they are sent. */
+static const uint32_t address_word = 0x2468A13F, message_word = 0x81471A86;
+/* Which bits of each word come wrong. */
+static const uint32_t two_wrong = 0x80010000;
+
+static uint32_t batch[BATCH_WORDS], wrong_bits[BATCH_WORDS];
+static size_t batch_words;
+
+static uint32_t word_sent(size_t place)
+{
+    return place == 0 ? (uint32_t)MORTISEVANE_POCSAG_SYNC : place < BEFORE_MESSAGE ? address_word : message_word;
+}
+
+static void receive_batch(uint32_t wrong)
+{
+    for (size_t place = 0; place < BATCH_WORDS; place++)
+        batch[place] = word_sent(place) ^ wrong;
+}
+
+typedef uint32_t mend_function(uint32_t *words, size_t words_length, uint32_t *bits, size_t bits_length);
+static uint32_t mend_number;
+
+static void call_mend(any_function *export)
+{
+    mend_number = ((mend_function *)export)(batch + BATCH_WORDS - batch_words, batch_words, wrong_bits, BATCH_WORDS);
+}
+
+/* The last words of a batch, so many. */
+static void pocsag_mend(const char *input, size_t words, uint32_t wrong, uint32_t bits)
+{
+    batch_words = words;
+    receive_batch(wrong);
+    struct counted counted = count(call_mend, (any_function *)mortisevane_pocsag_mend);
+    expect(mend_number == 0, "pocsag_mend", input);
+    for (size_t place = 0; place < words; place++) {
+        size_t in_batch = BATCH_WORDS - words + place;
+        expect(batch[in_batch] == word_sent(in_batch) && wrong_bits[place] == bits, "pocsag_mend", input);
+    }
+    tell_export("pocsag_mend", input, counted);
+}
+
+static void words_mended(void)
+{
+    pocsag_mend("1 word whole", 1, 0, 0);
+    pocsag_mend("17 words whole", BATCH_WORDS, 0, 0);
+    pocsag_mend("17 words with two wrong bits", BATCH_WORDS, two_wrong, 2);
+}
+
+typedef struct mortisevane_pocsag_heard batch_function(struct mortisevane_pocsag_reader reader, const uint32_t *words,
+        size_t words_length, uint32_t *lent, size_t lent_length);
+static struct mortisevane_pocsag_reader reader;
+static struct mortisevane_pocsag_page page_ended;
+static uint32_t batch_number;
+static mortisevane_size batch_taken;
+
+static void call_batch(any_function *export)
+{
+    struct mortisevane_pocsag_heard told = ((batch_function *)export)(reader, batch, BATCH_WORDS, memory,
+            MORTISEVANE_CALL_WORDS);
+
+    reader = told.reader;
+    page_ended = told.page;
+    batch_number = told.number;
+    batch_taken = told.taken;
+}
+
+static void pocsag_hear(const char *input, uint32_t wrong, uint32_t bits)
+{
+    static const struct mortisevane_pocsag_reader fresh;
+
+    receive_batch(wrong);
+    memset(memory, 0, sizeof memory);
+    uint32_t with_nothing = ticks_of(call_batch, count_nothing);
+    reader = fresh;
+    struct counted counted = counted_of(ticks_of(call_batch, (any_function *)mortisevane_pocsag_hear), with_nothing);
+    expect(batch_number == 0 && batch_taken == BATCH_WORDS && page_ended.is_ended == 0, "pocsag_hear", input);
+    expect(reader.is_open == 1 && reader.address == PAGE_ADDRESS && reader.words == PAGE_WORDS &&
+            reader.mended == bits * (BATCH_WORDS - 1), "pocsag_hear", input);
+    for (size_t place = 0; place < PAGE_WORDS; place++)
+        expect(memory[place] == PAGE_BITS, "pocsag_hear", input);
+    tell_with_caller("pocsag_hear", input, counted);
+}
+
+static void batches(void)
+{
+    pocsag_hear("a batch with a page of 15 words", 0, 0);
+    pocsag_hear("the same, two bits of each word wrong", two_wrong, 2);
+}
+
+typedef struct mortisevane_pocsag_text text_function(uint32_t kind, const uint32_t *words, size_t words_length,
+        uint8_t *text, size_t text_length);
+static struct mortisevane_pocsag_text text_answer;
+static uint32_t text_kind;
+static size_t text_words;
+
+static void call_text(any_function *export)
+{
+    text_answer = ((text_function *)export)(text_kind, memory, text_words, texts, sizeof texts);
+}
+
+/* The text of forty characters fills its words, with so many bits of each character, the lowest first. */
+static void pocsag_read(const char *input, uint32_t kind, const char *text, uint32_t bits)
+{
+    text_kind = kind;
+    text_words = TEXT_CHARACTERS * bits / WORD_BITS;
+    memset(memory, 0, sizeof memory);
+    for (size_t place = 0; place < TEXT_CHARACTERS * bits; place++) {
+        uint32_t bit = (uint32_t)text[place / bits] >> place % bits & 1;
+        memory[place / WORD_BITS] |= bit << place % WORD_BITS;
+    }
+    struct counted counted = count(call_text, (any_function *)mortisevane_pocsag_read);
+    expect(text_answer.number == 0 && text_answer.characters == TEXT_CHARACTERS && text_answer.fill_at_end == 0 &&
+            memcmp(texts, text, TEXT_CHARACTERS) == 0, "pocsag_read", input);
+    tell_export("pocsag_read", input, counted);
+}
+
+static void page_texts(void)
+{
+    pocsag_read("numeric, 8 words", MORTISEVANE_POCSAG_TEXT_NUMERIC, "0123456789012345678901234567890123456789", CODE_BITS);
+    pocsag_read("text, 14 words", MORTISEVANE_POCSAG_TEXT_SEVEN_BIT, "Bay 12, shelf 4: 2 boxes; bay 13: 1 box.",
+            CHARACTER_BITS);
+}
+
 /* ---- All of it, or one part where an argument names it ---- */
 
 static const struct part {
@@ -663,7 +801,8 @@ static const struct part {
     void (*count)(void);
 } parts[] = {
     { "addresses", addresses }, { "frames", frames_listened }, { "mirror", mirror_steps }, { "pages", pages },
-    { "chains", chain_steps }, { "calls", single_words }, { "group", group_words }, { "phases", words_in_all_phases }
+    { "chains", chain_steps }, { "calls", single_words }, { "group", group_words }, { "phases", words_in_all_phases },
+    { "mending", words_mended }, { "batches", batches }, { "texts", page_texts }
 };
 
 int main(int count, char **arguments)

@@ -121,6 +121,8 @@ STANDS_BEFORE(struct mortisevane_page_read, numeric_read, uint32_t set, uint32_t
 STANDS_BEFORE(struct mortisevane_class, address_class, uint64_t address)
 {
     struct mortisevane_class class = __real_mortisevane_address_class(address);
+    if (is_fault("answers_27") && address == 0)
+        class.number = 27;
     if (is_fault("answers_22") && address == 0)
         class.number = 22;
     return class;
@@ -217,6 +219,109 @@ STANDS_BEFORE(struct mortisevane_frame_end, call_end, struct mortisevane_calls c
         end.incomplete.calls[1] = calls.calls[0];
     }
     return end;
+}
+
+STANDS_BEFORE(uint32_t, pocsag_mend, uint32_t *words, size_t words_length, uint32_t *bits, size_t bits_length)
+{
+    if (is_fault("mends_with_too_few_places") && bits_length + 1 == words_length)
+        words_length--;
+    uint32_t first = words_length > 0 ? words[0] : 0;
+    uint32_t number = __real_mortisevane_pocsag_mend(words, words_length, bits, bits_length);
+    if (number != 0 || words_length == 0)
+        return number;
+    if (is_fault("mends_the_parity_bit") && bits[0] == MORTISEVANE_REFUSED_BEYOND_REPAIR) {
+        words[0] ^= 1;
+        bits[0] = 1;
+    }
+    if (is_fault("clears_a_word_beyond_repair") && bits[0] == MORTISEVANE_REFUSED_BEYOND_REPAIR)
+        words[0] = 0;
+    if (is_fault("tells_two_bits_as_one") && bits[0] == 2)
+        bits[0] = 1;
+    if (is_fault("mends_one_bit_at_most") && bits[0] == 2) {
+        words[0] = first;
+        bits[0] = MORTISEVANE_REFUSED_BEYOND_REPAIR;
+    }
+    if (is_fault("clears_the_places_after_the_words") && bits_length > words_length)
+        bits[words_length] = 0;
+    return number;
+}
+
+/* The 20 bits of a stored word in the other order. */
+static uint32_t turned(uint32_t bits)
+{
+    uint32_t other = 0;
+    for (int place = 0; place < 20; place++)
+        other = other << 1 | (bits >> place & 1);
+    return other;
+}
+
+/* Whether something is told of the last word that was taken. */
+static int tells(const struct mortisevane_pocsag_heard *heard)
+{
+    return heard->number != 0 || heard->page.is_ended != 0;
+}
+
+STANDS_BEFORE(struct mortisevane_pocsag_heard, pocsag_hear, struct mortisevane_pocsag_reader reader,
+    const uint32_t *words, size_t words_length, uint32_t *lent, size_t lent_length)
+{
+    struct mortisevane_pocsag_heard heard
+        = __real_mortisevane_pocsag_hear(reader, words, words_length, lent, lent_length);
+    if (is_fault("takes_words_after_one_that_tells") && tells(&heard) && heard.taken < words_length)
+        heard.taken++;
+    if (is_fault("takes_fewer_words_and_tells_nothing") && !tells(&heard) && heard.taken > 1)
+        heard.taken--;
+    if (is_fault("hands_out_a_page_that_was_not_heard") && heard.page.number == MORTISEVANE_REFUSED_NO_SYNC)
+        heard.page.number = heard.page.words <= lent_length ? 0 : MORTISEVANE_REFUSED_TOO_LONG;
+    if (is_fault("keeps_a_page_that_ended") && heard.page.is_ended != 0 && heard.reader.is_open == 0)
+        heard.reader.address = heard.page.address;
+    if (is_fault("forgets_the_frame_of_an_address") && heard.reader.is_open != 0 && heard.reader.words == 0)
+        heard.reader.address &= ~(uint32_t)7;
+    if (is_fault("awaits_17_words") && heard.reader.left == 16)
+        heard.reader.left = 17;
+    if (is_fault("stores_a_word_too_many") && heard.reader.is_open != 0 && heard.reader.words < lent_length)
+        lent[heard.reader.words] = 0;
+    if (is_fault("stores_a_word_of_21_bits") && heard.reader.words > reader.words && heard.reader.words <= lent_length)
+        lent[heard.reader.words - 1] |= 1u << 20;
+    if (is_fault("stores_words_as_they_are_sent") && heard.page.is_ended == 0 && heard.reader.is_open != 0)
+        for (size_t place = reader.is_open != 0 ? reader.words : 0; place < heard.reader.words; place++)
+            lent[place] = turned(lent[place]);
+    if (is_fault("goes_on_without_a_sync_word") && heard.number == MORTISEVANE_REFUSED_NO_SYNC)
+        heard.reader.left = 15;
+    if (is_fault("tells_a_page_though_none_ended") && heard.page.is_ended == 0)
+        heard.page.words = heard.reader.words;
+    if (is_fault("changes_the_reader_by_no_word") && words_length == 0)
+        heard.reader.mended++;
+    return heard;
+}
+
+STANDS_BEFORE(struct mortisevane_pocsag_page, pocsag_close, struct mortisevane_pocsag_reader reader)
+{
+    struct mortisevane_pocsag_page page = __real_mortisevane_pocsag_close(reader);
+    if (is_fault("hands_out_a_page_at_the_close") && page.number == MORTISEVANE_REFUSED_NO_SYNC)
+        page.number = 0;
+    if (is_fault("tells_a_long_page_at_the_close") && reader.fault == MORTISEVANE_REFUSED_TOO_LONG)
+        page.number = MORTISEVANE_REFUSED_TOO_LONG;
+    if (is_fault("closes_a_page_that_is_not_open") && reader.is_open == 0)
+        page.address = reader.address;
+    return page;
+}
+
+STANDS_BEFORE(struct mortisevane_pocsag_text, pocsag_read, uint32_t kind, const uint32_t *words, size_t words_length,
+    uint8_t *text, size_t text_length)
+{
+    struct mortisevane_pocsag_text read
+        = __real_mortisevane_pocsag_read(kind, words, words_length, text, text_length);
+    if (is_fault("reads_a_kind_that_is_none") && kind == 3)
+        read = __real_mortisevane_pocsag_read(2, words, words_length, text, text_length);
+    if (is_fault("loses_the_first_zero_of_a_pocsag_page") && kind < 2 && read.characters > 0 && text[0] == '0')
+        text[0] = ' ';
+    if (is_fault("counts_no_eot_as_fill") && kind == 2 && read.fill_at_end > 0 && text[read.characters - 1] == 4)
+        read.fill_at_end = 0;
+    if (is_fault("counts_a_space_as_fill_of_a_text") && kind == 2 && read.characters > 0 && text[read.characters - 1] == ' ')
+        read.fill_at_end = 1;
+    if (is_fault("tells_1_before_10") && read.number == MORTISEVANE_REFUSED_DAMAGED && text_length < 5 * words_length)
+        read.number = MORTISEVANE_REFUSED_ROOM;
+    return read;
 }
 
 STANDS_BEFORE(struct mortisevane_frames, frames_listened, struct mortisevane_listeners listeners)

@@ -120,10 +120,13 @@ struct memory {
     uint8_t *before;
 };
 
-/* What exports are lent: texts and words to read, room to write in, the buffer of chains, the words of calls. */
-extern struct memory read_memory, write_memory, chain_memory, call_memory;
+/*
+ * What exports are lent: texts and words to read, room to write in, the buffer of chains, the words of calls, the words
+ * of POCSAG pages.
+ */
+extern struct memory read_memory, write_memory, chain_memory, call_memory, pocsag_memory;
 
-enum { MEMORY_COUNT = 4 };
+enum { MEMORY_COUNT = 5 };
 extern struct memory *const memories[MEMORY_COUNT];
 
 /* Fills a memory whose three parts are there with random bytes. */

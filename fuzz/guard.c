@@ -14,7 +14,7 @@
 #include "guard.h"
 
 static const char *const memory_names[MEMORY_COUNT] = { "what is lent for reading", "what is lent for writing",
-    "the buffer of chains", "the words of calls" };
+    "the buffer of chains", "the words of calls", "the words of POCSAG pages" };
 
 static void must(bool done, const char *what)
 {

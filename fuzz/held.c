@@ -4,8 +4,8 @@
 
 #include "fuzz.h"
 
-/* 01 has refusals 1 to 18 and 02's first item 19 to 21; 0 is for none. */
-enum { REFUSAL_COUNT = MORTISEVANE_REFUSED_DIGIT_AFTER_LETTER };
+/* 01 has refusals 1 to 18, 02's first item 19 to 21 and its fifth 25 and 26; 0 is for none. */
+enum { REFUSAL_COUNT = MORTISEVANE_REFUSED_NO_SYNC };
 
 struct exported {
     const char *name;

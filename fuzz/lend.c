@@ -4,9 +4,9 @@
  */
 #include "fuzz.h"
 
-struct memory read_memory, write_memory, chain_memory, call_memory;
+struct memory read_memory, write_memory, chain_memory, call_memory, pocsag_memory;
 
-struct memory *const memories[MEMORY_COUNT] = { &read_memory, &write_memory, &chain_memory, &call_memory };
+struct memory *const memories[MEMORY_COUNT] = { &read_memory, &write_memory, &chain_memory, &call_memory, &pocsag_memory };
 
 void fill_memory(struct memory *memory)
 {
