@@ -127,6 +127,11 @@ fn state() -> String {
             size_of::<exports::Mirror>(),
             size_of::<second::mirror::Mirror>(),
         ),
+        (
+            "reader of POCSAG words",
+            size_of::<exports::PocsagReader>(),
+            size_of::<second::pocsag::reader::Reader>(),
+        ),
     ];
     let lines = rows.map(|(name, own, other)| format!("| {name} | {own} | {other} |\n"));
     let head = "\n## Bytes of state\n\n| state | library | second program |\n|---|--:|--:|\n";
@@ -136,6 +141,7 @@ fn state() -> String {
         ("call_open", size_of::<exports::CallOpening>()),
         ("call_hear", size_of::<exports::CallHearing>()),
         ("call_end", size_of::<exports::FrameEnd>()),
+        ("pocsag_hear", size_of::<exports::PocsagHeard>()),
     ];
     let answers = answers.map(|(name, size)| format!("`{name}` {size}"));
     format!(

@@ -26,7 +26,7 @@ const fn glance(
     }
 }
 
-const GLANCES: [Glance; 8] = [
+const GLANCES: [Glance; 9] = [
     glance(
         "a CAPCODE of 8 bytes is read",
         "capcodes",
@@ -74,6 +74,12 @@ const GLANCES: [Glance; 8] = [
         "joining",
         "chain_step",
         AGAINST_SECOND,
+    ),
+    glance(
+        "a batch of POCSAG with a page of 15 words is heard",
+        "pocsag",
+        "pocsag_hear",
+        "a batch with a page of 15 words",
     ),
 ];
 

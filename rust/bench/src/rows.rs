@@ -11,6 +11,7 @@ mod joining;
 mod mirror;
 mod packets;
 mod pages;
+mod pocsag;
 mod sums;
 mod worst;
 
@@ -29,6 +30,7 @@ pub fn all(measure: &mut Measure) {
     fragments::rows(measure);
     chains::rows(measure);
     calls::rows(measure);
+    pocsag::rows(measure);
     worst::rows(measure);
     growth::rows(measure);
     joining::rows(measure);

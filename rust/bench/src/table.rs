@@ -55,7 +55,7 @@ const fn section(group: &'static str, title: &'static str, about: &'static str) 
     }
 }
 
-const OPERATIONS: [Section; 11] = [
+const OPERATIONS: [Section; 12] = [
     section("addresses", "Addresses", ""),
     section(SIXTEEN, "Each of sixteen addresses", ""),
     section("capcodes", "CAPCODEs", ""),
@@ -67,6 +67,12 @@ const OPERATIONS: [Section; 11] = [
     section("fragments", "Fragments", ""),
     section("chains", "Chains", ""),
     section("calls", "Calls", ""),
+    section(
+        "pocsag",
+        "POCSAG pages",
+        "The library mends words by its table. The second program tries every choice of at most two bits, so that its figures\n\
+         say little of mending; those of `pocsag_read` are of the same work.",
+    ),
 ];
 
 /// What the sixteen addresses cost in all.
@@ -224,8 +230,8 @@ memory that they were lent. Instructions are those of one call, from the operati
 calls. Each is called through its own symbol, so that neither is taken apart into its caller.
 
 The second program changes state in place. The library takes it by value and gives it back by value, so for `chain_step`,
-`chain_drop`, `call_open`, `call_hear` and `call_end` what its caller does is counted too: the records copied in, and those
-of the answer copied back. The second program allocates where the library works in lent memory; that is its cost.
+`chain_drop`, `call_open`, `call_hear`, `call_end` and `pocsag_hear` what its caller does is counted too: the records copied
+in, and those of the answer copied back. The second program allocates where the library works in lent memory; that is its cost.
 
 The aim: no operation over 1.2 times the second program's instructions; joining a text within 1.5 times a plain copy of its
 bytes plus its sums; at most 2 KiB of stack. `tools/bench chains` shows the rows of one group alone.
