@@ -1,4 +1,4 @@
--- A page that is sent and handed out, worked; which addresses have the sync or the idle word; and that each premise of the theorem is needed.
+-- A page that is sent and handed out, worked; which addresses have the sync or the idle word; and what the premises of the theorem are for.
 use Prim.Native.Nat.{ℕ, _+_, _*_, _/_, _^_, _<_}
 use mathlib.Core.Bool.{true, false}
 use mathlib.Core.List.{List, [], _∷_, _++_, map}
@@ -113,7 +113,7 @@ sample-sent =
 pub sample-text : filled 0 sample ≡ bytesOf "0417 "
 sample-text = refl
 
--- ---- each premise is needed
+-- ---- what the premises are for, shown of single words and single ends of pages
 
 -- in another frame a word tells another address
 pub other-frame : addressIn 16 (addressWord 1235 0) ≡ 1232
