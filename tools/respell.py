@@ -61,9 +61,13 @@ def is_goal(signature):
     return bool(re.search(r":\s*tie\.|:\s*goal\.|statement\b", signature))
 
 
+# What the toolchain's library has under the same name.
+KEPT = ("and-true", "and-false")
+
+
 def wanted(name):
     """Whether the name has another spelling today. Names with other than letters, digits, dashes and `'` stay."""
-    if not re.fullmatch(r"[a-z][A-Za-z0-9_'-]*", name):
+    if name in KEPT or not re.fullmatch(r"[a-z][A-Za-z0-9_'-]*", name):
         return False
     return name != snake(name)
 

@@ -1,6 +1,6 @@
 -- The words of a call over a run within a frame: what came for each of its places, in the order of the message (document 01, "Calls in a frame").
 use Prim.Native.Nat.{ℕ, ◌+◌, ◌%◌, ◌≤◌, ◌<◌}
-use mathlib.Core.Bool.{Bool, true, false, ◌&&◌, and_false, and_comm, false≢true}
+use mathlib.Core.Bool.{Bool, true, false, ◌&&◌, and-false, and_comm, false≢true}
 use mathlib.Core.List.{List, [], ◌∷◌, map}
 use mathlib.Core.Logic.{⊎_elim}
 use mathlib.Core.Path.{◌≡◌, refl, sym, ap, ◌∙◌}
@@ -112,7 +112,7 @@ module _ (c : Call) (s : State) (r : Ready c s) (n : ℕ) where
       sym (word_at c (memory_after s.calls s.memory n) k inside)
       ∙ ap (λ (words : List ℕ). get_or words k 0) (kept_by_vector taken is)
       ∙ word_at c s.memory k inside
-      ∙ rw (is, taken, and_false))
+      ∙ rw (is, taken, and-false))
       (λ none.
       ap (λ (memory : List ℕ). get_or memory at 0) (memory_word s.calls s.memory n taken none)
       ∙ given
@@ -122,7 +122,7 @@ module _ (c : Call) (s : State) (r : Ready c s) (n : ℕ) where
       (decided (is_for_vector s.calls n)))
       (λ refused.
       ap (λ (memory : List ℕ). get_or memory at 0) (refused_memory s.calls s.memory n (eqb-false (hear_number s.calls s.memory n) 0 refused))
-      ∙ rw (refused, and_false))
+      ∙ rw (refused, and-false))
       (decided (eqb (hear_number s.calls s.memory n) 0))
     where
       at : ℕ
@@ -147,9 +147,9 @@ module _ (c : Call) (s : State) (r : Ready c s) where
       → let at = place_of c + k in
       get_or (after s e).memory at 0
       ≡ pick (leb lacking (get_or s.memory at 0) && taken_at s e c.phase (get_or (numbers_of c) k 0)) (bits_in e) (get_or s.memory at 0)
-  word_after (addressed n) k inside = rw and_false
+  word_after (addressed n) k inside = rw and-false
   word_after (heard n) k inside = heard_at c s r n k inside
-  word_after ended k inside = rw and_false
+  word_after ended k inside = rw and-false
 
   -- a word that has come stays
   pub come_stays : (e : Event) (k : ℕ) → k < c.words → get_or s.memory (place_of c + k) 0 < lacking

@@ -1,6 +1,6 @@
 -- What document 01 promises of packets and of an end of frame: what is accepted, what a refusal leaves, that the records stay sound and that open calls stay.
 use Prim.Native.Nat.{ℕ, ◌≤◌, ◌<◌}
-use mathlib.Core.Bool.{Bool, true, false, not, ◌&&◌, ◌||◌, and_false, or-true, true≢false}
+use mathlib.Core.Bool.{Bool, true, false, not, ◌&&◌, ◌||◌, and-false, or-true, true≢false}
 use mathlib.Core.List.{List, [], ◌∷◌, ◌++◌}
 use mathlib.Core.Logic.{◌↔◌, ◌⊎◌, inl, inr, ⊎_elim}
 use mathlib.Core.Path.{◌≡◌, refl, sym, ap, ◌∙◌}
@@ -295,7 +295,7 @@ module _ (s : Calls) (memory : List ℕ) (n : ℕ) where
                 (heard_passes v.vectored.heard
                 ∙ picks_first (is_for_vector s n) _ (word_told s memory (message_in n)) v.vectored.is_vector_lem
                 ∙ passes (not (has_vector c) && not (vector_fits c (vector_of n))) refusals.Size _
-                (rw ((vector_fits_lem c (vector_of n)).1 v.good) (and_false (not (has_vector c))))
+                (rw ((vector_fits_lem c (vector_of n)).1 v.good) (and-false (not (has_vector c))))
                 ∙ passes (has_vector c) refusals.OutOfTurn _ v.vectored.first
                 ∙ passes (is_short memory) refusals.Room _ (le-ltb (length memory) 680 v.room)),
             v.vectored.is_vector_lem,
@@ -347,7 +347,7 @@ module _ (s : Calls) (memory : List ℕ) (n : ℕ) where
             ap number_told
                 (heard_passes w.heard
                 ∙ picks_second (is_for_vector s n) (vector_told s memory (vector_place s n) (vector_call s n) (vector_of n)) _ w.no_vector
-                ∙ passes (is_held (opens s) m && not (is_lacked (opens s) m memory)) refusals.OutOfTurn _ (rw w.lacked (and_false (is_held (opens s) m)))
+                ∙ passes (is_held (opens s) m && not (is_lacked (opens s) m memory)) refusals.OutOfTurn _ (rw w.lacked (and-false (is_held (opens s) m)))
                 ∙ passes (not (is_held (opens s) m)) refusals.NoCall _ (ap not is_held_lem)
                 ∙ passes (is_short memory) refusals.Room _ (le-ltb (length memory) 680 w.room)),
             w.no_vector,

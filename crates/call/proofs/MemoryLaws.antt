@@ -1,6 +1,6 @@
 -- The words of calls in lent memory: a message word goes to every call that lacks it, and changes nothing else (document 01, "Calls in a frame").
 use Prim.Native.Nat.{ℕ, zero, suc, ◌+◌, ◌*◌, ◌/◌, ◌%◌, ◌^◌, ◌≤◌, ◌<◌}
-use mathlib.Core.Bool.{Bool, true, false, ◌&&◌, and_false, or_comm}
+use mathlib.Core.Bool.{Bool, true, false, ◌&&◌, and-false, or_comm}
 use mathlib.Core.List.{List, [], ◌∷◌}
 use mathlib.Core.Logic.{⊎_elim}
 use mathlib.Core.Path.{◌≡◌, refl, sym, ap, ◌∙◌}
@@ -138,7 +138,7 @@ module _ (c : Call) (m : Message) (memory : List ℕ) where
       (decided (ltb (place_of c + k) (length memory))))
       (λ other.
       offered_other (place_of c + k) 0 (there (eqb-false number m.word other))
-      ∙ rw (other, and_false))
+      ∙ rw (other, and-false))
       (decided (eqb number m.word))
     where
       number : ℕ
@@ -161,7 +161,7 @@ module _ (c : Call) (m : Message) (memory : List ℕ) where
           → get_or (offered c m memory) (place_of c + k) 0 ≡ pick (goes_to c k m memory) m.bits (get_or memory (place_of c + k) 0)
       nowhere out =
           let none : get_or memory (place_of c + k) 0 ≡ 0 = get_or-eq_default memory 0 out in
-          get_or-eq_default (offered c m memory) 0 (rw (offered_length m c memory) out) ∙ rw (none, and_false)
+          get_or-eq_default (offered c m memory) 0 (rw (offered_length m c memory) out) ∙ rw (none, and-false)
 
       there : (number ≡ m.word → ⊥) → holds_word c m ≡ true → place_of c + k ≡ word_place c m → ⊥
       there other held same =
@@ -318,12 +318,12 @@ module _ (m : Message) (memory : List ℕ) where
       -- what a call has stays
       pub has-stays : let at = place_of (get_or row i blank) + k in
           get_or memory at 0 < lacking → get_or (given_to row m memory) at 0 ≡ get_or memory at 0
-      has-stays less = word-given ∙ rw (lt-leb lacking (get_or memory (place_of (get_or row i blank) + k) 0) less, and_false)
+      has-stays less = word-given ∙ rw (lt-leb lacking (get_or memory (place_of (get_or row i blank) + k) 0) less, and-false)
 
       -- a word of another number stays
       pub other_number : let at = place_of (get_or row i blank) + k in
           (get_or (numbers_of (get_or row i blank)) k 0 ≡ m.word → ⊥) → get_or (given_to row m memory) at 0 ≡ get_or memory at 0
-      other_number other = word-given ∙ rw (ne_eqb (get_or (numbers_of (get_or row i blank)) k 0) m.word other, and_false)
+      other_number other = word-given ∙ rw (ne_eqb (get_or (numbers_of (get_or row i blank)) k 0) m.word other, and-false)
 
       -- a call of another phase keeps its words
       pub other_phase : let at = place_of (get_or row i blank) + k in

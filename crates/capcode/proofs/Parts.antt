@@ -1,6 +1,6 @@
 -- The two numbers of a text, before and after the letter: those of a sayable CAPCODE go on at each digit, and those that go on are of a sayable one.
 use Prim.Native.Nat.{ℕ, zero, suc, ◌+◌, ◌*◌, ◌/◌, ◌%◌, ◌^◌, ◌≤◌, ◌<◌}
-use mathlib.Core.Bool.{Bool, true, false, ◌&&◌, ◌||◌, and_false}
+use mathlib.Core.Bool.{Bool, true, false, ◌&&◌, ◌||◌, and-false}
 use mathlib.Core.Path.{◌≡◌, refl, sym, ap, ◌∙◌}
 use mathlib.Core.Logic.{◌⊎◌, inl, inr}
 use native.Mathlib.Nat.{pow-suc}
@@ -21,7 +21,7 @@ use Rattle.laws.proofs.Tests.{first_of, second_of, other_of, either_of, only}
 framed_only : (letter : ℕ) → framed letter ≡ true → standard letter ≡ false
 framed_only letter e =
     let high : 85 ≤ letter = leb-true 85 letter (first_of _ _ e) in
-    rw (lt-leb letter 76 (omega arith)) (and_false (leb 65 letter))
+    rw (lt-leb letter 76 (omega arith)) (and-false (leb 65 letter))
 
 -- which letters may follow how many digits
 pub data Lettered : ℕ → ℕ → Type 0 where

@@ -1,6 +1,6 @@
 -- First words: how large their numbers are, and what they make.
 use Rattle.std.proofs.Common.{◌≡◌, ℕ, zero, suc, ◌+◌, ◌-◌, ◌*◌, ◌%◌, ◌<◌, true, false, ◌&&◌, eqb, ltb, [], ◌∷◌, ◌++◌, sym, ◌∙◌, zero-add, arith, ltb-true, lt-ltb, eq-eqb, ne_eqb}
-use mathlib.Core.Bool.{and_true}
+use mathlib.Core.Bool.{and-true}
 use Rattle.laws.specs.Choice.{pick}
 use Rattle.laws.specs.Layouts.{fit, packed}
 use Rattle.laws.proofs.Layouts.{packed_is}
@@ -21,7 +21,7 @@ continued_small (suc left) = rw (no_first left) (omega arith)
 module _ (marks : Marks) (good : marked marks ≡ true) where
   -- what the question says
   each : (ltb marks.mail_drop 2 && ltb marks.retrieval 2 && ltb marks.message_number 64) ≡ true
-  each = sym (and_true _) ∙ sym (and_true _) ∙ sym (and_true _) ∙ good
+  each = sym (and-true _) ∙ sym (and-true _) ∙ sym (and-true _) ∙ good
 
   -- M, R and N fit their bits
   pub marks_small : (marks.mail_drop < 2) × (marks.retrieval < 2) × (marks.message_number < 64)

@@ -19,7 +19,7 @@ module _ (test : ℕ → Bool) where
   pub last_append : (n : ℕ) (row more : List ℕ) → last_after test n (row ++ more) ≡ last_after test (last_after test n row) more
   unfolding last_after
   last_append n [] more = refl
-  last_append n (x ∷ row) more = last_append _ row more
+  last_append n (x ∷ row) more = last_append (pick (test x) (suc n) 0) row more
 
   -- a number more is one of the last ones more where it passes, and else there are none
   pub last_grow : (row : List ℕ) (k : ℕ) → k < length row

@@ -1,6 +1,6 @@
 -- Rows: a test of all, also number by number from the front, a search, a sum.
 use Prim.Native.Nat.{ℕ, zero, suc, ◌+◌, ◌*◌, ◌≤◌, ◌<◌}
-use mathlib.Core.Bool.{Bool, true, false, ◌&&◌, and_assoc, and_true, and-eq-true_iff}
+use mathlib.Core.Bool.{Bool, true, false, ◌&&◌, and_assoc, and-true, and-eq-true_iff}
 use mathlib.Core.List.{List, [], ◌∷◌, ◌++◌, map}
 use mathlib.Core.Logic.{⊎_elim}
 use mathlib.Core.Path.{◌≡◌, refl, sym, ap, ◌∙◌}
@@ -86,7 +86,7 @@ module _ (test : ℕ → Bool) (row : List ℕ) (i : ℕ) where
   -- when all have been asked, what was found so far is found
   pub all_done : (so : Bool) → length row ≤ i → so ≡ (so && all test (drop i row))
   unfolding all
-  all_done so done = rw (drop_of_length-le row done) (sym (and_true so))
+  all_done so done = rw (drop_of_length-le row done) (sym (and-true so))
 
   -- where all from a place on pass, the number there does, and all after it do
   pub all_next : i < length row → all test (drop i row) ≡ true → (test (get_or row i 0) ≡ true) × (all test (drop (i + 1) row) ≡ true)

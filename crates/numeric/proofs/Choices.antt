@@ -1,6 +1,6 @@
 -- What 02, item 6 promises of numeric pages: the choice of set, and where filling starts.
 use Prim.Native.Nat.{ℕ, ◌+◌, ◌-◌, ◌≤◌}
-use mathlib.Core.Bool.{Bool, true, false, not, and_false}
+use mathlib.Core.Bool.{Bool, true, false, not, and-false}
 use mathlib.Core.List.{List, [], ◌∷◌, ◌++◌, map, append_assoc}
 use mathlib.Core.Path.{◌≡◌, refl, ap, ◌∙◌}
 use native.Mathlib.Nat.{zero-add}
@@ -57,7 +57,7 @@ foreign_refused set lent kind numbering before after c foreign head short =
       le-ltb (room_of (is_numbered kind) most_words) (length (before ++ c ∷ after)) short,
       all_append (λ (d : ℕ). ltb (place_in set d) (length set)) before (c ∷ after),
       foreign,
-      and_false (all (λ (d : ℕ). ltb (place_in set d) (length set)) before),
+      and-false (all (λ (d : ℕ). ltb (place_in set d) (length set)) before),
     )
 
 -- ---- the choice

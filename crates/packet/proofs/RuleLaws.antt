@@ -1,6 +1,6 @@
 -- What document 01 promises of what is sent: which packets may be sent, and which are refused.
 use Prim.Native.Nat.{ℕ, zero, suc, ◌-◌, ◌^◌, ◌≤◌, ◌<◌}
-use mathlib.Core.Bool.{Bool, true, false, not, ◌&&◌, ◌||◌, beq, and_false, true≢false}
+use mathlib.Core.Bool.{Bool, true, false, not, ◌&&◌, ◌||◌, beq, and-false, true≢false}
 use mathlib.Core.List.{List, [], ◌∷◌}
 use mathlib.Core.Logic.{⊎_elim}
 use mathlib.Core.Path.{◌≡◌, refl, ap, ap₂, sym, ◌∙◌}
@@ -92,7 +92,7 @@ same_tests (x ∷ xs) (y ∷ ys) t =
 
 -- an ID above the last of a row of IDs is none of them
 above_last : (first last id : ℕ) → last < id → among first last id ≡ false
-above_last first last id h = rw (lt-leb id last h) (and_false (leb first id))
+above_last first last id h = rw (lt-leb id last h) (and-false (leb first id))
 
 -- a number of more than 32 bits is no packet: its ID is none of those that the rule names
 beyond : (id : ℕ) → 256 ≤ id → never_sent id ∷ asks id ≡ false ∷ no_table
@@ -228,14 +228,14 @@ failed_stays (test ∷ tests) = failed_stays tests
 
 one_failed : (so : Bool) (tests : List Bool) (place : ℕ) → get_or tests place true ≡ false → every_after so tests ≡ false
 one_failed so [] place e = absurd (true≢false e)
-one_failed so (test ∷ tests) zero e = rw (e, and_false so) (failed_stays tests)
+one_failed so (test ∷ tests) zero e = rw (e, and-false so) (failed_stays tests)
 one_failed so (test ∷ tests) (suc place) e = one_failed (so && test) tests place e
 
 -- a packet is not sent where the table at a place is asked for and not met
 not_met : (n place : ℕ) → get_or (met (asks (id_of n)) (shown n)) place true ≡ false → send_of n ≡ 7
 not_met n place e =
     ap (λ (right : Bool). number_unless refusals.Packet (not (never_sent (id_of n)) && right)) (one_failed true (met (asks (id_of n)) (shown n)) place e)
-    ∙ rw (and_false (not (never_sent (id_of n))))
+    ∙ rw (and-false (not (never_sent (id_of n))))
 
 asked_not_met : (ask see : Bool) → ask ≡ true → see ≡ false → implies ask see ≡ false
 asked_not_met ask see a s = rw (a, s)

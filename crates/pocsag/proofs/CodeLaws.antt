@@ -1,6 +1,6 @@
 -- What the code of POCSAG can be relied on for (02, item 5): which words are sent, what the table has of one or two wrong bits, and what is mended.
 use Prim.Native.Nat.{ℕ, zero, suc, ◌+◌, ◌*◌, ◌/◌, ◌%◌, ◌^◌, ◌≤◌, ◌<◌}
-use mathlib.Core.Bool.{Bool, true, false, not, ◌&&◌, ◌||◌, and_true, and_false}
+use mathlib.Core.Bool.{Bool, true, false, not, ◌&&◌, ◌||◌, and-true, and-false}
 use mathlib.Core.List.{[], ◌∷◌}
 use mathlib.Core.Logic.{◌⊎◌, ◌↔◌, ⊎_elim, inl, inr}
 use mathlib.Core.Path.{◌≡◌, refl, sym, ap, ap₂, ◌∙◌}
@@ -179,7 +179,7 @@ pair_named n few =
     ⊎_elim
     (λ zeros. let none : wrong_bits remainder ≡ 0 = eqb-true _ _ zeros in
     let no_bits : names_bits entry ≡ false =
-    sym (and_true (names_bits entry))
+    sym (and-true (names_bits entry))
     ∙ ap (λ (t : Bool). names_bits entry && t) (sym (eq-eqb _ _ (ap remainder_of found.1)))
     ∙ none_named remainder none entry (at_place_most remainder) in
     ap bits_named (none ∙ sym (eqb→eq entry 0 (rw no_bits at found.0))) ∙ found.1)
@@ -205,8 +205,8 @@ nothing_stands : (remainder : ℕ)
 nothing_stands remainder =
     let nothing : remainder_of (bits_named 0) ≡ 0 = divided_small 21 0 (omega arith) in
     ⊎_elim
-    (λ zeros. rw (eqb-true (wrong_bits remainder) 0 zeros, nothing, xor_zero_r remainder) (and_true (not (eqb remainder 0))))
-    (λ some. rw (its_remainder remainder some, xor_self remainder, some) (and_false (not (eqb remainder 0))))
+    (λ zeros. rw (eqb-true (wrong_bits remainder) 0 zeros, nothing, xor_zero_r remainder) (and-true (not (eqb remainder 0))))
+    (λ some. rw (its_remainder remainder some, xor_self remainder, some) (and-false (not (eqb remainder 0))))
     (decided (eqb (wrong_bits remainder) 0))
 
 -- two questions with the same refusal are one

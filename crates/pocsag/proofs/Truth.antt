@@ -30,11 +30,11 @@ Truly said r lent = is_whole r ≡ true → (said ≡ whole r.address r.function
 
 -- a page with a fault is not whole
 faulty_not : (is_open fault : ℕ) → eqb fault 0 ≡ false → (not (eqb is_open 0) && eqb fault 0) ≡ false
-faulty_not is_open fault is = rw is (and_false (not (eqb is_open 0)))
+faulty_not is_open fault is = rw is (and-false (not (eqb is_open 0)))
   where
-    and_false : (b : Bool) → (b && false) ≡ false
-    and_false true = refl
-    and_false false = refl
+    and-false : (b : Bool) → (b && false) ≡ false
+    and-false true = refl
+    and-false false = refl
 
 -- a word beyond repair leaves no page whole
 damaged_truly : (left : ℕ) (r : PocsagReader) (lent : List ℕ) (so : Bool) → is_whole r ≡ so

@@ -25,11 +25,11 @@ use Rattle.pocsag_lister.proofs.Digits.{hex_small}
 -- whether all characters are digits, with one more
 all_more : (run : List ℕ) (byte : ℕ) → all is_hex (run ++ byte ∷ []) ≡ (all is_hex run && is_hex byte)
 unfolding all
-all_more [] byte = and_true (is_hex byte)
+all_more [] byte = and-true (is_hex byte)
   where
-    and_true : (test : Bool) → (test && true) ≡ test
-    and_true true = refl
-    and_true false = refl
+    and-true : (test : Bool) → (test && true) ≡ test
+    and-true true = refl
+    and-true false = refl
 all_more (first ∷ run) byte =
     ap (λ (test : Bool). is_hex first && test) (all_more run byte) ∙ and_three (is_hex first) (all is_hex run) (is_hex byte)
   where

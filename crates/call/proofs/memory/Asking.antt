@@ -1,6 +1,6 @@
 -- A message word at one call, as the code asks it.
 use Prim.Native.Nat.{ℕ, ◌+◌, ◌-◌, ◌*◌, ◌^◌, ◌≤◌, ◌<◌}
-use mathlib.Core.Bool.{Bool, true, false, ◌&&◌, and_true, and_false}
+use mathlib.Core.Bool.{Bool, true, false, ◌&&◌, and-true, and-false}
 use mathlib.Core.List.{List}
 use mathlib.Core.Logic.{⊎_elim}
 use mathlib.Core.Path.{◌≡◌, sym, ap, ◌∙◌}
@@ -20,11 +20,11 @@ use Rattle.call.proofs.Spans.{numbers_length, numbers_none}
 
 -- a second test that holds asks nothing more
 asks_no_more : (a b x y : Bool) → b ≡ true → x ≡ y → (a && b && x) ≡ (a && y)
-asks_no_more a b x y holding same = rw (holding, same, and_true a)
+asks_no_more a b x y holding same = rw (holding, same, and-true a)
 
 -- a second test that fails decides
 decides : (a b x y : Bool) → b ≡ false → y ≡ false → (a && b && x) ≡ (a && y)
-decides a b x y failing none = rw (failing, none, and_false a)
+decides a b x y failing none = rw (failing, none, and-false a)
 
 module _ (c : Call) (m : Message) where
   -- a call holds a word exactly if it has its vector and the word's position is below the number of its words

@@ -1,6 +1,6 @@
 -- An answer of words, compared with one word or two.
 use Prim.Native.Nat.{ℕ}
-use mathlib.Core.Bool.{Bool, false, ◌&&◌, and_true, and_false}
+use mathlib.Core.Bool.{Bool, false, ◌&&◌, and-true, and-false}
 use mathlib.Core.Path.{◌≡◌, ap, sym, ◌∙◌}
 use mathlib.Core.List.{List, [], ◌∷◌}
 use lib.Dec.{eqb}
@@ -21,15 +21,15 @@ refused_gives r words = rw (ne_eqb (number_of r) 0 (λ e. omega (arith, number_p
 -- an answer is one word exactly if it gives that word and no more
 pub one_gives : (w : Worded) (word : ℕ) → gives (told_worded w) (word ∷ []) ≡ is_one w word
 unfolding same
-one_gives (Worded.One w) word = and_true (eqb w word)
-one_gives (Worded.Two a b) word = and_false (eqb a word)
+one_gives (Worded.One w) word = and-true (eqb w word)
+one_gives (Worded.Two a b) word = and-false (eqb a word)
 one_gives (Worded.Refused r) word = refused_gives r (word ∷ [])
 
 -- an answer is two words exactly if it gives these two and no more
 pub pair_gives : (w : Worded) (first second : ℕ) → gives (told_worded w) (first ∷ second ∷ []) ≡ is_pair w first second
 unfolding same
-pair_gives (Worded.One w) first second = and_false (eqb w first)
-pair_gives (Worded.Two a b) first second = ap (◌&&◌ (eqb a first)) (and_true (eqb b second))
+pair_gives (Worded.One w) first second = and-false (eqb w first)
+pair_gives (Worded.Two a b) first second = ap (◌&&◌ (eqb a first)) (and-true (eqb b second))
 pair_gives (Worded.Refused r) first second = refused_gives r (first ∷ second ∷ [])
 
 -- the way back's last question, answered by the words looked up
