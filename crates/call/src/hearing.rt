@@ -17,7 +17,7 @@ use refusal::Refusal;
 
 // What a packet makes of the calls, in numbers, so that one function alone makes the records anew: the answer; and where
 // the answer is 9 the place of the call that is closed, where it is a vector's the place of its call and the record then.
-#[derive(Drop)]
+#[derive(Clone, Copy)]
 struct Turn {
     answer: CallHeard,
     place: usize,

@@ -50,7 +50,7 @@ pub const LACKING: u32 = 0x20_0000;
 // and K, the word number b where the message words begin (a long call's second), how many words there are (0 where
 // the vector brings none), and which area of the lent memory holds them.
 #[repr(C)]
-#[derive(Drop)]
+#[derive(Clone, Copy)]
 pub struct Call {
     pub phase: u32,
     pub vector: u32,
@@ -82,7 +82,7 @@ pub const BLANK: Call = Call {
 
 // The records. The first `size` of them are the open calls, in the order opened; a size of 8 or more says that all are.
 #[repr(C)]
-#[derive(Drop)]
+#[derive(Clone, Copy)]
 pub struct Calls {
     pub size: usize,
     pub calls: [Call; MOST_CALLS],
@@ -91,7 +91,7 @@ pub struct Calls {
 // What is told of an address packet: 01's number; `opened`, 1 where it opened a call, with the call's place among the
 // open ones (a tone-only address opens none); and what the packet says. What is not told is 0.
 #[repr(C)]
-#[derive(Drop)]
+#[derive(Clone, Copy)]
 pub struct CallOpened {
     pub number: u32,
     pub opened: u32,
@@ -101,7 +101,7 @@ pub struct CallOpened {
 
 // The answer to an address packet, and the records then.
 #[repr(C)]
-#[derive(Drop)]
+#[derive(Clone, Copy)]
 pub struct CallOpening {
     pub answer: CallOpened,
     pub calls: Calls,
@@ -111,7 +111,7 @@ pub struct CallOpening {
 // call's place among the open ones, the vector's kind and its K; and `completed`, the calls that it completed: bit i
 // for the call at place i, so that the lowest bit is the one opened first. What is not told is 0.
 #[repr(C)]
-#[derive(Drop)]
+#[derive(Clone, Copy)]
 pub struct CallHeard {
     pub number: u32,
     pub is_vector: u32,
@@ -123,7 +123,7 @@ pub struct CallHeard {
 
 // The answer to a vector or message packet, and the records then.
 #[repr(C)]
-#[derive(Drop)]
+#[derive(Clone, Copy)]
 pub struct CallHearing {
     pub answer: CallHeard,
     pub calls: Calls,
@@ -131,7 +131,7 @@ pub struct CallHearing {
 
 // The answer to an end of frame: 01's number, the calls that were incomplete, in the order opened, and the records then.
 #[repr(C)]
-#[derive(Drop)]
+#[derive(Clone, Copy)]
 pub struct FrameEnd {
     pub number: u32,
     pub incomplete: Calls,

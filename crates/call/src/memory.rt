@@ -12,7 +12,7 @@ use packet::Message;
 
 // What a message word finds among the open calls: whether the span of some call holds it, and whether some call still
 // lacks it.
-#[derive(Drop)]
+#[derive(Clone, Copy)]
 pub struct Asked {
     pub held: bool,
     pub lacked: bool,

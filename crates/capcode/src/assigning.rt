@@ -9,7 +9,7 @@ use crate::{AssignAnswer, Assignment, Capcode, Classed};
 use refusal::Refusal;
 
 // Whether a CAPCODE is one that may be used.
-#[derive(Drop)]
+#[derive(Clone, Copy)]
 pub enum Judged {
     Fine,
     Refused(Refusal),

@@ -38,7 +38,7 @@ use refusal::Refusal;
 pub use words::{pair_address, word_address, words_of};
 
 // What an accepted address is for: a row of Table 22, by 01's words.
-#[derive(Drop)]
+#[derive(Clone, Copy)]
 pub enum Class {
     Short,
     InformationService,
@@ -71,14 +71,14 @@ impl Class {
 }
 
 // The class of an address, or 5 where no accepted range holds it.
-#[derive(Drop)]
+#[derive(Clone, Copy)]
 pub enum Classed {
     In(Class),
     Refused(Refusal),
 }
 
 // The words of an address, as the decoder's address packets take them.
-#[derive(Drop)]
+#[derive(Clone, Copy)]
 pub enum Worded {
     One(u32),
     Two(u32, u32),
@@ -86,7 +86,7 @@ pub enum Worded {
 }
 
 // The address that words belong to.
-#[derive(Drop)]
+#[derive(Clone, Copy)]
 pub enum Addressed {
     Address(u64),
     Refused(Refusal),
@@ -95,7 +95,7 @@ pub enum Addressed {
 // What a CAPCODE says. The letter is its byte. `frame` is the three frame digits of U to Z; A to L have
 // none, and there it is 0. A collapse of 4 is what A to L mean where they have no digit. Both are wider than any that is
 // accepted, so that one too large is refused and not cut.
-#[derive(Drop)]
+#[derive(Clone, Copy)]
 pub struct Capcode {
     pub letter: u8,
     pub frame: u32,
@@ -104,14 +104,14 @@ pub struct Capcode {
 }
 
 // The phase and the base frame of a CAPCODE: phases A to D are 0 to 3 (S8.6.5), any-phase is 4.
-#[derive(Drop)]
+#[derive(Clone, Copy)]
 pub struct Assignment {
     pub phase: u8,
     pub frame: u8,
 }
 
 // The phase and base frame, or the refusal.
-#[derive(Drop)]
+#[derive(Clone, Copy)]
 pub enum AssignAnswer {
     Assigned(Assignment),
     Refused(Refusal),
@@ -119,7 +119,7 @@ pub enum AssignAnswer {
 
 // What a text says; or, of a text that is not in the form, the refusal and the place at which it goes wrong, 0 to 15; or the
 // refusal of the CAPCODE that it says.
-#[derive(Drop)]
+#[derive(Clone, Copy)]
 pub enum ReadAnswer {
     Whole(Capcode, Assignment),
     Wrong(Refusal, u8),
@@ -128,7 +128,7 @@ pub enum ReadAnswer {
 
 // What a person is told of a text: a row of the table of sentences in `refusal`, and a letter to write after the sentence, 0
 // where there is none.
-#[derive(Drop)]
+#[derive(Clone, Copy)]
 pub struct Advice {
     pub row: u32,
     pub letter: u8,
@@ -138,7 +138,7 @@ pub struct Advice {
 pub const LAST_OF_SEVEN: u64 = 2031614;
 
 // How many bytes were written, or the refusal.
-#[derive(Drop)]
+#[derive(Clone, Copy)]
 pub enum PrintAnswer {
     Length(usize),
     Refused(Refusal),

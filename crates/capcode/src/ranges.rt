@@ -6,7 +6,7 @@ use crate::{Class, Classed};
 use refusal::Refusal;
 
 // A range of addresses, both ends in it, and its class.
-#[derive(Drop)]
+#[derive(Clone, Copy)]
 pub struct Row {
     pub from: u64,
     pub to: u64,

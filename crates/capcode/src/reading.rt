@@ -10,7 +10,7 @@ use refusal::Refusal;
 
 // Where the reading of a text stands: how many digits came before the letter and their number, the letter
 // (0 while none came), how many digits came after it and their number.
-#[derive(Drop)]
+#[derive(Clone, Copy)]
 pub struct Reading {
     pub before: u32,
     pub number: u32,
@@ -20,7 +20,7 @@ pub struct Reading {
 }
 
 // One byte more: the reading goes on, or no correct text goes on so.
-#[derive(Drop)]
+#[derive(Clone, Copy)]
 pub enum Step {
     On(Reading),
     Stop,
@@ -28,7 +28,7 @@ pub enum Step {
 
 // A text in the form and what it says, or the first place at which no correct text could go on: the
 // text's length where it only stops too soon.
-#[derive(Drop)]
+#[derive(Clone, Copy)]
 pub enum Form {
     Says(Capcode),
     Wrong(usize),

@@ -9,7 +9,7 @@ use crate::{Addressed, Class, Classed, Worded};
 use refusal::Refusal;
 
 // The four lines of Table 24.
-#[derive(Drop)]
+#[derive(Clone, Copy)]
 pub enum Layout {
     OneWord,
     Words12,

@@ -7,7 +7,7 @@ use crate::{Chain, LAST_ADDRESS, LAST_FRAGMENT, LAST_MESSAGE, SLOTS, WHOLE_SUM};
 use fragment::MOST_CHARACTERS;
 
 // Eight slots, and whether they are sound.
-#[derive(Drop)]
+#[derive(Clone, Copy)]
 pub struct Judged {
     pub slots: [Chain; SLOTS],
     pub is_sound: bool,

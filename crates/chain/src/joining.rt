@@ -16,7 +16,7 @@ use refusal::Refusal;
 
 // Where a fragment goes: the slot of its key's open chain, its own, the chain before it, and whether an open chain of its
 // key was found. The records are not in it: each function that hands them on copies them.
-#[derive(Drop)]
+#[derive(Clone, Copy)]
 struct Turn {
     older: usize,
     slot: usize,

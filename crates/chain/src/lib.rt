@@ -47,7 +47,7 @@ pub const WHOLE_SUM: u32 = 127;
 // address number and its message number; it awaits the next F; `sum` is the sum modulo 128 of what came, the signature
 // with it, and `characters` the length of its text so far.
 #[repr(C)]
-#[derive(Drop)]
+#[derive(Clone, Copy)]
 pub struct Chain {
     pub is_open: u32,
     pub address: u32,
@@ -69,7 +69,7 @@ pub const BLANK: Chain = Chain {
 
 // The records of the eight slots. The text of slot i begins at byte 1,008 times i of the lent buffer.
 #[repr(C)]
-#[derive(Drop)]
+#[derive(Clone, Copy)]
 pub struct Chains {
     pub slots: [Chain; SLOTS],
 }
@@ -79,7 +79,7 @@ pub struct Chains {
 // fragment that was taken, with its R and M; `complete`, 1 where it hands out a text, with the slot, the place of the text in the
 // lent buffer and its length. What is not told is 0.
 #[repr(C)]
-#[derive(Drop)]
+#[derive(Clone, Copy)]
 pub struct ChainAnswer {
     pub number: u32,
     pub lost: u32,
@@ -94,7 +94,7 @@ pub struct ChainAnswer {
 
 // The answer to a fragment, and the records then.
 #[repr(C)]
-#[derive(Drop)]
+#[derive(Clone, Copy)]
 pub struct ChainStep {
     pub answer: ChainAnswer,
     pub chains: Chains,
@@ -102,14 +102,14 @@ pub struct ChainStep {
 
 // The answer to a drop, and the records then.
 #[repr(C)]
-#[derive(Drop)]
+#[derive(Clone, Copy)]
 pub struct ChainDrop {
     pub number: u32,
     pub chains: Chains,
 }
 
 // What becomes of a chain: the refusal with which it is lost, or 0, and its slot's record then.
-#[derive(Drop)]
+#[derive(Clone, Copy)]
 pub struct ChainFate {
     pub number: u32,
     pub chain: Chain,

@@ -43,7 +43,7 @@ pub const CELL_LIMIT: u32 = 128;
 // signature of a first fragment, 0 of others; the sum modulo 128 of all its characters, fill and signature with
 // them; and how many characters its text has. All are 0 after a refusal.
 #[repr(C)]
-#[derive(Drop)]
+#[derive(Clone, Copy)]
 pub struct FragmentRead {
     pub number: u32,
     pub continued: u32,
@@ -58,7 +58,7 @@ pub struct FragmentRead {
 
 // How many characters were written, or the refusal.
 #[repr(C)]
-#[derive(Drop)]
+#[derive(Clone, Copy)]
 pub struct TextRead {
     pub number: u32,
     pub characters: usize,
@@ -67,7 +67,7 @@ pub struct TextRead {
 // What the first fragment says of its message: N, the message number, 0 to 63; R, whether the pager expects its messages
 // to be numbered; M, whether it is a mail drop.
 #[repr(C)]
-#[derive(Drop)]
+#[derive(Clone, Copy)]
 pub struct Marks {
     pub message_number: u32,
     pub retrieval: u32,
@@ -77,7 +77,7 @@ pub struct Marks {
 // A text cut: how many fragments, and how many words they are together. Each but the last has the largest size. Both are 0
 // after a refusal.
 #[repr(C)]
-#[derive(Drop)]
+#[derive(Clone, Copy)]
 pub struct TextCut {
     pub number: u32,
     pub fragments: usize,

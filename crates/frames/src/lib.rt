@@ -23,7 +23,7 @@ const LAST_COLLAPSE: u32 = 5;
 // One address as far as frames go: its base frame and its collapse, wider than any that is accepted, so that one too
 // large is refused and not cut.
 #[repr(C)]
-#[derive(Drop)]
+#[derive(Clone, Copy)]
 pub struct Listener {
     pub frame: u32,
     pub collapse: u32,
@@ -31,28 +31,28 @@ pub struct Listener {
 
 // The addresses of a pager: of sixteen places the first `count` are looked at.
 #[repr(C)]
-#[derive(Drop)]
+#[derive(Clone, Copy)]
 pub struct Listeners {
     pub listeners: [Listener; 16],
     pub count: u32,
 }
 
 // The number of frames listened to, or the refusal.
-#[derive(Drop)]
+#[derive(Clone, Copy)]
 pub enum Listened {
     Frames(u32),
     Refused(Refusal),
 }
 
 // What is to be sent for a set of addresses: masks[i] is the sixteen AF bits of packet 20H + i. After a refusal they are 0.
-#[derive(Drop)]
+#[derive(Clone, Copy)]
 pub struct Listening {
     pub answer: Listened,
     pub masks: [u16; 8],
 }
 
 // The wait in frames, or the refusal.
-#[derive(Drop)]
+#[derive(Clone, Copy)]
 pub enum Awaited {
     Frames(u32),
     Refused(Refusal),

@@ -9,7 +9,7 @@ use capcode::{Addressed, Classed, Worded};
 
 // The class of an address, 1 to 9 by 01's rows.
 #[repr(C)]
-#[derive(Drop)]
+#[derive(Clone, Copy)]
 pub struct MortisevaneClass {
     pub number: u32,
     pub class: u32,
@@ -17,7 +17,7 @@ pub struct MortisevaneClass {
 
 // One word or two; `second` is 0 where there is none.
 #[repr(C)]
-#[derive(Drop)]
+#[derive(Clone, Copy)]
 pub struct MortisevaneWords {
     pub number: u32,
     pub count: u32,
@@ -27,7 +27,7 @@ pub struct MortisevaneWords {
 
 // An address.
 #[repr(C)]
-#[derive(Drop)]
+#[derive(Clone, Copy)]
 pub struct MortisevaneFound {
     pub number: u32,
     pub address: u64,

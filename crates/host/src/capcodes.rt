@@ -15,7 +15,7 @@ use refusal::Refusal;
 // that of the first byte, counted from 0, at which no correct text could go on: the text's length where it only stops too
 // soon, and 15 at most. Else it is 0.
 #[repr(C)]
-#[derive(Drop)]
+#[derive(Clone, Copy)]
 pub struct MortisevaneCapcode {
     pub number: u32,
     pub letter: u8,
@@ -29,7 +29,7 @@ pub struct MortisevaneCapcode {
 
 // A phase (0 to 3 for A to D, 4 for any-phase) and a base frame.
 #[repr(C)]
-#[derive(Drop)]
+#[derive(Clone, Copy)]
 pub struct MortisevaneAssignment {
     pub number: u32,
     pub phase: u8,
@@ -38,7 +38,7 @@ pub struct MortisevaneAssignment {
 
 // How many bytes of a lent buffer were written.
 #[repr(C)]
-#[derive(Drop)]
+#[derive(Clone, Copy)]
 pub struct MortisevaneLength {
     pub number: u32,
     pub length: usize,

@@ -9,7 +9,7 @@ use frames::{Awaited, Listened, Listeners, Listening};
 
 // The number of frames listened to, and the masks of packets 20H to 27H.
 #[repr(C)]
-#[derive(Drop)]
+#[derive(Clone, Copy)]
 pub struct MortisevaneFrames {
     pub number: u32,
     pub count: u32,
@@ -18,7 +18,7 @@ pub struct MortisevaneFrames {
 
 // A wait in frames.
 #[repr(C)]
-#[derive(Drop)]
+#[derive(Clone, Copy)]
 pub struct MortisevaneWait {
     pub number: u32,
     pub frames: u32,

@@ -13,7 +13,7 @@ use crate::{Fed, Lister, Written};
 
 // Where the listing of a portion stands: how many bytes of the present line are kept, whether a carriage
 // return is held back, how many bytes of the portion were taken and how many written.
-#[derive(Drop)]
+#[derive(Clone, Copy)]
 struct Course {
     count: usize,
     held: bool,
@@ -22,7 +22,7 @@ struct Course {
 }
 
 // Whether a line was written: the place after it, or nothing because its text is not an accepted one.
-#[derive(Drop)]
+#[derive(Clone, Copy)]
 enum Line {
     Written(usize),
     Other,

@@ -29,7 +29,7 @@ pub use starting::{start, title};
 // Where a listing stands inside a line: the line's first sixteen bytes (no correct text is longer than
 // fifteen), how many of them came, and whether a carriage return is held back: it is dropped if the line
 // ends right after it, and is a byte of the line if not.
-#[derive(Drop)]
+#[derive(Clone, Copy)]
 pub struct Lister {
     pub line: [u8; 16],
     pub count: usize,
@@ -37,14 +37,14 @@ pub struct Lister {
 }
 
 // How many bytes were written, or the refusal.
-#[derive(Drop)]
+#[derive(Clone, Copy)]
 pub enum Written {
     Length(usize),
     Refused(Refusal),
 }
 
 // What was done with a portion: where the listing stands, how many bytes were taken and how many written.
-#[derive(Drop)]
+#[derive(Clone, Copy)]
 pub struct Fed {
     pub lister: Lister,
     pub taken: usize,

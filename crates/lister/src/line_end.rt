@@ -12,7 +12,7 @@ use refusal::Refusal;
 
 // What stands after a text, with the end of its line: whether the text is accepted, how many bytes, and these; after
 // them 0.
-#[derive(Drop)]
+#[derive(Clone, Copy)]
 pub struct Verdict {
     pub is_accepted: bool,
     pub size: usize,

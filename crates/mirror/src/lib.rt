@@ -19,7 +19,7 @@ const DATA_VALUES: u32 = 0x100_0000;
 
 // The register, 24 bits; `talking` is 0 while the decoder sends nothing but its part ID.
 #[repr(C)]
-#[derive(Drop)]
+#[derive(Clone, Copy)]
 pub struct Mirror {
     pub register: u32,
     pub talking: u32,
@@ -28,7 +28,7 @@ pub struct Mirror {
 // The mirror after what was done; `number` is 0, or the refusal's. After a refusal the mirror is the one that was handed in;
 // `reset`, which is handed none, gives one of zeros.
 #[repr(C)]
-#[derive(Drop)]
+#[derive(Clone, Copy)]
 pub struct Mirrored {
     pub number: u32,
     pub mirror: Mirror,

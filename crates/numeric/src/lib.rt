@@ -22,7 +22,7 @@ pub const MOST_WORDS: usize = 8;
 
 // The characters that the codes of a page stand for: one of the two columns of Table 39. Nothing in a page says by which
 // its sender wrote it, so a pager is set to it.
-#[derive(Drop)]
+#[derive(Clone, Copy)]
 pub struct CharacterSet {}
 
 impl CharacterSet {
@@ -36,7 +36,7 @@ impl CharacterSet {
 // What the head of a numbered page says: N, the message number, 0 to 63; R, whether the pager expects its
 // messages to be numbered; S, whether a special format shows it. All 0 with the other kinds.
 #[repr(C)]
-#[derive(Drop)]
+#[derive(Clone, Copy)]
 pub struct Numbering {
     pub message_number: u32,
     pub retrieval: u32,
@@ -45,7 +45,7 @@ pub struct Numbering {
 
 // A page written: K for its vector, and how many words. Both are 0 after a refusal.
 #[repr(C)]
-#[derive(Drop)]
+#[derive(Clone, Copy)]
 pub struct Written {
     pub number: u32,
     pub check: u32,
@@ -55,7 +55,7 @@ pub struct Written {
 // A page read: what its head says, how many characters it has, and how many of them are spaces at its end. All are 0 after
 // a refusal.
 #[repr(C)]
-#[derive(Drop)]
+#[derive(Clone, Copy)]
 pub struct PageRead {
     pub number: u32,
     pub numbering: Numbering,

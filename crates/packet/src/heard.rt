@@ -18,7 +18,7 @@ const ADDRESS_PRINTED: u32 = 0xFF00_0000; // Table 30
 
 // The fields of the part ID packet (Table 8), or its refusal.
 #[repr(C)]
-#[derive(Drop)]
+#[derive(Clone, Copy)]
 pub struct PartIdRead {
     pub number: u32,
     pub fields: PartId,
@@ -26,7 +26,7 @@ pub struct PartIdRead {
 
 // The status packet (Table 12): FIV; f, the frame 0 to 127; SM; LB; c, the cycle 0 to 15; SMU; LBU; MT; EOF; BOE.
 #[repr(C)]
-#[derive(Drop)]
+#[derive(Clone, Copy)]
 pub struct Status {
     pub frame_valid: u32,
     pub frame: u32,
@@ -42,7 +42,7 @@ pub struct Status {
 
 // The fields of a status packet, or its refusal.
 #[repr(C)]
-#[derive(Drop)]
+#[derive(Clone, Copy)]
 pub struct StatusRead {
     pub number: u32,
     pub fields: Status,
@@ -51,7 +51,7 @@ pub struct StatusRead {
 // The address packet (Table 30): PA; p, 0 to 3 for A to D; LA; the address number that AI stands for, 0 to
 // 31, the last 16 temporary; TOA; WN, the word number of the vector, 0 where none will come.
 #[repr(C)]
-#[derive(Drop)]
+#[derive(Clone, Copy)]
 pub struct Address {
     pub priority: u32,
     pub phase: u32,
@@ -63,7 +63,7 @@ pub struct Address {
 
 // The fields of an address packet, or its refusal.
 #[repr(C)]
-#[derive(Drop)]
+#[derive(Clone, Copy)]
 pub struct AddressRead {
     pub number: u32,
     pub fields: Address,
@@ -71,7 +71,7 @@ pub struct AddressRead {
 
 // A message packet (Table 40): WN; e; p; the 21 bits i.
 #[repr(C)]
-#[derive(Drop)]
+#[derive(Clone, Copy)]
 pub struct Message {
     pub word: u32,
     pub damaged: u32,
@@ -81,7 +81,7 @@ pub struct Message {
 
 // The fields of a message packet, or its refusal.
 #[repr(C)]
-#[derive(Drop)]
+#[derive(Clone, Copy)]
 pub struct MessageRead {
     pub number: u32,
     pub fields: Message,

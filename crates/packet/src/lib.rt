@@ -43,14 +43,14 @@ pub use vectors::{Instruction, ShortMessage, Span, Vector, VectorRead, read_vect
 
 // 32 bits: the ID in the highest byte, 24 data bits after it (Table 1).
 #[repr(C)]
-#[derive(Drop)]
+#[derive(Clone, Copy)]
 pub struct Packet {
     pub bits: u32,
 }
 
 // The packet that was built; `number` is 0, or 7 and the packet's bits are 0.
 #[repr(C)]
-#[derive(Drop)]
+#[derive(Clone, Copy)]
 pub struct Built {
     pub number: u32,
     pub packet: Packet,
@@ -58,14 +58,14 @@ pub struct Built {
 
 // The checksum packet (Table 9): CV, 24 bits.
 #[repr(C)]
-#[derive(Drop)]
+#[derive(Clone, Copy)]
 pub struct Checksum {
     pub value: u32,
 }
 
 // The configuration packet (Table 5): OFD (Table 4) and SP (Table 6), 0 to 3; SME, MOT, COD, MTE and LBP.
 #[repr(C)]
-#[derive(Drop)]
+#[derive(Clone, Copy)]
 pub struct Configuration {
     pub oscillator: u32,
     pub polarity: u32,
@@ -78,7 +78,7 @@ pub struct Configuration {
 
 // The control packet (Table 11): FF, a bit for each of frames 0 to 7; SPM; PS (Table 10), 0 to 3; SBI, MTC and ON.
 #[repr(C)]
-#[derive(Drop)]
+#[derive(Clone, Copy)]
 pub struct Control {
     pub forced_frames: u32,
     pub single_phase: u32,
@@ -90,7 +90,7 @@ pub struct Control {
 
 // The all frame mode packet (Table 56): DAF; FAF; DTA, a bit for each temporary address.
 #[repr(C)]
-#[derive(Drop)]
+#[derive(Clone, Copy)]
 pub struct AllFrameMode {
     pub decrement: u32,
     pub force: u32,
@@ -99,7 +99,7 @@ pub struct AllFrameMode {
 
 // The receiver line control packet (Table 19): FRS and CLS, a bit for each of lines S0 to S7.
 #[repr(C)]
-#[derive(Drop)]
+#[derive(Clone, Copy)]
 pub struct ReceiverLines {
     pub forced: u32,
     pub settings: u32,
@@ -108,7 +108,7 @@ pub struct ReceiverLines {
 // A receiver shut-down packet (Tables 20 and 21): s, 0 for shut-down 1 and 1 for shut-down 2; SE; LBC; CLS,
 // a bit for each line; ST, in steps of 625 microseconds.
 #[repr(C)]
-#[derive(Drop)]
+#[derive(Clone, Copy)]
 pub struct ShutDown {
     pub setting: u32,
     pub enable: u32,
@@ -119,7 +119,7 @@ pub struct ShutDown {
 
 // A frame assignment packet (Tables 28 and 29): f, 0 to 7; AF, a bit for each of its sixteen frames.
 #[repr(C)]
-#[derive(Drop)]
+#[derive(Clone, Copy)]
 pub struct FrameAssignment {
     pub range: u32,
     pub frames: u32,
@@ -127,7 +127,7 @@ pub struct FrameAssignment {
 
 // A user address assignment packet (Table 26): a, 0 to 15; LA; TOA; A, an address word of 21 bits.
 #[repr(C)]
-#[derive(Drop)]
+#[derive(Clone, Copy)]
 pub struct UserAddress {
     pub location: u32,
     pub long_address: u32,
@@ -137,14 +137,14 @@ pub struct UserAddress {
 
 // The user address enable packet (Table 27): UAE, a bit for each location.
 #[repr(C)]
-#[derive(Drop)]
+#[derive(Clone, Copy)]
 pub struct AddressEnable {
     pub enabled: u32,
 }
 
 // The part ID packet (Table 8): MDL, CID and REV.
 #[repr(C)]
-#[derive(Drop)]
+#[derive(Clone, Copy)]
 pub struct PartId {
     pub model: u32,
     pub compatibility: u32,
@@ -152,7 +152,7 @@ pub struct PartId {
 }
 
 // A packet in the making: whether each field fits its place, and the bits.
-#[derive(Drop)]
+#[derive(Clone, Copy)]
 struct Draft {
     fits: bool,
     bits: u32,

@@ -14,7 +14,7 @@ use refusal::{Refusal, kept};
 
 // The fields of a checksum packet (Table 9), or its refusal.
 #[repr(C)]
-#[derive(Drop)]
+#[derive(Clone, Copy)]
 pub struct ChecksumRead {
     pub number: u32,
     pub fields: Checksum,
@@ -22,7 +22,7 @@ pub struct ChecksumRead {
 
 // The fields of a configuration packet (Table 5), or its refusal.
 #[repr(C)]
-#[derive(Drop)]
+#[derive(Clone, Copy)]
 pub struct ConfigurationRead {
     pub number: u32,
     pub fields: Configuration,
@@ -30,7 +30,7 @@ pub struct ConfigurationRead {
 
 // The fields of a control packet (Table 11), or its refusal.
 #[repr(C)]
-#[derive(Drop)]
+#[derive(Clone, Copy)]
 pub struct ControlRead {
     pub number: u32,
     pub fields: Control,
@@ -38,7 +38,7 @@ pub struct ControlRead {
 
 // The fields of an all frame mode packet (Table 56), or its refusal.
 #[repr(C)]
-#[derive(Drop)]
+#[derive(Clone, Copy)]
 pub struct AllFrameModeRead {
     pub number: u32,
     pub fields: AllFrameMode,
@@ -46,7 +46,7 @@ pub struct AllFrameModeRead {
 
 // The fields of a receiver line control packet (Table 19), or its refusal.
 #[repr(C)]
-#[derive(Drop)]
+#[derive(Clone, Copy)]
 pub struct ReceiverLinesRead {
     pub number: u32,
     pub fields: ReceiverLines,
@@ -54,7 +54,7 @@ pub struct ReceiverLinesRead {
 
 // The fields of a receiver shut-down packet (Table 21), or its refusal.
 #[repr(C)]
-#[derive(Drop)]
+#[derive(Clone, Copy)]
 pub struct ShutDownRead {
     pub number: u32,
     pub fields: ShutDown,
@@ -62,7 +62,7 @@ pub struct ShutDownRead {
 
 // The fields of a frame assignment packet (Table 29), or its refusal.
 #[repr(C)]
-#[derive(Drop)]
+#[derive(Clone, Copy)]
 pub struct FrameAssignmentRead {
     pub number: u32,
     pub fields: FrameAssignment,
@@ -70,7 +70,7 @@ pub struct FrameAssignmentRead {
 
 // The fields of a user address assignment packet (Table 26), or its refusal.
 #[repr(C)]
-#[derive(Drop)]
+#[derive(Clone, Copy)]
 pub struct UserAddressRead {
     pub number: u32,
     pub fields: UserAddress,
@@ -78,7 +78,7 @@ pub struct UserAddressRead {
 
 // The fields of the user address enable packet (Table 27), or its refusal.
 #[repr(C)]
-#[derive(Drop)]
+#[derive(Clone, Copy)]
 pub struct AddressEnableRead {
     pub number: u32,
     pub fields: AddressEnable,

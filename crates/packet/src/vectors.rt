@@ -15,7 +15,7 @@ use refusal::{Refusal, kept};
 // Where a vector's message words stand: K of a numeric one (Table 31), the number of words, and b. All 0 in
 // a vector that has no message words.
 #[repr(C)]
-#[derive(Drop)]
+#[derive(Clone, Copy)]
 pub struct Span {
     pub check: u32,
     pub words: u32,
@@ -26,7 +26,7 @@ pub struct Span {
 // characters; with 1 and 2 the source S; with 2 the flag R and the message number N; with the spare type 3
 // its twelve d bits.
 #[repr(C)]
-#[derive(Drop)]
+#[derive(Clone, Copy)]
 pub struct ShortMessage {
     pub kind: u32,
     pub first: u32,
@@ -41,7 +41,7 @@ pub struct ShortMessage {
 // A short instruction (Table 38): its type i; with type 0 the address number of the temporary address and
 // its frame; with a reserved type its eleven d bits.
 #[repr(C)]
-#[derive(Drop)]
+#[derive(Clone, Copy)]
 pub struct Instruction {
     pub kind: u32,
     pub address: u32,
@@ -51,7 +51,7 @@ pub struct Instruction {
 
 // A vector packet: WN; e; p; the vector type V; and what that type brings, the rest being 0.
 #[repr(C)]
-#[derive(Drop)]
+#[derive(Clone, Copy)]
 pub struct Vector {
     pub word: u32,
     pub damaged: u32,
@@ -64,7 +64,7 @@ pub struct Vector {
 
 // The fields of a vector packet, or its refusal.
 #[repr(C)]
-#[derive(Drop)]
+#[derive(Clone, Copy)]
 pub struct VectorRead {
     pub number: u32,
     pub fields: Vector,

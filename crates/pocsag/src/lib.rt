@@ -29,7 +29,7 @@ pub use hearing::{close, hear};
 pub use text::read;
 
 // The two words of the code that are no page's.
-#[derive(Drop)]
+#[derive(Clone, Copy)]
 pub struct Codeword {}
 
 impl Codeword {
@@ -42,7 +42,7 @@ impl Codeword {
 
 // How the text of a page is read. Nothing in a page says how its sender wrote it; by convention function 0 is numeric and
 // function 3 is text.
-#[derive(Drop)]
+#[derive(Clone, Copy)]
 pub struct TextKind {}
 
 impl TextKind {
@@ -57,7 +57,7 @@ impl TextKind {
 }
 
 // A word mended: 0 or 25, the word, and how many of its bits were changed. Both are 0 after a refusal.
-#[derive(Drop)]
+#[derive(Clone, Copy)]
 pub struct Mended {
     pub number: u32,
     pub word: u32,
@@ -65,7 +65,7 @@ pub struct Mended {
 }
 
 // What a word means at its place.
-#[derive(Drop)]
+#[derive(Clone, Copy)]
 pub enum Meaning {
     // A sync word where one must stand.
     Sync,
@@ -92,7 +92,7 @@ pub enum Meaning {
 // whole, which stand at the start of the lent memory; how many bits were mended in its words; and its fault: 0 for none, 15
 // where it became longer than the lent memory, and any other number, which is 25, where a word of it was beyond repair.
 #[repr(C)]
-#[derive(Drop)]
+#[derive(Clone, Copy)]
 pub struct PocsagReader {
     pub left: u32,
     pub is_open: u32,
@@ -108,7 +108,7 @@ pub struct PocsagReader {
 // where that word was beyond repair, 26 where the sync was lost there, or the words ended, before the end of the page was
 // heard, 15 where there was no room for it.
 #[repr(C)]
-#[derive(Drop)]
+#[derive(Clone, Copy)]
 pub struct PocsagPage {
     pub is_ended: u32,
     pub number: u32,
@@ -119,7 +119,7 @@ pub struct PocsagPage {
 }
 
 // What one word does: the number that it is told by, the page that ended at it, and where the reading stands after it.
-#[derive(Drop)]
+#[derive(Clone, Copy)]
 pub struct Step {
     pub number: u32,
     pub page: PocsagPage,
@@ -129,7 +129,7 @@ pub struct Step {
 // What a row of words did, up to the first that has something to tell: its number, how many words were taken, the page that
 // ended at it, and where the reading stands.
 #[repr(C)]
-#[derive(Drop)]
+#[derive(Clone, Copy)]
 pub struct PocsagHeard {
     pub number: u32,
     pub taken: usize,
@@ -139,7 +139,7 @@ pub struct PocsagHeard {
 
 // A text read: how many characters it has, and how many of them at the end are fill. Both are 0 after a refusal.
 #[repr(C)]
-#[derive(Drop)]
+#[derive(Clone, Copy)]
 pub struct PocsagText {
     pub number: u32,
     pub characters: usize,

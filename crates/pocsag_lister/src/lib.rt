@@ -35,7 +35,7 @@ pub use taking::left;
 // Where the reading of an input stands: the line and the place in it of the next byte; and of the run or word that is begun
 // the place to be told, the number to be told or 0, how many characters or bytes it has (of a run up to 9, which stands for
 // more than eight), and the number that they make. Of bytes the place is counted over the whole input.
-#[derive(Drop)]
+#[derive(Clone, Copy)]
 pub struct Token {
     pub line: u64,
     pub place: u64,
@@ -48,7 +48,7 @@ pub struct Token {
 // What is found at a byte, or at the end: a word, where `is_word` says so. With a number that is not 0 it is a run of
 // characters that is none, with its line and its place, and the word stands in its place; or it is bytes that are left and
 // make no word.
-#[derive(Drop)]
+#[derive(Clone, Copy)]
 pub struct Found {
     pub is_word: bool,
     pub word: u32,
@@ -58,7 +58,7 @@ pub struct Found {
 }
 
 // What a byte does: where the reading stands after it, and what it finishes.
-#[derive(Drop)]
+#[derive(Clone, Copy)]
 pub struct Taken {
     pub token: Token,
     pub found: Found,
@@ -66,7 +66,7 @@ pub struct Taken {
 
 // What was collected from a portion: where the reading stands, how many bytes were taken, how many words they made, and the
 // run of characters after those that is none, if there is one.
-#[derive(Drop)]
+#[derive(Clone, Copy)]
 pub struct Collected {
     pub token: Token,
     pub taken: usize,
@@ -75,14 +75,14 @@ pub struct Collected {
 }
 
 // A byte as it is shown: so many bytes, and zeros after them.
-#[derive(Drop)]
+#[derive(Clone, Copy)]
 pub struct Shown {
     pub bytes: [u8; 4],
     pub size: usize,
 }
 
 // What a page is listed as.
-#[derive(Drop)]
+#[derive(Clone, Copy)]
 pub enum Kind {
     Tone,
     Numeric,

@@ -9,7 +9,7 @@ mod sentences;
 pub use sentences::in_words;
 
 // A sentence for a person: so many bytes, and zeros after them.
-#[derive(Drop)]
+#[derive(Clone, Copy)]
 pub struct Sentence {
     pub bytes: [u8; 96],
     pub length: usize,
@@ -46,7 +46,7 @@ impl Sentence {
 
 // One refusal. When each is given is said by 01's table, and from 19 on by 02; the order in which several are asked is in
 // specs/Told.
-#[derive(Drop)]
+#[derive(Clone, Copy)]
 pub enum Refusal {
     // A lent buffer is too short for what is to stand in it.
     Room,
