@@ -1,0 +1,12 @@
+-- `undamaged` meets its contract: the bits so far, and what is still to be asked, decide.
+use Rattle.std.proofs.Common.{◌≡◌, ◌-◌, ◌^◌, ◌&&◌, ltb, length, drop, refl, ◌∙◌, arith, rules}
+use Rattle.laws.specs.Numerals.{are_digits}
+use Rattle.laws.proofs.Rows.{all_done}
+use Rattle.sums.proofs.Asking.{asked_more}
+use Rattle.sums.proofs.undamaged.Given as goal
+
+abbrev pub invariant-loop-at : goal.invariant-loop-at
+invariant-loop-at l = (ltb l.bits (2 ^ 21) && are_digits (2 ^ 21) (drop l.at l.words)) ≡ are_digits (2 ^ 21) l.words
+
+abbrev pub decreases-loop-at : goal.decreases-loop-at
+decreases-loop-at l = length l.words - l.at
