@@ -1,0 +1,10 @@
+-- `advise` meets its contract: the form decides, and where the text goes wrong the place lies within it.
+use mathlib.Core.Path.{sym, ap, ◌∙◌}
+use borrow.Author.Rules.{rules}
+use Rattle.capcode.specs.Advice.{advice_by}
+use Rattle.capcode.proofs.Places.{first_wrong, place_upto}
+use Rattle.capcode.proofs.advising.advise.Goals as goal
+
+pub advise_wrong-requires : goal.advise_wrong-requires
+advise_wrong-requires c = let wrong = sym c.form_of.ensures ∙ c.in-Wrong.is in
+    ((first_wrong _ _ wrong).within, place_upto _ _ wrong)

@@ -1,0 +1,13 @@
+use mathlib.Core.Path.{◌∙◌}
+use native.Mathlib.Omega.{arith}
+use lib.ListN.{length-set}
+use borrow.Author.Rules.{rules}
+use Rattle.capcode.proofs.printing.Writes.{text_written}
+use Rattle.capcode.proofs.Judging.{fine_collapse}
+use Rattle.capcode.proofs.printing.write_text.Goals as goal
+
+pub returns : goal.returns
+returns c = c.write_digits-2.ensures
+    ∙ rw
+    (c.write_digits.ensures, c.head_width-head.ensures.0, c.width_of-width.ensures.0)
+    (text_written c.args.c c.args.out.now (fine_collapse _ c.requires.0) c.requires.1)

@@ -1,0 +1,16 @@
+-- `read` meets its contract: the form decides, and where the text goes wrong the place lies within it.
+use mathlib.Core.Path.{sym, ap, ◌∙◌}
+use native.Mathlib.Omega.{arith}
+use borrow.Author.Rules.{rules}
+use Rattle.refusal.specs.declared.Refusal.{Refusal}
+use Rattle.refusal.specs.Told.{refused_at}
+use Rattle.capcode.specs.Reads.{read_by}
+use Rattle.capcode.proofs.Places.{first_wrong, place_upto}
+use Rattle.capcode.proofs.reading.read.Goals as goal
+
+pub fault_at-requires : goal.fault_at-requires
+fault_at-requires c = (first_wrong _ _ (sym c.form_of.ensures ∙ c.in-Wrong.is)).within
+
+pub overflow_cast-result : goal.overflow_cast-result
+overflow_cast-result c = let small = place_upto _ _ (sym c.form_of.ensures ∙ c.in-Wrong.is) in
+    record { fits = omega (arith, small) }
