@@ -1,0 +1,16 @@
+-- `in_set` meets its contract: what is still to be asked decides.
+use Prim.Native.Nat.{◌-◌}
+use mathlib.Core.Path.{◌≡◌, refl, ◌∙◌}
+use native.Mathlib.Omega.{arith}
+use lib.ListN.{length, drop}
+use Rattle.laws.proofs.Rows.{passes, fails, all_asked}
+use Rattle.numeric.specs.Pages.{set_with, in_set}
+use Rattle.numeric.proofs.Codes.{in_place, in_no_place}
+use borrow.Author.Rules.{rules}
+use Rattle.numeric.proofs.writing.in_set.Given as goal
+
+abbrev pub invariant-loop-i : goal.invariant-loop-i
+invariant-loop-i l = in_set (set_with l.chinese) (drop l.i l.text) ≡ in_set (set_with l.chinese) l.text
+
+abbrev pub decreases-loop-i : goal.decreases-loop-i
+decreases-loop-i l = length l.text - l.i
