@@ -1,0 +1,19 @@
+-- `without` meets its contract: the records moved so far, and those still to move.
+use Prim.Native.Nat.{ℕ, ◌+◌, ◌-◌, ◌≤◌}
+use mathlib.Core.List.{[], ◌∷◌, ◌++◌}
+use mathlib.Core.Path.{◌≡◌, refl, sym, ap, ◌∙◌}
+use native.Mathlib.Omega.{arith}
+use borrow.Author.Tests.{lt-ltb, le-ltb}
+use lib.ListN.{length, drop, set, length-set}
+use Rattle.laws.specs.Lists.{put}
+use Rattle.call.specs.Calls.{blank}
+use Rattle.call.specs.Steps.{without}
+use Rattle.call.proofs.hearing.Removal.{moved_turn, moved_done}
+use borrow.Author.Rules.{rules}
+use Rattle.call.proofs.hearing.without.Given as goal
+
+abbrev pub invariant-loop-i : goal.invariant-loop-i
+invariant-loop-i l = (l.i ≤ 7) × (length l.after ≡ 8) × (put l.after l.i (drop (l.i + 1) l.row ++ blank ∷ []) ≡ without l.place l.row)
+
+abbrev pub decreases-loop-i : goal.decreases-loop-i
+decreases-loop-i l = 7 - l.i
