@@ -1,0 +1,12 @@
+-- `sendable` meets its contract: what is still to be asked decides.
+use Rattle.std.proofs.Common.{◌≡◌, ◌-◌, length, drop, sym, refl, ◌∙◌, arith, rules}
+use borrow.Author.Tests.{not-true, not-false}
+use Rattle.laws.proofs.Rows.{passes, fails, all_asked}
+use Rattle.fragment.specs.Cutting.{sendable}
+use Rattle.fragment.proofs.cutting.sendable.Given as goal
+
+abbrev pub invariant-loop-i : goal.invariant-loop-i
+invariant-loop-i l = sendable (drop l.i l.text) ≡ sendable l.text
+
+abbrev pub decreases-loop-i : goal.decreases-loop-i
+decreases-loop-i l = length l.text - l.i
