@@ -37,6 +37,7 @@ table_right table = rows_right 0 table && all_below (found_right table) 1024
 -- a test that is passed where it is no longer than T
 so : (test : Bool) → T test → test ≡ true
 so true t = refl
+so false t = elim t [ ]
 
 -- each row of a table that passes the first half of the rule does
 row_right : (remainder : ℕ) (rows : List ℕ) → T (rows_right remainder rows) → (k : ℕ) → T (named_right (remainder + k) (get_or rows k 0))

@@ -1,0 +1,15 @@
+-- `meaning_of` meets its contract: a word within a batch, or where a sync word must stand.
+use borrow.Author.Tests.{ltb-false}
+use lib.Dec.{ltb, eqb}
+use Rattle.laws.proofs.Tests.{neither}
+use Rattle.pocsag.specs.Batches.{meaning_of}
+use borrow.Author.Rules.{rules}
+use Rattle.pocsag.proofs.batch.meaning_of.Goals as goal
+
+pub returns-then-left : goal.returns-then-left
+unfolding meaning_of
+returns-then-left c = rw c.if-left.true c.at_sync.ensures
+
+pub returns : goal.returns
+unfolding meaning_of
+returns c = rw c.if-left.false c.in_batch.ensures

@@ -1,0 +1,14 @@
+-- `turned` meets its contract: the bits so far are turned, and the others still to come.
+use Prim.Native.Nat.{◌-◌, ◌^◌, ◌≤◌, ◌<◌}
+use mathlib.Core.Path.{◌≡◌, sym, ◌∙◌}
+use native.Mathlib.Omega.{arith}
+use Rattle.pocsag.specs.Batches as Batches
+use Rattle.pocsag.proofs.Turning.{poured, pours, pours_on, pours_small, pours_most}
+use borrow.Author.Rules.{rules}
+use Rattle.pocsag.proofs.batch.turned.Given as goal
+
+abbrev pub invariant-loop-left : goal.invariant-loop-left
+invariant-loop-left l = (l.left ≤ 20) × (l.turned < 2 ^ (20 - l.left)) × (poured l.left l.turned l.rest ≡ Batches.turned l.bits)
+
+abbrev pub decreases-loop-left : goal.decreases-loop-left
+decreases-loop-left l = l.left

@@ -1,0 +1,21 @@
+-- `mend_each` meets its contract: the words so far are mended, and those still to come are as they were.
+use Prim.Native.Nat.{◌+◌, ◌-◌, ◌≤◌, ◌<◌}
+use mathlib.Core.List.{map}
+use mathlib.Core.Path.{◌≡◌, refl, ap, ◌∙◌}
+use native.Mathlib.Omega.{arith}
+use lib.ListN.{length, drop, set, length-set}
+use lib.Seq.{drop-set-lt}
+use Rattle.laws.specs.Lists.{put}
+use Rattle.laws.proofs.Writing.{put_each, put_all}
+use Rattle.pocsag.specs.declared.Mended.{Mended}
+use Rattle.pocsag.specs.Mending.{word_mended, bits_told}
+use borrow.Author.Rules.{rules}
+use Rattle.pocsag.proofs.code.mend_each.Given as goal
+
+abbrev pub invariant-loop-i : goal.invariant-loop-i
+invariant-loop-i l = (length l.words ≡ length l.initial.words) × (length l.bits ≡ length l.initial.bits)
+    × (put l.words l.i (map word_mended (drop l.i l.words)) ≡ put l.initial.words 0 (map word_mended l.initial.words))
+    × (put l.bits l.i (map bits_told (drop l.i l.words)) ≡ put l.initial.bits 0 (map bits_told l.initial.words))
+
+abbrev pub decreases-loop-i : goal.decreases-loop-i
+decreases-loop-i l = length l.initial.words - l.i

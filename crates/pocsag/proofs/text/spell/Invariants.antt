@@ -1,0 +1,24 @@
+-- `spell` meets its contract: the characters so far are stored, and the others still to come.
+use Prim.Native.Nat.{◌-◌, ◌/◌, ◌%◌, ◌^◌, ◌≤◌, ◌<◌}
+use mathlib.Core.List.{map}
+use mathlib.Core.Logic.{⊎_elim}
+use mathlib.Core.Path.{◌≡◌, refl, sym, ap, ◌∙◌}
+use native.Mathlib.Nat.{sub-zero, pow-zero, div-one}
+use native.Mathlib.Omega.{arith}
+use lib.ListN.{length, length-set}
+use Rattle.laws.specs.Lists.{put}
+use Rattle.laws.specs.Numerals.{number, digits}
+use Rattle.laws.proofs.Writing.{put_nothing, spelled_turn}
+use Rattle.pocsag.specs.Texts.{width_of, character_of, text_in}
+use Rattle.pocsag.proofs.Spelling.{Held, held_starts, word_left, code_held, spelled_on, room_bits, width_small}
+use Rattle.pocsag.proofs.Spelling.{Ready, ready_taken, ready_left, held_fits, code_small}
+use borrow.Author.Rules.{rules}
+use Rattle.pocsag.proofs.text.spell.Given as goal
+
+abbrev pub invariant-loop-i : goal.invariant-loop-i
+invariant-loop-i l = (l.i ≤ l.room) × (l.bits < 20) × Held (width_of l.kind) l.words l.held l.bits l.at l.i × (length l.text ≡ length l.initial.text)
+    × (put l.text l.i (map (character_of l.kind) (digits (2 ^ width_of l.kind) (l.room - l.i) (number (2 ^ 20) l.words / (2 ^ width_of l.kind) ^ l.i)))
+    ≡ put l.initial.text 0 (map (character_of l.kind) (digits (2 ^ width_of l.kind) l.room (number (2 ^ 20) l.words))))
+
+abbrev pub decreases-loop-i : goal.decreases-loop-i
+decreases-loop-i l = l.room - l.i
