@@ -1,0 +1,21 @@
+-- `drop_chain` meets its contract: what is found from a slot on is found from the first that was looked at, and there the
+-- record is cleared.
+use Prim.Native.Nat.{◌+◌, ◌-◌, ◌≤◌}
+use mathlib.Core.Logic.{⊎_elim}
+use mathlib.Core.Path.{◌≡◌, refl, sym, ap, ◌∙◌}
+use native.Mathlib.Omega.{arith}
+use lib.Dec.{eqb}
+use lib.ListN.{length, drop, set, length-map}
+use lib.Seq.{set_out}
+use Rattle.laws.proofs.Searches.{found_here, found_later, found_none}
+use Rattle.chain.specs.Chains.{blank, is_of, find}
+use Rattle.chain.specs.declared.finding.Judged.{Judged}
+use Rattle.chain.proofs.dropping.Answering.{within_row, answered}
+use borrow.Author.Rules.{rules}
+use Rattle.chain.proofs.dropping.drop_chain.Given as goal
+
+abbrev pub invariant-loop-slot : goal.invariant-loop-slot
+invariant-loop-slot l = (l.slot ≤ 8) × (l.initial.slot + find l.address l.message_number (drop l.initial.slot l.judged.slots) ≡ l.slot + find l.address l.message_number (drop l.slot l.judged.slots))
+
+abbrev pub decreases-loop-slot : goal.decreases-loop-slot
+decreases-loop-slot l = 8 - l.slot
