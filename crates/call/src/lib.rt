@@ -5,6 +5,7 @@
 // a packet does to a row of records of any length) and specs/Answers (what is told, with the refusals in the table's
 // order); specs/Runs is any run of packets. The laws are in proofs/Laws (one packet), proofs/Runs and proofs/Came (after any
 // run a call has the words that came for it).
+#![tactic(auto)]
 
 // Whether a span fits its call, and which word numbers are a call's.
 mod span;

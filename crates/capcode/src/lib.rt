@@ -7,6 +7,7 @@
 // is refused (specs/Advice), and how one is printed (specs/Printed). The laws: proofs/RangeLaws, proofs/HalvingLaws and
 // proofs/Bounds, proofs/WordLaws, proofs/Laws, proofs/Places and proofs/Faults (which texts are read as what, where a wrong one
 // goes wrong, and by which number), proofs/PrintLaws.
+#![tactic(auto)]
 
 ghost use Rattle.std.specs.Prelude.{◌≡◌};
 ghost use Rattle.capcode.specs.Ranges.{class_number};

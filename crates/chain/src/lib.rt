@@ -5,6 +5,7 @@
 // Read specs/Chains (the records, when they are sound), specs/Steps (what one fragment makes of one chain, and of a row of
 // records of any length) and specs/Answers (what is told, with the refusals in the table's order); specs/Runs is any run of
 // fragments and drops. The laws are in proofs/Laws (one step), proofs/Texts (the lent bytes) and proofs/Runs.
+#![tactic(auto)]
 
 // What a fragment makes of its own chain.
 mod one_chain;

@@ -4,6 +4,7 @@
 // What a fragment is stands in specs/Fragments, how a text is cut in specs/Cutting; what is told of each, with the
 // refusals in the table's order, in specs/Answers and specs/CutAnswers. proofs/Laws and proofs/CutLaws show that the two
 // agree: each fragment of a cut text reads as good, and their texts joined are the text.
+#![tactic(auto)]
 
 ghost use Rattle.laws.specs.Numerals.{number};
 ghost use Rattle.fragment.specs.Cutting.{continued};

@@ -3,6 +3,7 @@
 // Which frames an address listens to, and the masks that say so to the decoder, are said in specs/Listening; that the
 // reported count is the number of those frames is a law in proofs/Laws. The wait is said in specs/Waiting, its law is in
 // proofs/WaitLaws.
+#![tactic(auto)]
 
 // The frames of up to sixteen addresses, marked in eight masks and counted.
 mod marking;

@@ -1,1 +1,2 @@
 // What the proofs share. No function stands here.
+#![tactic(auto)]

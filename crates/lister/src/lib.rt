@@ -5,6 +5,7 @@
 // stands after a text) and specs/Texts (the first line); what a portion does to it in specs/Portions and specs/Stands (where
 // a listing stands inside a line). That the portions together give the listing, wherever the input was divided, is in
 // proofs/Laws.
+#![tactic(auto)]
 
 // The first line of a listing, and where it stands before the first byte.
 mod starting;

@@ -4,6 +4,7 @@
 // What a packet does to a mirror is said in specs/Handshake; the laws of any run of packets are in proofs/Laws, worked
 // runs in proofs/Examples. What a start-up is, with a list that the host sent and one that reached the decoder, is said in
 // specs/StartUp; what the checksum shows of it, and what it does not, is in proofs/StartUpLaws and proofs/StartUpExamples.
+#![tactic(auto)]
 
 // The two ends of a start-up: the mirror after a reset, and the checksum that makes the decoder talk.
 mod ends;

@@ -4,6 +4,7 @@
 // What the words of a page are is said in specs/Pages, when one is refused and what is told of it in specs/Answers. The
 // round trip is in proofs/Laws, and so is the law `cell`, which says as the tables do which bit of which character stands
 // where. What 02, item 6 asks of the two sets and of the spaces at the end is in proofs/Choices.
+#![tactic(auto)]
 
 // What writing and reading share: the choice of set, the head of a page, and its room.
 mod page;

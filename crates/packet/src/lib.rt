@@ -6,6 +6,7 @@
 // specs/VectorTables for what the decoder sends. How fields become bits, and bits fields, is in specs/Fields, specs/Sent,
 // specs/Heard and specs/Vectors; what the host may send is in specs/Rule. proofs/ has the laws and worked packets of each.
 // The same ID means one thing to the decoder and another from it, so the readers are apart by direction.
+#![tactic(auto)]
 
 ghost use Rattle.std.specs.Prelude.{◌≡◌};
 ghost use Rattle.packet.specs.Names.{all_ids};

@@ -7,6 +7,7 @@
 // specs/Sender, and how its words may come in specs/Received. What the code can be relied on for is in proofs/CodeLaws, that
 // portions of any size come to the same in proofs/Portions, that a page which is sent is handed out in proofs/Sending, and that
 // a page which is handed out is what the words said in proofs/Truth.
+#![tactic(auto)]
 
 // The table of the wrong bits, and the remainders of parts of a word.
 mod parts;

@@ -4,6 +4,7 @@
 // Read specs/Inputs, specs/Tokens (a byte of a text), specs/RawWords (a byte of bytes), specs/Runs (a whole text),
 // specs/Collecting (a portion) and specs/Pages (how a page is listed). That the words of a text are its runs of characters
 // is in proofs/Runs, and that they are the same however the input is divided in proofs/Divided.
+#![tactic(auto)]
 
 // What is found in the bytes of an input.
 mod finding;
