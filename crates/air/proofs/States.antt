@@ -29,7 +29,7 @@ use Rattle.chain.proofs.Steps.{known_has_slot, before_first, before_later}
 use Rattle.chain.proofs.Laws as step
 use Rattle.chain.proofs.Texts.{refused_writes_nothing, text_grows, whole_accepted}
 use Rattle.chain.proofs.Runs.{drop_accepted, drop_refused, other_slot_of, event_sound, event_length, Others, event_others}
-use Rattle.air.specs.Demand.{Message, is_damaged, is_key, is_open, finds_slot, is_cut, text_by, other}
+use Rattle.air.specs.Demand.{Message, is_damaged, is_key, is_open, finds_slot, is_cut, text_by}
 use Rattle.air.proofs.Parts.{count_of, part, text_before, chain_at, none_before, begins, address_small}
 use Rattle.air.proofs.Parts.{all_before, part_good, says_message, says_number, says_first, says_more}
 use Rattle.air.proofs.Parts.{length_next, part_taken, part_grown, cuttable}

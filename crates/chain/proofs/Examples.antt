@@ -7,7 +7,7 @@ use mathlib.Core.Path.{◌≡◌, refl}
 use native.Mathlib.Omega.{arith}
 use lib.ListN.{length, get_or, take, drop, set, replicate}
 use Rattle.laws.specs.Lists.{first_that, all, sum_by}
-use Rattle.laws.specs.Numerals.{number, digits}
+use Rattle.laws.specs.Numerals.{digits}
 use Rattle.laws.specs.Texts.{bytes_of}
 use Rattle.refusal.specs.declared.Refusal.TheVariants.{OutOfTurn}
 use Rattle.refusal.specs.Told.{Told, told, given, number_told}

@@ -24,7 +24,6 @@ use Rattle.chain.specs.declared.Chain.{Chain}
 use Rattle.chain.specs.Chains.{blank, is_open, is_address, is_of, find, sound}
 use Rattle.chain.specs.Steps.{heading_in, is_first, goes_on, record_after, cleared, slot_for, chain_before, fate_of, row_after, grown}
 use Rattle.chain.specs.Answers.{known, beginning, handing_out, full, told_of, when_heard, step_of, touches, chains_after}
-use Rattle.chain.specs.Runs.{State}
 use Rattle.chain.proofs.Records.{closed_blank, is_of_lem, found_at}
 use Rattle.chain.proofs.Fates.{message_small, Taken, fate_by, goes_on_lem, is_whole}
 use Rattle.chain.proofs.Stores.{zero_there, cleared_not_found, free_closed, OtherKey, Kept, kept_same, kept_chain, kept_find}

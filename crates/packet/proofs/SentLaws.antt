@@ -1,5 +1,5 @@
 -- What document 01 promises of the packets that the host sends: fields and packets lead to each other.
-use Prim.Native.Nat.{ℕ, ◌-◌, ◌^◌, ◌<◌}
+use Prim.Native.Nat.{ℕ, ◌^◌, ◌<◌}
 use mathlib.Core.Bool.{true}
 use mathlib.Core.Path.{◌≡◌, refl}
 use Rattle.laws.specs.Layouts.{shows, fit}

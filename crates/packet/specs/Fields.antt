@@ -3,7 +3,6 @@ use Rattle.std.specs.Prelude.{ℕ, List, [], ◌∷◌, get_or}
 use Rattle.laws.specs.Layouts.{Layout, fields_of, shows, fit, packed}
 use Rattle.refusal.specs.Told.{number_unless, kept}
 use Rattle.refusal.specs.declared.Refusal.TheVariants as refusals
-use Rattle.packet.specs.declared.Packet.{Packet}
 use Rattle.packet.specs.declared.Built.{Built}
 use Rattle.packet.specs.declared.Draft.{Draft}
 use Rattle.packet.specs.declared.Checksum.{Checksum}

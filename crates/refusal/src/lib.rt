@@ -1,6 +1,7 @@
 // The answers of no: 1 to 18 (document 01, "The eighteen answers of no"), each under the paper's word and with the paper's
 // number, 19 to 21, into which 02, item 1 splits 3, and 25 and 26, which 02, item 5 adds for POCSAG pages.
 #![tactic(auto)]
+
 ghost use Rattle.std.specs.Prelude.{◌≡◌};
 ghost use Rattle.refusal.specs.Told.{number_of, number_unless, kept};
 

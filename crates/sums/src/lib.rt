@@ -2,6 +2,7 @@
 // seven-bit signature of a text. They take any words; bits above the 21 of a word are not looked at, and a row
 // of any length is summed. Beside them what is asked of words before they are summed: whether any is over 21 bits.
 #![tactic(auto)]
+
 ghost use Rattle.std.specs.Prelude.{◌≡◌, ◌+◌, ◌%◌, ◌≤◌, drop};
 ghost use Rattle.sums.specs.Sums.{groups_of, binary_sum, unkeyed, six_bits, ten_bits, signature_of};
 ghost use Rattle.sums.specs.Words.{undamaged};

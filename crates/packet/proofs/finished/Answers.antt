@@ -1,7 +1,6 @@
 -- `finished` meets its contract: number and bits are told by the same test.
 use mathlib.Core.Path.{refl}
 use Rattle.packet.specs.Fields.{built_of}
-use borrow.Author.Rules.{rules}
 use Rattle.packet.proofs.finished.Goals as goal
 
 pub returns : goal.returns

@@ -1,5 +1,5 @@
 -- `sum_after` meets its contract: the sum so far and what is still to come, modulo 1024.
-use Rattle.std.proofs.Common.{◌≡◌, ℕ, ◌+◌, ◌-◌, ◌%◌, ◌^◌, length, drop, sym, refl, ap, ◌∙◌, arith, rules}
+use Rattle.std.proofs.Common.{ℕ, ◌+◌, ◌%◌, ◌^◌, drop, sym, ap, ◌∙◌, arith}
 use Rattle.laws.specs.Lists.{sum_by}
 use Rattle.sums.specs.Sums.{groups_of}
 use Rattle.sums.proofs.Summing.{one_more, none_left}

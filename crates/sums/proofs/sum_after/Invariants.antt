@@ -1,8 +1,7 @@
 -- `sum_after` meets its contract: the sum so far and what is still to come, modulo 1024.
-use Rattle.std.proofs.Common.{◌≡◌, ℕ, ◌+◌, ◌-◌, ◌%◌, ◌^◌, length, drop, sym, refl, ap, ◌∙◌, arith, rules}
+use Rattle.std.proofs.Common.{◌≡◌, ◌+◌, ◌-◌, ◌%◌, length, drop}
 use Rattle.laws.specs.Lists.{sum_by}
 use Rattle.sums.specs.Sums.{groups_of}
-use Rattle.sums.proofs.Summing.{one_more, none_left}
 use Rattle.sums.proofs.sum_after.Given as goal
 
 abbrev pub invariant-loop-i : goal.invariant-loop-i

@@ -1,5 +1,5 @@
 -- `sum_unkeyed` meets its contract: an empty row has the sum 0, and of another the first word counts without its K bits.
-use Rattle.std.proofs.Common.{ℕ, ◌%◌, sym, ap, ◌∙◌, arith, rules}
+use Rattle.std.proofs.Common.{ℕ, ◌%◌, sym, ap, ◌∙◌, arith}
 use Rattle.sums.proofs.Summing.{unkeyed_sum, empty_sum}
 use Rattle.sums.proofs.sum_unkeyed.Goals as goal
 

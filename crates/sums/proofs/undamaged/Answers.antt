@@ -1,6 +1,5 @@
 -- `undamaged` meets its contract: the bits so far, and what is still to be asked, decide.
-use Rattle.std.proofs.Common.{◌≡◌, ◌-◌, ◌^◌, ◌&&◌, ltb, length, drop, refl, ◌∙◌, arith, rules}
-use Rattle.laws.specs.Numerals.{are_digits}
+use Rattle.std.proofs.Common.{◌^◌, ltb, ◌∙◌, arith}
 use Rattle.laws.proofs.Rows.{all_done}
 use Rattle.sums.proofs.Asking.{asked_more}
 use Rattle.sums.proofs.undamaged.Goals as goal

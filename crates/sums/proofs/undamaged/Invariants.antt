@@ -1,8 +1,6 @@
 -- `undamaged` meets its contract: the bits so far, and what is still to be asked, decide.
-use Rattle.std.proofs.Common.{◌≡◌, ◌-◌, ◌^◌, ◌&&◌, ltb, length, drop, refl, ◌∙◌, arith, rules}
+use Rattle.std.proofs.Common.{◌≡◌, ◌-◌, ◌^◌, ◌&&◌, ltb, length, drop}
 use Rattle.laws.specs.Numerals.{are_digits}
-use Rattle.laws.proofs.Rows.{all_done}
-use Rattle.sums.proofs.Asking.{asked_more}
 use Rattle.sums.proofs.undamaged.Given as goal
 
 abbrev pub invariant-loop-at : goal.invariant-loop-at

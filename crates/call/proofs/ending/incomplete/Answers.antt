@@ -1,11 +1,9 @@
 -- `incomplete` meets its contract.
-use Prim.Native.Nat.{ℕ, ◌+◌, ◌-◌, ◌≤◌, ◌<◌}
+use Prim.Native.Nat.{ℕ, ◌+◌, ◌<◌}
 use mathlib.Core.Bool.{Bool, true, false}
 use mathlib.Core.List.{List}
-use mathlib.Core.Logic.{⊎_elim}
 use mathlib.Core.Path.{◌≡◌, sym, ap, ap₂, ◌∙◌}
 use native.Mathlib.Omega.{arith}
-use borrow.Author.Tests.{not-true, not-false}
 use lib.ListN.{length, get_or, take}
 use lib.Seq.{get_or-take}
 use Rattle.laws.specs.Choice.{pick}
@@ -14,8 +12,7 @@ use Rattle.call.specs.declared.Calls.{Calls}
 use Rattle.call.specs.Calls.{blank}
 use Rattle.call.specs.Steps.{added, listed, incomplete_in}
 use Rattle.call.proofs.searching.Asking.{open_again}
-use Rattle.call.proofs.ending.Listing.{incomplete_none, incomplete_few, incomplete_turn, incomplete_done}
-use borrow.Author.Rules.{rules}
+use Rattle.call.proofs.ending.Listing.{incomplete_none, incomplete_few, incomplete_turn}
 use Rattle.call.proofs.ending.incomplete.Goals as goal
 use Rattle.call.proofs.ending.incomplete.Goals.{then-not-is_complete, else-not-is_complete}
 
@@ -27,7 +24,7 @@ pub loop-i-init : goal.loop-i-init
 loop-i-init c = (omega arith, c.count-count.ensures.small, incomplete_none 8 c.args.memory.now)
 
 pub offset_bounds-found-size : goal.offset_bounds-found-size
-offset_bounds-found-size c = 
+offset_bounds-found-size c =
     let opened : take c.count-count.result c.args.calls.calls ≡ take c.args.calls.size c.args.calls.calls = let s = c.args.calls in
     open_again s.calls s.size c.count-count.result c.count-count.ensures.told in
     let long : length (take c.count-count.result c.args.calls.calls) ≡ c.count-count.result = ap length opened ∙ sym c.count-count.ensures.told in
@@ -38,7 +35,7 @@ offset_bounds-found-size c =
     omega (arith, free)
 
 pub bounds-found-size : goal.bounds-found-size
-bounds-found-size c = 
+bounds-found-size c =
     let opened : take c.count-count.result c.args.calls.calls ≡ take c.args.calls.size c.args.calls.calls = let s = c.args.calls in
     open_again s.calls s.size c.count-count.result c.count-count.ensures.told in
     let long : length (take c.count-count.result c.args.calls.calls) ≡ c.count-count.result = ap length opened ∙ sym c.count-count.ensures.told in
@@ -49,7 +46,7 @@ bounds-found-size c =
     free
 
 pub overflow_add-size : goal.overflow_add-size
-overflow_add-size c = 
+overflow_add-size c =
     let opened : take c.count-count.result c.args.calls.calls ≡ take c.args.calls.size c.args.calls.calls = let s = c.args.calls in
     open_again s.calls s.size c.count-count.result c.count-count.ensures.told in
     let long : length (take c.count-count.result c.args.calls.calls) ≡ c.count-count.result = ap length opened ∙ sym c.count-count.ensures.told in
@@ -60,7 +57,7 @@ overflow_add-size c =
     omega (arith, free)
 
 pub loop-i-preserved : goal.loop-i-preserved
-loop-i-preserved c = 
+loop-i-preserved c =
     let opened : take c.count-count.result c.args.calls.calls ≡ take c.args.calls.size c.args.calls.calls = let s = c.args.calls in
     open_again s.calls s.size c.count-count.result c.count-count.ensures.told in
     let long : length (take c.count-count.result c.args.calls.calls) ≡ c.count-count.result = ap length opened ∙ sym c.count-count.ensures.told in
@@ -78,8 +75,8 @@ loop-i-preserved c =
     in
     let now : list c.if-not-is_complete.found c.if-not-is_complete.size ≡ listed 8 (incomplete_in (take (i + 1) row) memory) =
     elim c.if-not-is_complete.branch [
-      then-not-is_complete w ↦ ap₂ list w.found-is w.size-is ∙ judged false w.if-not-is_complete.true
-    | else-not-is_complete w ↦ ap₂ list w.found-is w.size-is ∙ judged true w.if-not-is_complete.false
+      | then-not-is_complete w ↦ ap₂ list w.found-is w.size-is ∙ judged false w.if-not-is_complete.true
+      | else-not-is_complete w ↦ ap₂ list w.found-is w.size-is ∙ judged true w.if-not-is_complete.false
     ]
     in
     (omega arith, so_far.1, now)

@@ -1,12 +1,9 @@
 -- `clear` meets its contract.
 use Prim.Native.Nat.{◌+◌, ◌-◌, ◌≤◌}
-use mathlib.Core.Path.{◌≡◌, refl, ◌∙◌}
-use native.Mathlib.Omega.{arith}
-use lib.ListN.{length, replicate, length-set}
+use mathlib.Core.Path.{◌≡◌}
+use lib.ListN.{length, replicate}
 use Rattle.laws.specs.Lists.{put}
 use Rattle.call.specs.Words.{lacking}
-use Rattle.call.proofs.hearing.Turns.{clear_turn, clear_done}
-use borrow.Author.Rules.{rules}
 use Rattle.call.proofs.hearing.clear.Given as goal
 
 abbrev pub invariant-loop-i : goal.invariant-loop-i

@@ -1,5 +1,5 @@
 -- `next_area` meets its contract.
-use Prim.Native.Nat.{ℕ, ◌+◌, ◌-◌, ◌≤◌}
+use Prim.Native.Nat.{ℕ, ◌+◌, ◌-◌}
 use mathlib.Core.Path.{◌≡◌, sym, ap, ◌∙◌}
 use native.Mathlib.Omega.{arith}
 use lib.ListN.{length, get_or, take, drop}
@@ -12,18 +12,17 @@ use Rattle.call.specs.Calls.{blank, has_vector}
 use Rattle.call.specs.Steps.{next_area}
 use Rattle.call.proofs.searching.Asking.{open_again}
 use Rattle.call.proofs.hearing.Turns.{area_turn, area_end, area_most}
-use borrow.Author.Rules.{rules}
 use Rattle.call.proofs.hearing.next_area.Goals as goal
 
 pub loop-i-init : goal.loop-i-init
-loop-i-init c = 
+loop-i-init c =
     let opened : take c.count-i.result c.args.calls.calls ≡ take c.args.calls.size c.args.calls.calls = let s = c.args.calls in
     open_again s.calls s.size c.count-i.result c.count-i.ensures.told in
     let long : length (take c.count-i.result c.args.calls.calls) ≡ c.count-i.result = ap length opened ∙ sym c.count-i.ensures.told in
     (omega arith, c.count-i.ensures.small, area_end (take c.count-i.result c.args.calls.calls) c.count-i.result (omega (arith, long)))
 
 pub overflow_add-area : goal.overflow_add-area
-overflow_add-area c = 
+overflow_add-area c =
     let opened : take c.count-i.result c.args.calls.calls ≡ take c.args.calls.size c.args.calls.calls = let s = c.args.calls in
     open_again s.calls s.size c.count-i.result c.count-i.ensures.told in
     let long : length (take c.count-i.result c.args.calls.calls) ≡ c.count-i.result = ap length opened ∙ sym c.count-i.ensures.told in
@@ -33,7 +32,7 @@ overflow_add-area c =
     rw (as_bit has) (omega (arith, most, bit, long, c.loop-i.invariant.1, c.loop-i.invariant.2))
 
 pub loop-i-preserved : goal.loop-i-preserved
-loop-i-preserved c = 
+loop-i-preserved c =
     let opened : take c.count-i.result c.args.calls.calls ≡ take c.args.calls.size c.args.calls.calls = let s = c.args.calls in
     open_again s.calls s.size c.count-i.result c.count-i.ensures.told in
     let long : length (take c.count-i.result c.args.calls.calls) ≡ c.count-i.result = ap length opened ∙ sym c.count-i.ensures.told in
@@ -50,7 +49,7 @@ loop-i-preserved c =
     )
 
 pub returns : goal.returns
-returns c = 
+returns c =
     let opened : take c.count-i.result c.args.calls.calls ≡ take c.args.calls.size c.args.calls.calls = let s = c.args.calls in
     open_again s.calls s.size c.count-i.result c.count-i.ensures.told in
     let none : c.loop-i.i ≡ 0 = omega (arith, c.loop-i-test.false) in

@@ -1,10 +1,10 @@
 -- `take_vector` meets its contract.
-use Prim.Native.Nat.{ℕ, ◌^◌, ◌<◌}
+use Prim.Native.Nat.{ℕ, ◌^◌}
 use mathlib.Core.Bool.{false, not}
 use mathlib.Core.Path.{◌≡◌, refl, sym, ap, ◌∙◌}
 use native.Mathlib.Omega.{arith}
-use borrow.Author.Tests.{eq-eqb, ne_eqb, not-true, not-false, lt-ltb, le-ltb}
-use lib.ListN.{length, get_or, replicate, length-map}
+use borrow.Author.Tests.{eq-eqb, not-false, lt-ltb, le-ltb}
+use lib.ListN.{length, get_or, replicate}
 use Rattle.laws.specs.Choice.{pick}
 use Rattle.laws.specs.Lists.{put}
 use Rattle.packet.specs.declared.vectors.Vector.{Vector}
@@ -14,14 +14,12 @@ use Rattle.call.specs.declared.CallHearing.{CallHearing}
 use Rattle.call.specs.Calls.{blank, opens, has_vector, brings_words}
 use Rattle.call.specs.Words.{lacking, place_of}
 use Rattle.call.specs.Steps.{vector_fits, with_vector, next_area, changed}
-use Rattle.call.proofs.Rows.{opens_most}
-use Rattle.call.specs.HearingPieces.{refusing, hearing_of}
-use Rattle.call.proofs.hearing.Answering.{refusal_turn, vector_again, vector_bad, vector_no_room, vector_taken, fitting_words, read_as, open_at}
-use borrow.Author.Rules.{rules}
+use Rattle.call.specs.HearingPieces.{refusing}
+use Rattle.call.proofs.hearing.Answering.{refusal_turn, vector_no_room, vector_taken, read_as, open_at}
 use Rattle.call.proofs.hearing.take_vector.Goals as goal
 
 pub returns-then-memory-lt-MEMORY_WORDS : goal.returns-then-memory-lt-MEMORY_WORDS
-returns-then-memory-lt-MEMORY_WORDS c = 
+returns-then-memory-lt-MEMORY_WORDS c =
     let there : get_or (opens c.args.calls) c.args.place blank ≡ get_or c.args.calls.calls c.args.place blank = open_at c.args.calls c.args.place c.requires.place_in_bounds in
     let record-there : Call = get_or c.args.calls.calls c.args.place blank in
     let call-there : Call = get_or (opens c.args.calls) c.args.place blank in
@@ -41,7 +39,7 @@ returns-then-memory-lt-MEMORY_WORDS c =
     record { told = turn.0; placed = turn.1; memory = done.1 }
 
 pub returns : goal.returns
-returns c = 
+returns c =
     let telling : Call → ℕ → CallHearing = λ g completed. record {
       answer = record { number = 0; is_vector = 1; call = c.args.place; kind = g.kind; check = g.check; completed = completed };
       calls = changed c.args.calls c.args.place g;
@@ -67,9 +65,13 @@ returns c =
     let is = given.ensures
     ∙ ap (λ (v : Vector). with_vector record-there v area.result) read-there
     ∙ ap (with_vector record-there vector) area.ensures
-    ∙ ap (λ (g : Call). with_vector g vector (next_area (opens s))) (sym there) in record { told = ap (telling given.result) c.completed_by.ensures
+    ∙ ap (λ (g : Call). with_vector g vector (next_area (opens s))) (sym there) in record {
+      told = ap (telling given.result) c.completed_by.ensures
           ∙ ap (λ (g : Call). telling g (pick (brings_words g.kind) 0 (2 ^ place))) is
-          ∙ done.0; placed = omega (arith, c.requires.place_in_bounds); memory = c.clear.ensures
-            ∙ ap (λ (at : ℕ). put memory at (replicate given.result.words lacking)) c.place.ensures
-            ∙ ap (λ (g : Call). put memory (place_of g) (replicate g.words lacking)) is
-            ∙ done.1 }
+          ∙ done.0;
+      placed = omega (arith, c.requires.place_in_bounds);
+      memory = c.clear.ensures
+          ∙ ap (λ (at : ℕ). put memory at (replicate given.result.words lacking)) c.place.ensures
+          ∙ ap (λ (g : Call). put memory (place_of g) (replicate g.words lacking)) is
+          ∙ done.1;
+    }

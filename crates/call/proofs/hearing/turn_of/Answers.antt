@@ -12,7 +12,6 @@ use Rattle.call.specs.Calls.{blank, opens, find, sound}
 use Rattle.call.specs.Answers.{message_in, vector_place, vector_told, word_told, as_hearing}
 use Rattle.call.specs.HearingPieces.{vector_calls, vector_memory, word_memory, refusing}
 use Rattle.call.proofs.hearing.Answering.{refusal_turn, hear_unsound, hear_foreign, hear-damaged, hear-vector, hear-word}
-use borrow.Author.Rules.{rules}
 use Rattle.call.proofs.hearing.turn_of.Goals as goal
 
 pub returns-then-not-sound : goal.returns-then-not-sound
@@ -24,7 +23,7 @@ returns-then-not-sound c = let done = hear_unsound c.args.calls c.args.memory.no
     record { told = turn.0; placed = turn.1; memory = done.1 }
 
 pub returns-then-not-id : goal.returns-then-not-id
-returns-then-not-id c = 
+returns-then-not-id c =
     let right : sound (opens c.args.calls) ≡ true = sym c.sound.ensures ∙ not-false c.sound.result c.if-not-sound.false-raw in
     let done = hear_foreign c.args.calls c.args.memory.now c.args.packet.bits right
     (not-true (is_vector c.args.packet.bits) c.if-not-id.true-raw) in
@@ -34,7 +33,7 @@ returns-then-not-id c =
     record { told = turn.0; placed = turn.1; memory = done.1 }
 
 pub returns-then-message-ne0 : goal.returns-then-message-ne0
-returns-then-message-ne0 c = 
+returns-then-message-ne0 c =
     let right : sound (opens c.args.calls) ≡ true = sym c.sound.ensures ∙ not-false c.sound.result c.if-not-sound.false-raw in
     let kind : is_vector c.args.packet.bits ≡ true = not-false (is_vector c.args.packet.bits) c.if-not-id.false-raw in
     let done = hear-damaged c.args.calls c.args.memory.now c.args.packet.bits right kind
@@ -46,7 +45,7 @@ returns-then-message-ne0 c =
     record { told = turn.0; placed = turn.1; memory = done.1 }
 
 pub returns-then-place-count : goal.returns-then-place-count
-returns-then-place-count c = 
+returns-then-place-count c =
     let right : sound (opens c.args.calls) ≡ true = sym c.sound.ensures ∙ not-false c.sound.result c.if-not-sound.false-raw in
     let kind : is_vector c.args.packet.bits ≡ true = not-false (is_vector c.args.packet.bits) c.if-not-id.false-raw in
     let good : eqb (message_in c.args.packet.bits).damaged 0 ≡ true = eq-eqb (message_in c.args.packet.bits).damaged 0 (sym (ap (λ (m : Message). m.damaged) c.message_of-message.ensures) ∙ c.if-message-ne0.false) in
@@ -57,12 +56,16 @@ returns-then-place-count c =
     let place = there in
     let held : vector_place s bits < length (opens s) = omega (arith, place, c.count.ensures.told, c.if-place-count.true) in
     let done = hear-vector s memory bits right kind good (lt-ltb (vector_place s bits) (length (opens s)) held) in
-    record { told = c.take_vector.ensures.told
+    record {
+      told = c.take_vector.ensures.told
           ∙ ap (λ (at : ℕ). as_hearing (vector_told s memory at (get_or (opens s) at blank) (vector_of bits)) (vector_calls s memory at (vector_of bits))) place
-          ∙ done.0; placed = c.take_vector.ensures.placed; memory = c.take_vector.ensures.memory ∙ ap (λ (at : ℕ). vector_memory s memory at (vector_of bits)) place ∙ done.1 }
+          ∙ done.0;
+      placed = c.take_vector.ensures.placed;
+      memory = c.take_vector.ensures.memory ∙ ap (λ (at : ℕ). vector_memory s memory at (vector_of bits)) place ∙ done.1;
+    }
 
 pub returns : goal.returns
-returns c = 
+returns c =
     let right : sound (opens c.args.calls) ≡ true = sym c.sound.ensures ∙ not-false c.sound.result c.if-not-sound.false-raw in
     let kind : is_vector c.args.packet.bits ≡ true = not-false (is_vector c.args.packet.bits) c.if-not-id.false-raw in
     let good : eqb (message_in c.args.packet.bits).damaged 0 ≡ true = eq-eqb (message_in c.args.packet.bits).damaged 0 (sym (ap (λ (m : Message). m.damaged) c.message_of-message.ensures) ∙ c.if-message-ne0.false) in

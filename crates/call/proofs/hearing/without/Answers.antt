@@ -1,19 +1,16 @@
 -- `without` meets its contract: the records moved so far, and those still to move.
-use Prim.Native.Nat.{ℕ, ◌+◌, ◌-◌, ◌≤◌}
-use mathlib.Core.List.{[], ◌∷◌, ◌++◌}
-use mathlib.Core.Path.{◌≡◌, refl, sym, ap, ◌∙◌}
+use Prim.Native.Nat.{ℕ}
+use mathlib.Core.Path.{◌≡◌, sym, ap, ◌∙◌}
 use native.Mathlib.Omega.{arith}
-use borrow.Author.Tests.{lt-ltb, le-ltb}
-use lib.ListN.{length, drop, set, length-set}
-use Rattle.laws.specs.Lists.{put}
+use borrow.Author.Tests.{lt-ltb}
+use lib.ListN.{length, set}
 use Rattle.call.specs.Calls.{blank}
-use Rattle.call.specs.Steps.{without}
-use Rattle.call.proofs.hearing.Removal.{moved_turn, moved_done}
+use Rattle.call.proofs.hearing.Removal.{moved_done}
 use borrow.Author.Rules.{rules}
 use Rattle.call.proofs.hearing.without.Goals as goal
 
 pub returns : goal.returns
-returns c = 
+returns c =
     let long : length c.args.row ≡ 8 = search rules in
     let turn = c.loop-i in
     let last : turn.i ≡ 7 = omega (arith, turn.invariant.0, c.loop-i-test.false) in

@@ -1,15 +1,11 @@
 -- `without` meets its contract: the records moved so far, and those still to move.
-use Prim.Native.Nat.{ℕ, ◌+◌, ◌-◌, ◌≤◌}
+use Prim.Native.Nat.{◌+◌, ◌-◌, ◌≤◌}
 use mathlib.Core.List.{[], ◌∷◌, ◌++◌}
-use mathlib.Core.Path.{◌≡◌, refl, sym, ap, ◌∙◌}
-use native.Mathlib.Omega.{arith}
-use borrow.Author.Tests.{lt-ltb, le-ltb}
-use lib.ListN.{length, drop, set, length-set}
+use mathlib.Core.Path.{◌≡◌}
+use lib.ListN.{length, drop}
 use Rattle.laws.specs.Lists.{put}
 use Rattle.call.specs.Calls.{blank}
 use Rattle.call.specs.Steps.{without}
-use Rattle.call.proofs.hearing.Removal.{moved_turn, moved_done}
-use borrow.Author.Rules.{rules}
 use Rattle.call.proofs.hearing.without.Given as goal
 
 abbrev pub invariant-loop-i : goal.invariant-loop-i

@@ -1,8 +1,8 @@
 -- `ask` meets its contract.
-use Prim.Native.Nat.{◌+◌, ◌-◌, ◌≤◌, ◌<◌}
+use Prim.Native.Nat.{◌+◌, ◌≤◌, ◌<◌}
 use mathlib.Core.Bool.{Bool, ◌||◌}
 use mathlib.Core.List.{List}
-use mathlib.Core.Path.{◌≡◌, refl, sym, ap, ◌∙◌}
+use mathlib.Core.Path.{◌≡◌, sym, ap, ◌∙◌}
 use native.Mathlib.Omega.{arith}
 use lib.ListN.{length, get_or, take, drop}
 use Rattle.laws.proofs.Lists.{any_turn, any_done}
@@ -12,11 +12,10 @@ use Rattle.call.proofs.searching.Asking.{open_again}
 use Rattle.call.specs.declared.memory.Asked.{Asked}
 use lib.Seq.{get_or-take}
 use Rattle.call.specs.Words.{holds_word, lacks, is_held, is_lacked}
-use borrow.Author.Rules.{rules}
 use Rattle.call.proofs.memory.ask.Goals as goal
 
 pub loop-i-preserved : goal.loop-i-preserved
-loop-i-preserved c = 
+loop-i-preserved c =
     let opened : take c.count-count.result c.args.calls.calls ≡ take c.args.calls.size c.args.calls.calls = let s = c.args.calls in
     open_again s.calls s.size c.count-count.result c.count-count.ensures.told in
     let long : length (take c.count-count.result c.args.calls.calls) ≡ c.count-count.result = ap length opened ∙ sym c.count-count.ensures.told in
@@ -40,7 +39,7 @@ loop-i-preserved c =
     )
 
 pub returns : goal.returns
-returns c = 
+returns c =
     let opened : take c.count-count.result c.args.calls.calls ≡ take c.args.calls.size c.args.calls.calls = let s = c.args.calls in
     open_again s.calls s.size c.count-count.result c.count-count.ensures.told in
     let long : length (take c.count-count.result c.args.calls.calls) ≡ c.count-count.result = ap length opened ∙ sym c.count-count.ensures.told in

@@ -1,18 +1,9 @@
 -- `ask` meets its contract.
-use Prim.Native.Nat.{◌+◌, ◌-◌, ◌≤◌, ◌<◌}
-use mathlib.Core.Bool.{Bool, ◌||◌}
-use mathlib.Core.List.{List}
-use mathlib.Core.Path.{◌≡◌, refl, sym, ap, ◌∙◌}
-use native.Mathlib.Omega.{arith}
-use lib.ListN.{length, get_or, take, drop}
-use Rattle.laws.proofs.Lists.{any_turn, any_done}
-use Rattle.call.specs.declared.Call.{Call}
-use Rattle.call.specs.Calls.{blank}
-use Rattle.call.proofs.searching.Asking.{open_again}
-use Rattle.call.specs.declared.memory.Asked.{Asked}
-use lib.Seq.{get_or-take}
-use Rattle.call.specs.Words.{holds_word, lacks, is_held, is_lacked}
-use borrow.Author.Rules.{rules}
+use Prim.Native.Nat.{◌-◌, ◌≤◌}
+use mathlib.Core.Bool.{◌||◌}
+use mathlib.Core.Path.{◌≡◌}
+use lib.ListN.{take, drop}
+use Rattle.call.specs.Words.{is_held, is_lacked}
 use Rattle.call.proofs.memory.ask.Given as goal
 
 abbrev pub invariant-loop-i : goal.invariant-loop-i

@@ -11,14 +11,13 @@ use Rattle.laws.proofs.Bits.{bit_le, as_bit}
 use Rattle.call.specs.declared.Call.{Call}
 use Rattle.call.specs.Calls.{blank}
 use Rattle.call.specs.Words.{completes, offered, given_to, finished}
-use Rattle.call.proofs.MemoryLaws.{given_end, finished_end, given_length}
+use Rattle.call.proofs.MemoryLaws.{given_end, finished_end}
 use Rattle.call.proofs.searching.Asking.{open_again}
 use Rattle.call.proofs.memory.Asking.{given_turn, finished_turn, finished_few}
-use borrow.Author.Rules.{rules}
 use Rattle.call.proofs.memory.give.Goals as goal
 
 pub loop-i-init : goal.loop-i-init
-loop-i-init c = 
+loop-i-init c =
     let opened : take c.count-i.result c.args.calls.calls ≡ take c.args.calls.size c.args.calls.calls = let s = c.args.calls in
     open_again s.calls s.size c.count-i.result c.count-i.ensures.told in
     let long : length (take c.count-i.result c.args.calls.calls) ≡ c.count-i.result = ap length opened ∙ sym c.count-i.ensures.told in
@@ -31,7 +30,7 @@ loop-i-init c =
     )
 
 pub overflow_mul-completed : goal.overflow_mul-completed
-overflow_mul-completed c = 
+overflow_mul-completed c =
     let opened : take c.count-i.result c.args.calls.calls ≡ take c.args.calls.size c.args.calls.calls = let s = c.args.calls in
     open_again s.calls s.size c.count-i.result c.count-i.ensures.told in
     let long : length (take c.count-i.result c.args.calls.calls) ≡ c.count-i.result = ap length opened ∙ sym c.count-i.ensures.told in
@@ -41,7 +40,7 @@ overflow_mul-completed c =
     omega (arith, few, c.loop-i.invariant.3)
 
 pub overflow_add-completed : goal.overflow_add-completed
-overflow_add-completed c = 
+overflow_add-completed c =
     let opened : take c.count-i.result c.args.calls.calls ≡ take c.args.calls.size c.args.calls.calls = let s = c.args.calls in
     open_again s.calls s.size c.count-i.result c.count-i.ensures.told in
     let long : length (take c.count-i.result c.args.calls.calls) ≡ c.count-i.result = ap length opened ∙ sym c.count-i.ensures.told in
@@ -52,7 +51,7 @@ overflow_add-completed c =
     omega (arith, few, bit, c.loop-i.invariant.3)
 
 pub loop-i-preserved : goal.loop-i-preserved
-loop-i-preserved c = 
+loop-i-preserved c =
     let opened : take c.count-i.result c.args.calls.calls ≡ take c.args.calls.size c.args.calls.calls = let s = c.args.calls in
     open_again s.calls s.size c.count-i.result c.count-i.ensures.told in
     let long : length (take c.count-i.result c.args.calls.calls) ≡ c.count-i.result = ap length opened ∙ sym c.count-i.ensures.told in
@@ -82,7 +81,7 @@ loop-i-preserved c =
     )
 
 pub returns : goal.returns
-returns c = 
+returns c =
     let opened : take c.count-i.result c.args.calls.calls ≡ take c.args.calls.size c.args.calls.calls = let s = c.args.calls in
     open_again s.calls s.size c.count-i.result c.count-i.ensures.told in
     let message = c.args.message in

@@ -1,6 +1,5 @@
 -- `holds` meets its contract.
 use Rattle.call.proofs.memory.Asking.{holds_asked}
-use borrow.Author.Rules.{rules}
 use Rattle.call.proofs.memory.holds.Goals as goal
 
 pub returns : goal.returns

@@ -12,7 +12,6 @@ use Rattle.call.specs.Calls.{opens, sound}
 use Rattle.call.specs.Answers.{address_in, telling, opening_of, as_opening}
 use Rattle.call.specs.OpeningPieces.{opening_calls}
 use Rattle.call.proofs.opening.Answers.{read_fields, told_so, unsound, no_address, tone-only, goes_on_lem}
-use borrow.Author.Rules.{rules}
 use Rattle.call.proofs.opening.open.Goals as goal
 
 pub returns-then-not-sound : goal.returns-then-not-sound
@@ -22,7 +21,7 @@ returns-then-not-sound c = c.not_opened.ensures
     (unsound c.args.calls c.args.packet.bits (sym c.sound.ensures ∙ not-true c.sound.result c.if-not-sound.true-raw))
 
 pub returns-then-read-ne0 : goal.returns-then-read-ne0
-returns-then-read-ne0 c = 
+returns-then-read-ne0 c =
     let right : sound (opens c.args.calls) ≡ true = sym c.sound.ensures ∙ not-false c.sound.result c.if-not-sound.false-raw in
     let number = ap (λ (r : AddressRead). r.number) c.read_address-read.ensures in
     c.not_opened-then-read-ne0.ensures
@@ -31,7 +30,7 @@ returns-then-read-ne0 c =
     (no_address c.args.calls c.args.packet.bits right (λ zero. c.if-read-ne0.true (number ∙ zero)))
 
 pub returns-then-address-eq1 : goal.returns-then-address-eq1
-returns-then-address-eq1 c = 
+returns-then-address-eq1 c =
     let right : sound (opens c.args.calls) ≡ true = sym c.sound.ensures ∙ not-false c.sound.result c.if-not-sound.false-raw in
     let none : (address_read c.args.packet.bits).number ≡ 0 = sym (ap (λ (r : AddressRead). r.number) c.read_address-read.ensures) ∙ c.if-read-ne0.false in
     let says : c.read_address-read.result.fields ≡ address_in c.args.packet.bits = ap (λ (r : AddressRead). r.fields) c.read_address-read.ensures
@@ -41,7 +40,7 @@ returns-then-address-eq1 c =
     (sym (ap (λ (a : Address). a.tone_only) says) ∙ c.if-address-eq1.true)
 
 pub returns : goal.returns
-returns c = 
+returns c =
     let right : sound (opens c.args.calls) ≡ true = sym c.sound.ensures ∙ not-false c.sound.result c.if-not-sound.false-raw in
     let none : (address_read c.args.packet.bits).number ≡ 0 = sym (ap (λ (r : AddressRead). r.number) c.read_address-read.ensures) ∙ c.if-read-ne0.false in
     let says : c.read_address-read.result.fields ≡ address_in c.args.packet.bits = ap (λ (r : AddressRead). r.fields) c.read_address-read.ensures

@@ -1,20 +1,17 @@
 -- `find` meets its contract: what is found from a place on is found from the start.
-use Prim.Native.Nat.{◌+◌, ◌-◌, ◌≤◌}
 use mathlib.Core.List.{List}
 use mathlib.Core.Path.{◌≡◌, sym, ap, ◌∙◌}
-use native.Mathlib.Nat.{zero-add}
 use native.Mathlib.Omega.{arith}
-use lib.ListN.{length, get_or, take, drop}
+use lib.ListN.{length, get_or, take}
 use lib.Seq.{get_or-take}
 use Rattle.laws.proofs.Searches.{found_here, found_later, found_none}
 use Rattle.call.specs.declared.Call.{Call}
 use Rattle.call.specs.Calls.{blank, is_of, find}
 use Rattle.call.proofs.searching.Asking.{open_again}
-use borrow.Author.Rules.{rules}
 use Rattle.call.proofs.searching.find.Goals as goal
 
 pub loop-at-preserved : goal.loop-at-preserved
-loop-at-preserved c = 
+loop-at-preserved c =
     let opened : take c.count-count.result c.args.calls.calls ≡ take c.args.calls.size c.args.calls.calls = let s = c.args.calls in
     open_again s.calls s.size c.count-count.result c.count-count.ensures.told in
     let long : length (take c.count-count.result c.args.calls.calls) ≡ c.count-count.result = ap length opened ∙ sym c.count-count.ensures.told in
@@ -27,7 +24,7 @@ loop-at-preserved c =
     (omega arith, c.loop-at.invariant.1 ∙ later)
 
 pub returns-after-loop-at : goal.returns-after-loop-at
-returns-after-loop-at c = 
+returns-after-loop-at c =
     let opened : take c.count-count.result c.args.calls.calls ≡ take c.args.calls.size c.args.calls.calls = let s = c.args.calls in
     open_again s.calls s.size c.count-count.result c.count-count.ensures.told in
     let long : length (take c.count-count.result c.args.calls.calls) ≡ c.count-count.result = ap length opened ∙ sym c.count-count.ensures.told in
@@ -39,7 +36,7 @@ returns-after-loop-at c =
     ∙ found_none (is_of a.phase a.vector) (take c.count-count.result a.calls.calls) blank c.loop-at.at (omega (arith, long)))
 
 pub returns-then-is_of : goal.returns-then-is_of
-returns-then-is_of c = 
+returns-then-is_of c =
     let opened : take c.count-count.result c.args.calls.calls ≡ take c.args.calls.size c.args.calls.calls = let s = c.args.calls in
     open_again s.calls s.size c.count-count.result c.count-count.ensures.told in
     let long : length (take c.count-count.result c.args.calls.calls) ≡ c.count-count.result = ap length opened ∙ sym c.count-count.ensures.told in

@@ -1,6 +1,5 @@
 -- `sound` meets its contract: where no call is open there is nothing to look at.
 use Rattle.call.specs.Calls.{sound}
-use borrow.Author.Rules.{rules}
 use Rattle.call.proofs.searching.sound.Goals as goal
 
 pub returns-then-calls-eq0 : goal.returns-then-calls-eq0

@@ -16,11 +16,10 @@ use Rattle.call.specs.Calls.{blank, in_limits, holds, sound}
 use Rattle.call.proofs.Records.{Limits, in_limits_lem, sound_end}
 use Rattle.call.proofs.searching.Asking.{open_again, call_then, unsound, twice, alone, spoiled}
 use Rattle.call.proofs.searching.Marks.{with_mark, key_of, Marks, none_marked, one_marked}
-use borrow.Author.Rules.{rules}
 use Rattle.call.proofs.searching.sound_from_last.Goals as goal
 
 pub loop-i-init : goal.loop-i-init
-loop-i-init c = 
+loop-i-init c =
     let opened : take c.count-i.result c.args.calls.calls ≡ take c.args.calls.size c.args.calls.calls = let s = c.args.calls in
     open_again s.calls s.size c.count-i.result c.count-i.ensures.told in
     let long : length (take c.count-i.result c.args.calls.calls) ≡ c.count-i.result = ap length opened ∙ sym c.count-i.ensures.told in
@@ -29,7 +28,7 @@ loop-i-init c =
     (omega arith, c.count-i.ensures.small, refl, sound_end row c.count-i.result done, rw (drop_of_length-le row done) (none_marked 6))
 
 pub returns-then-not-in_limits : goal.returns-then-not-in_limits
-returns-then-not-in_limits c = 
+returns-then-not-in_limits c =
     let opened : take c.count-i.result c.args.calls.calls ≡ take c.args.calls.size c.args.calls.calls = let s = c.args.calls in
     open_again s.calls s.size c.count-i.result c.count-i.ensures.told in
     let long : length (take c.count-i.result c.args.calls.calls) ≡ c.count-i.result = ap length opened ∙ sym c.count-i.ensures.told in
@@ -43,7 +42,7 @@ returns-then-not-in_limits c =
     sym (ap sound (sym opened) ∙ spoiled row (i - 1) (unsound row (i - 1) call there within bad))
 
 pub returns-then-mark-bit-eq1 : goal.returns-then-mark-bit-eq1
-returns-then-mark-bit-eq1 c = 
+returns-then-mark-bit-eq1 c =
     let opened : take c.count-i.result c.args.calls.calls ≡ take c.args.calls.size c.args.calls.calls = let s = c.args.calls in
     open_again s.calls s.size c.count-i.result c.count-i.ensures.told in
     let long : length (take c.count-i.result c.args.calls.calls) ≡ c.count-i.result = ap length opened ∙ sym c.count-i.ensures.told in
@@ -62,7 +61,7 @@ returns-then-mark-bit-eq1 c =
     sym (ap sound (sym opened) ∙ spoiled row (i - 1) (twice row (i - 1) call there within (rw began met)))
 
 pub loop-i-preserved : goal.loop-i-preserved
-loop-i-preserved c = 
+loop-i-preserved c =
     let opened : take c.count-i.result c.args.calls.calls ≡ take c.args.calls.size c.args.calls.calls = let s = c.args.calls in
     open_again s.calls s.size c.count-i.result c.count-i.ensures.told in
     let long : length (take c.count-i.result c.args.calls.calls) ≡ c.count-i.result = ap length opened ∙ sym c.count-i.ensures.told in
@@ -93,7 +92,7 @@ loop-i-preserved c =
     )
 
 pub returns : goal.returns
-returns c = 
+returns c =
     let opened : take c.count-i.result c.args.calls.calls ≡ take c.args.calls.size c.args.calls.calls = let s = c.args.calls in
     open_again s.calls s.size c.count-i.result c.count-i.ensures.told in
     let row : List Call = take c.count-i.result c.args.calls.calls in

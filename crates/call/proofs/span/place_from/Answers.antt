@@ -3,7 +3,6 @@ use mathlib.Core.Logic.{inl, inr}
 use mathlib.Core.Path.{sym}
 use native.Mathlib.Omega.{arith}
 use Rattle.laws.proofs.Lists.{up_place, up_no_place}
-use borrow.Author.Rules.{rules}
 use Rattle.call.proofs.span.place_from.Goals as goal
 
 pub returns-then-word-start : goal.returns-then-word-start

@@ -1,7 +1,5 @@
 -- `advise` meets its contract: the form decides, and where the text goes wrong the place lies within it.
-use mathlib.Core.Path.{sym, ap, ◌∙◌}
-use borrow.Author.Rules.{rules}
-use Rattle.capcode.specs.Advice.{advice_by}
+use mathlib.Core.Path.{sym, ◌∙◌}
 use Rattle.capcode.proofs.Places.{first_wrong, place_upto}
 use Rattle.capcode.proofs.advising.advise.Goals as goal
 

@@ -1,9 +1,7 @@
 -- `advise_wrong` meets its contract: the end of the text, a byte that is no digit, a digit before the letter or one after it.
 use Prim.Native.Nat.{ℕ}
 use mathlib.Core.Path.{sym, ap, ◌∙◌}
-use borrow.Author.Rules.{rules}
 use borrow.Author.Tests.{eq-eqb, ne_eqb, not-true, not-false}
-use Rattle.refusal.specs.declared.Refusal.{Refusal}
 use Rattle.refusal.specs.Told.{number_of}
 use Rattle.capcode.specs.Advice.{say, wrong_advice}
 use Rattle.capcode.proofs.advising.advise_wrong.Goals as goal

@@ -1,10 +1,8 @@
 -- `has_blanks_only` meets its contract: the loop has met blanks only.
-use Prim.Native.Nat.{◌-◌, ◌≤◌}
-use mathlib.Core.Bool.{true}
-use mathlib.Core.Path.{◌≡◌, refl, sym, ap, ◌∙◌}
+use mathlib.Core.Path.{refl, sym, ap, ◌∙◌}
 use native.Mathlib.Omega.{arith}
-use lib.ListN.{length, take}
-use lib.Seq.{take_all, take-length}
+use lib.ListN.{length}
+use lib.Seq.{take-length}
 use borrow.Author.Tests.{not-true, not-false}
 use Rattle.laws.specs.Lists.{all}
 use Rattle.laws.proofs.Rows.{all_grows, all_fails}

@@ -1,14 +1,11 @@
 -- `head_digits` meets its contract: the search for the first byte that is no digit goes from place to place.
-use Prim.Native.Nat.{ℕ, ◌+◌, ◌-◌}
+use Prim.Native.Nat.{◌+◌, ◌-◌}
 use mathlib.Core.Bool.{not}
-use mathlib.Core.Path.{◌≡◌, refl, sym, ap, ◌∙◌}
-use native.Mathlib.Omega.{arith}
+use mathlib.Core.Path.{◌≡◌}
 use lib.ListN.{length, drop}
 use Rattle.laws.specs.Lists.{first_that}
-use Rattle.laws.proofs.Searches.{found_here, found_later, found_none}
 use Rattle.capcode.specs.Reads.{is_digit}
 use Rattle.capcode.specs.Advice.{head_digits}
-use borrow.Author.Rules.{rules}
 use Rattle.capcode.proofs.advising.head_digits.Given as goal
 
 abbrev pub invariant-loop-i : goal.invariant-loop-i

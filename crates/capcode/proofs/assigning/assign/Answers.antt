@@ -1,4 +1,3 @@
-use borrow.Author.Rules.{rules}
 use Rattle.capcode.specs.declared.assigning.Judged.{Judged}
 use Rattle.capcode.proofs.Judging.{judged_tells, judged_fine}
 use Rattle.capcode.proofs.assigning.assign.Goals as goal

@@ -2,7 +2,6 @@
 use mathlib.Core.Bool.{true, false, not, ◌||◌}
 use mathlib.Core.Path.{◌≡◌, refl, sym, ap, ◌∙◌}
 use lib.Dec.{ltb}
-use borrow.Author.Rules.{rules}
 use Rattle.capcode.specs.Ranges.{accepted}
 use Rattle.capcode.specs.Assigned.{standard, framed, all_phase, offset_of}
 use Rattle.capcode.proofs.Judging.{asked_by}

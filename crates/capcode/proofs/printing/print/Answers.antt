@@ -1,5 +1,4 @@
 use mathlib.Core.Path.{sym, ap, ◌∙◌}
-use borrow.Author.Rules.{rules}
 use Rattle.capcode.specs.Assigned.{told_assign}
 use Rattle.capcode.proofs.Judging.{given_fine, refused_asked}
 use Rattle.capcode.proofs.printing.Prints.{refused_keeps}

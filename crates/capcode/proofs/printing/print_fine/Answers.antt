@@ -2,7 +2,6 @@ use Prim.Native.Nat.{ℕ}
 use mathlib.Core.List.{[], ◌∷◌}
 use mathlib.Core.Path.{ap, ◌∙◌}
 use lib.ListN.{length}
-use borrow.Author.Rules.{rules}
 use Rattle.refusal.specs.Told.{given}
 use Rattle.refusal.specs.declared.Refusal.TheVariants.{Room}
 use Rattle.capcode.proofs.printing.Prints.{refused_keeps, given_writes, print_refused, print_given}

@@ -1,12 +1,8 @@
 use Prim.Native.Nat.{◌+◌, ◌≤◌}
-use mathlib.Core.Path.{◌≡◌, refl, sym, ◌∙◌}
-use native.Mathlib.Omega.{arith}
-use lib.ListN.{length, length-set}
-use borrow.Author.Rules.{rules}
-use Rattle.laws.proofs.Writing.{put_nothing}
+use mathlib.Core.Path.{◌≡◌}
+use lib.ListN.{length}
 use Rattle.laws.specs.Lists.{put}
 use Rattle.capcode.specs.Text.{digits}
-use Rattle.capcode.proofs.printing.Writes.{write_turn}
 use Rattle.capcode.proofs.printing.write_digits.Given as goal
 
 abbrev pub invariant-loop-left : goal.invariant-loop-left

@@ -1,7 +1,4 @@
 use mathlib.Core.Path.{◌∙◌}
-use native.Mathlib.Omega.{arith}
-use lib.ListN.{length-set}
-use borrow.Author.Rules.{rules}
 use Rattle.capcode.proofs.printing.Writes.{text_written}
 use Rattle.capcode.proofs.Judging.{fine_collapse}
 use Rattle.capcode.proofs.printing.write_text.Goals as goal

@@ -1,7 +1,6 @@
 -- `class_of` meets its contract: of the thirteen places where the search ends, one is the table's middle row, and six are in
 -- either half.
 use mathlib.Core.Path.{sym, ap, ◌∙◌}
-use borrow.Author.Rules.{rules}
 use Rattle.capcode.specs.declared.Classed.{Classed}
 use Rattle.capcode.specs.Ranges.{rows}
 use Rattle.capcode.proofs.ranges.Halves.{lower_half, middle_row_lem, upper_half, in-lowest, not-in-lowest}

@@ -1,6 +1,5 @@
 -- `fault_at` meets its contract: a line of 02, item 1 for each answer.
 use mathlib.Core.Path.{sym, ◌∙◌}
-use borrow.Author.Rules.{rules}
 use borrow.Author.Tests.{not-true, not-false}
 use Rattle.capcode.proofs.Faults.{stops_too_soon, no_digit, leading_four, digit_before, digit_after}
 use Rattle.capcode.proofs.reading.fault_at.Goals as goal

@@ -1,11 +1,8 @@
-use Prim.Native.Nat.{◌-◌}
-use mathlib.Core.Path.{◌≡◌, refl, sym, ◌∙◌}
-use lib.ListN.{length, drop}
+use mathlib.Core.Path.{sym, ◌∙◌}
 use borrow.Author.Rules.{rules}
-use Rattle.capcode.specs.Reads.{going, follow, end_of}
 use Rattle.capcode.proofs.Steps.{step_after}
 use Rattle.capcode.proofs.Sound.{sound_bounded}
-use Rattle.capcode.proofs.Course.{Stands, stands_on, stands_stop, stands_end}
+use Rattle.capcode.proofs.Course.{stands_on, stands_stop, stands_end}
 use Rattle.capcode.proofs.reading.form_after_letter.Goals as goal
 
 pub step_after_letter-requires : goal.step_after_letter-requires

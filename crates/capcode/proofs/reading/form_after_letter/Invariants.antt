@@ -1,11 +1,8 @@
 use Prim.Native.Nat.{◌-◌}
-use mathlib.Core.Path.{◌≡◌, refl, sym, ◌∙◌}
+use mathlib.Core.Path.{◌≡◌}
 use lib.ListN.{length, drop}
-use borrow.Author.Rules.{rules}
 use Rattle.capcode.specs.Reads.{going, follow, end_of}
-use Rattle.capcode.proofs.Steps.{step_after}
-use Rattle.capcode.proofs.Sound.{sound_bounded}
-use Rattle.capcode.proofs.Course.{Stands, stands_on, stands_stop, stands_end}
+use Rattle.capcode.proofs.Course.{Stands}
 use Rattle.capcode.proofs.reading.form_after_letter.Given as goal
 
 abbrev pub invariant-loop-here : goal.invariant-loop-here

@@ -1,12 +1,8 @@
-use Prim.Native.Nat.{◌-◌}
 use mathlib.Core.Path.{refl, sym, ◌∙◌}
-use mathlib.Core.Logic.{⊎_elim}
-use lib.ListN.{length}
 use borrow.Author.Rules.{rules}
-use borrow.Author.Tests.{eqb-false, not-true}
 use Rattle.capcode.specs.Reads.{form_of}
 use Rattle.capcode.proofs.Sound.{sound_blank, sound_bounded}
-use Rattle.capcode.proofs.Course.{Stands, stands_on, stands_stop, stands_short}
+use Rattle.capcode.proofs.Course.{stands_on, stands_stop, stands_short}
 use Rattle.capcode.proofs.reading.form_of.Goals as goal
 use Rattle.capcode.proofs.reading.form_of.Goals.{else-loop-i-test, then-loop-i-test+then-not-s}
 
@@ -28,6 +24,6 @@ loop-i-preserved c = let step = sym c.step_of.ensures ∙ c.in-On.is in
 pub returns-then-s-eq0 : goal.returns-then-s-eq0
 returns-then-s-eq0 c =
     elim c.loop-i-test.branch [
-      else-loop-i-test w ↦ stands_short _ _ c.loop-i.i c.loop-i.s c.loop-i.invariant w.loop-i-test.false c.if-s-eq0.true
-    | then-loop-i-test+then-not-s w ↦ absurd (w.if-not-s.true c.if-s-eq0.true)
+      | else-loop-i-test w ↦ stands_short _ _ c.loop-i.i c.loop-i.s c.loop-i.invariant w.loop-i-test.false c.if-s-eq0.true
+      | then-loop-i-test+then-not-s w ↦ absurd (w.if-not-s.true c.if-s-eq0.true)
     ]

@@ -1,10 +1,6 @@
 -- `read` meets its contract: the form decides, and where the text goes wrong the place lies within it.
-use mathlib.Core.Path.{sym, ap, ◌∙◌}
+use mathlib.Core.Path.{sym, ◌∙◌}
 use native.Mathlib.Omega.{arith}
-use borrow.Author.Rules.{rules}
-use Rattle.refusal.specs.declared.Refusal.{Refusal}
-use Rattle.refusal.specs.Told.{refused_at}
-use Rattle.capcode.specs.Reads.{read_by}
 use Rattle.capcode.proofs.Places.{first_wrong, place_upto}
 use Rattle.capcode.proofs.reading.read.Goals as goal
 

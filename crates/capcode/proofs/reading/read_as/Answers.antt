@@ -2,7 +2,6 @@
 use mathlib.Core.List.{List, [], ◌∷◌}
 use mathlib.Core.Path.{◌≡◌, sym, ap, ◌∙◌}
 use Prim.Native.Nat.{ℕ}
-use borrow.Author.Rules.{rules}
 use Rattle.refusal.specs.Told.{given}
 use Rattle.refusal.proofs.Laws.{told_values}
 use Rattle.capcode.specs.declared.Capcode.{Capcode}

@@ -1,6 +1,5 @@
 use mathlib.Core.Path.{sym, ◌∙◌}
-use borrow.Author.Rules.{rules}
-use Rattle.capcode.proofs.Steps.{step_address, step_stop, digit_from}
+use Rattle.capcode.proofs.Steps.{step_address, step_stop}
 use Rattle.capcode.proofs.reading.step_after_letter.Goals as goal
 
 pub returns-then-is_digit : goal.returns-then-is_digit

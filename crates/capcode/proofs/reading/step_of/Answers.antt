@@ -1,6 +1,5 @@
 use mathlib.Core.Path.{sym, ◌∙◌}
-use borrow.Author.Rules.{rules}
-use Rattle.capcode.proofs.Steps.{step_head, step_letter, step_address, step_stop, digit_from}
+use Rattle.capcode.proofs.Steps.{step_head, step_letter, step_address, step_stop}
 use Rattle.capcode.proofs.reading.step_of.Goals as goal
 
 pub returns-then-s-eq0 : goal.returns-then-s-eq0

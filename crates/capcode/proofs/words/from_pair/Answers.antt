@@ -3,7 +3,6 @@ use Prim.Native.Nat.{◌≤◌, ◌<◌}
 use borrow.Author.Tests.{lt-leb, le-leb}
 use native.Mathlib.Omega.{arith}
 use Rattle.capcode.specs.Words.{from_pair}
-use borrow.Author.Rules.{rules}
 use Rattle.capcode.proofs.words.from_pair.Goals as goal
 
 pub returns-then-one-gt32768 : goal.returns-then-one-gt32768

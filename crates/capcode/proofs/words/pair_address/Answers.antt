@@ -1,7 +1,6 @@
 -- `pair_address` meets its contract: the address that Table 24 leads back to, if its words are these.
 use mathlib.Core.Bool.{true, false}
 use mathlib.Core.Path.{sym, ◌∙◌}
-use borrow.Author.Rules.{rules}
 use Rattle.capcode.proofs.words.Given.{pair_answered}
 use Rattle.capcode.proofs.words.pair_address.Goals as goal
 

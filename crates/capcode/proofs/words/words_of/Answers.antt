@@ -1,6 +1,5 @@
 -- `words_of` meets its contract: the class is looked up, and Table 24 has its line.
 use mathlib.Core.Path.{sym, ◌∙◌}
-use borrow.Author.Rules.{rules}
 use Rattle.capcode.proofs.Fits.{class_fits, known_fits, known_words, known_class}
 use Rattle.capcode.proofs.words.words_of.Goals as goal
 

@@ -1,17 +1,9 @@
 -- `drop_chain` meets its contract: what is found from a slot on is found from the first that was looked at, and there the
 -- record is cleared.
 use Prim.Native.Nat.{◌+◌, ◌-◌, ◌≤◌}
-use mathlib.Core.Logic.{⊎_elim}
-use mathlib.Core.Path.{◌≡◌, refl, sym, ap, ◌∙◌}
-use native.Mathlib.Omega.{arith}
-use lib.Dec.{eqb}
-use lib.ListN.{length, drop, set, length-map}
-use lib.Seq.{set_out}
-use Rattle.laws.proofs.Searches.{found_here, found_later, found_none}
-use Rattle.chain.specs.Chains.{blank, is_of, find}
-use Rattle.chain.specs.declared.finding.Judged.{Judged}
-use Rattle.chain.proofs.dropping.Answering.{within_row, answered}
-use borrow.Author.Rules.{rules}
+use mathlib.Core.Path.{◌≡◌}
+use lib.ListN.{drop}
+use Rattle.chain.specs.Chains.{find}
 use Rattle.chain.proofs.dropping.drop_chain.Given as goal
 
 abbrev pub invariant-loop-slot : goal.invariant-loop-slot

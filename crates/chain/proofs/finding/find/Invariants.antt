@@ -1,12 +1,8 @@
 -- `find` meets its contract: what is found from a place on is found from the start.
 use Prim.Native.Nat.{◌+◌, ◌-◌, ◌≤◌}
-use mathlib.Core.Path.{◌≡◌, sym, ◌∙◌}
-use native.Mathlib.Nat.{zero-add}
-use native.Mathlib.Omega.{arith}
-use lib.ListN.{length, drop}
-use Rattle.laws.proofs.Searches.{found_here, found_later, found_none}
-use Rattle.chain.specs.Chains.{blank, is_of, find}
-use borrow.Author.Rules.{rules}
+use mathlib.Core.Path.{◌≡◌}
+use lib.ListN.{drop}
+use Rattle.chain.specs.Chains.{find}
 use Rattle.chain.proofs.finding.find.Given as goal
 
 abbrev pub invariant-loop-at : goal.invariant-loop-at

@@ -1,14 +1,13 @@
 -- `judge` meets its contract: what is sound from a slot on is sound from the start, and the key of an open slot is
 -- looked for after it from place to place.
-use Prim.Native.Nat.{◌+◌, ◌-◌, ◌≤◌}
+use Prim.Native.Nat.{◌+◌}
 use mathlib.Core.Bool.{Bool}
-use mathlib.Core.Logic.{⊎_elim}
-use mathlib.Core.Path.{◌≡◌, refl, sym, ap, ◌∙◌}
+use mathlib.Core.Path.{◌≡◌, sym, ap, ◌∙◌}
 use native.Mathlib.Omega.{arith}
 use borrow.Author.Tests.{not-true, not-false}
 use lib.ListN.{length, get_or, drop}
 use Rattle.laws.proofs.Searches.{found_here, found_later, found_none}
-use Rattle.chain.specs.Chains.{blank, is_of, find, sound}
+use Rattle.chain.specs.Chains.{blank, is_of, sound}
 use Rattle.chain.proofs.Records.{sound_end}
 use Rattle.chain.specs.declared.finding.Judged.{Judged}
 use Rattle.chain.proofs.finding.Asking.{unsound, closed, twice, alone}
@@ -18,7 +17,7 @@ use Rattle.chain.proofs.finding.judge.Goals.{then-chain-ne0+else-loop-j-test, el
 
 -- a slot that is not sound
 pub returns-then-not-is_sound : goal.returns-then-not-is_sound
-returns-then-not-is_sound c = 
+returns-then-not-is_sound c =
     let long : length c.args.slots ≡ 8 = search rules in
     let answer : Bool → Judged = λ is. record { slots = c.args.slots; is_sound = is } in
     ap answer
@@ -29,7 +28,7 @@ returns-then-not-is_sound c =
 
 -- a later slot is of the key
 pub returns-then-is_of : goal.returns-then-is_of
-returns-then-is_of c = 
+returns-then-is_of c =
     let long : length c.args.slots ≡ 8 = search rules in
     let answer : Bool → Judged = λ is. record { slots = c.args.slots; is_sound = is } in
     let key = get_or c.args.slots c.loop-i.i blank in
@@ -44,7 +43,7 @@ returns-then-is_of c =
 
 -- a later slot is not of the key
 pub loop-j-preserved : goal.loop-j-preserved
-loop-j-preserved c = 
+loop-j-preserved c =
     let long : length c.args.slots ≡ 8 = search rules in
     let key = get_or c.args.slots c.loop-i.i blank in (
       omega arith,
@@ -56,7 +55,7 @@ loop-j-preserved c =
 
 -- no later slot is of the key, or the slot is closed
 pub loop-i-preserved : goal.loop-i-preserved
-loop-i-preserved c = 
+loop-i-preserved c =
     let long : length c.args.slots ≡ 8 = search rules in
     let row = c.args.slots in
     let i = c.loop-i.i in
@@ -64,18 +63,18 @@ loop-i-preserved c =
     let good = sym c.is_sound.ensures ∙ not-false c.is_sound.result c.if-not-is_sound.false-raw in
     let rest : sound (drop i row) ≡ sound (drop (i + 1) row) =
     elim c.if-chain-ne0.branch [
-      then-chain-ne0+else-loop-j-test w ↦
-        alone row i (omega (arith, long)) good w.if-chain-ne0.true
-        (w.loop-j.invariant.2
-        ∙ found_none (is_of key.address key.message_number) row blank w.loop-j.j (omega (arith, long, w.loop-j-test.false))
-        ∙ omega (arith, long, w.loop-j.invariant.1, w.loop-j-test.false))
-    | else-chain-ne0 w ↦ closed row i (omega (arith, long)) good w.if-chain-ne0.false
+      | then-chain-ne0+else-loop-j-test w ↦
+          alone row i (omega (arith, long)) good w.if-chain-ne0.true
+          (w.loop-j.invariant.2
+          ∙ found_none (is_of key.address key.message_number) row blank w.loop-j.j (omega (arith, long, w.loop-j-test.false))
+          ∙ omega (arith, long, w.loop-j.invariant.1, w.loop-j-test.false))
+      | else-chain-ne0 w ↦ closed row i (omega (arith, long)) good w.if-chain-ne0.false
     ]
     in
     (omega arith, c.loop-i.invariant.1 ∙ rest)
 
 pub returns : goal.returns
-returns c = 
+returns c =
     let long : length c.args.slots ≡ 8 = search rules in
     let answer : Bool → Judged = λ is. record { slots = c.args.slots; is_sound = is } in
     ap answer (sym (c.loop-i.invariant.1 ∙ sound_end c.args.slots c.loop-i.i (omega (arith, long))))

@@ -1,18 +1,9 @@
 -- `judge` meets its contract: what is sound from a slot on is sound from the start, and the key of an open slot is
 -- looked for after it from place to place.
 use Prim.Native.Nat.{◌+◌, ◌-◌, ◌≤◌}
-use mathlib.Core.Bool.{Bool}
-use mathlib.Core.Logic.{⊎_elim}
-use mathlib.Core.Path.{◌≡◌, refl, sym, ap, ◌∙◌}
-use native.Mathlib.Omega.{arith}
-use borrow.Author.Tests.{not-true, not-false}
-use lib.ListN.{length, get_or, drop}
-use Rattle.laws.proofs.Searches.{found_here, found_later, found_none}
-use Rattle.chain.specs.Chains.{blank, is_of, find, sound}
-use Rattle.chain.proofs.Records.{sound_end}
-use Rattle.chain.specs.declared.finding.Judged.{Judged}
-use Rattle.chain.proofs.finding.Asking.{unsound, closed, twice, alone}
-use borrow.Author.Rules.{rules}
+use mathlib.Core.Path.{◌≡◌}
+use lib.ListN.{drop}
+use Rattle.chain.specs.Chains.{find, sound}
 use Rattle.chain.proofs.finding.judge.Given as goal
 
 abbrev pub invariant-loop-j : goal.invariant-loop-j

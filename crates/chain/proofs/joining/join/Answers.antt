@@ -3,14 +3,13 @@ use Prim.Native.Nat.{◌+◌, ◌*◌, ◌<◌, ◌≤◌}
 use mathlib.Core.Logic.{⊎_elim}
 use mathlib.Core.Path.{refl, ap₂, ◌≡◌, sym, ap, ◌∙◌}
 use mathlib.Core.List.{List, [], ◌∷◌}
-use mathlib.Core.Bool.{true, false, not, ◌&&◌}
+use mathlib.Core.Bool.{false, not, ◌&&◌}
 use native.Mathlib.Nat.{eq-or-lt_of_le}
 use native.Mathlib.Omega.{arith}
 use lib.ListN.{set, length}
 use Rattle.laws.specs.Choice.{bit_of}
 use Rattle.laws.specs.Lists.{put}
-use Rattle.refusal.specs.declared.Refusal.TheVariants.{NoChain, Full}
-use Rattle.refusal.specs.Told.{told, refused}
+use Rattle.refusal.specs.Told.{told}
 use Rattle.fragment.specs.Fragments.{text_in}
 use Rattle.fragment.specs.declared.FragmentRead.{FragmentRead}
 use Rattle.chain.specs.declared.Chain.{Chain}
@@ -21,13 +20,13 @@ use Rattle.chain.specs.Answers.{known}
 use Rattle.chain.specs.declared.ChainFate.{ChainFate}
 use Rattle.chain.specs.FateAnswers.{fate_number, as_fate}
 use Rattle.chain.specs.JoiningPieces.{taken_of, turn_of, orphan}
-use Rattle.chain.proofs.joining.Turns.{settled, has_room, joins_none, joins_lost, joins-full, joins-taken, refused_joins, taken_joins}
+use Rattle.chain.proofs.joining.Turns.{settled, has_room, joins_lost, joins-taken, refused_joins, taken_joins}
 use Rattle.chain.specs.declared.joining.Turn.{Turn}
 use borrow.Author.Rules.{rules}
 use Rattle.chain.proofs.joining.join.Goals as goal
 
 pub returns-then-fate-ne0 : goal.returns-then-fate-ne0
-returns-then-fate-ne0 c = 
+returns-then-fate-ne0 c =
     let there : c.turn_of-turn.result ≡ turn_of c.args.slots c.args.address c.args.heading = c.turn_of-turn.ensures in
     let no-orphan : orphan c.args.slots c.args.address c.args.heading ≡ false = let h = c.args.heading in
     ap (λ (t : Turn). not (is_first h) && not t.known) (sym there) ∙ c.if-heading-turn.false in
@@ -50,7 +49,7 @@ returns-then-fate-ne0 c =
     (λ none. c.if-fate-ne0.true (ap (λ (g : ChainFate). g.number) fate-is ∙ none)) in record { told = both.0; buffer = both.1 }
 
 pub overflow_mul-end : goal.overflow_mul-end
-overflow_mul-end c = 
+overflow_mul-end c =
     let long : length c.args.slots ≡ 8 = search rules in
     let there : c.turn_of-turn.result ≡ turn_of c.args.slots c.args.address c.args.heading = c.turn_of-turn.ensures in
     let fate-is : c.fate-fate.result ≡ as_fate (fate_of c.args.slots c.args.address c.args.heading) = let h = c.args.heading in
@@ -65,7 +64,7 @@ overflow_mul-end c =
     omega (arith, bounds.0)
 
 pub overflow_add-end : goal.overflow_add-end
-overflow_add-end c = 
+overflow_add-end c =
     let long : length c.args.slots ≡ 8 = search rules in
     let there : c.turn_of-turn.result ≡ turn_of c.args.slots c.args.address c.args.heading = c.turn_of-turn.ensures in
     let fate-is : c.fate-fate.result ≡ as_fate (fate_of c.args.slots c.args.address c.args.heading) = let h = c.args.heading in
@@ -80,7 +79,7 @@ overflow_add-end c =
     omega (arith, bounds)
 
 pub write_at-requires : goal.write_at-requires
-write_at-requires c = 
+write_at-requires c =
     let long : length c.args.slots ≡ 8 = search rules in
     let there : c.turn_of-turn.result ≡ turn_of c.args.slots c.args.address c.args.heading = c.turn_of-turn.ensures in
     let fate-is : c.fate-fate.result ≡ as_fate (fate_of c.args.slots c.args.address c.args.heading) = let h = c.args.heading in
@@ -97,7 +96,7 @@ write_at-requires c =
     omega (arith, bounds, c.requires.most_characters_in_bounds)
 
 pub taken-requires : goal.taken-requires
-taken-requires c = 
+taken-requires c =
     let long : length c.args.slots ≡ 8 = search rules in
     let there : c.turn_of-turn.result ≡ turn_of c.args.slots c.args.address c.args.heading = c.turn_of-turn.ensures in
     let fate-is : c.fate-fate.result ≡ as_fate (fate_of c.args.slots c.args.address c.args.heading) = let h = c.args.heading in
@@ -112,7 +111,7 @@ taken-requires c =
     let both = bounds in record { slot_lt_slot_count = both.0; characters_bound = both.1 }
 
 pub returns : goal.returns
-returns c = 
+returns c =
     let long : length c.args.slots ≡ 8 = search rules in
     let there : c.turn_of-turn.result ≡ turn_of c.args.slots c.args.address c.args.heading = c.turn_of-turn.ensures in
     let no-orphan : orphan c.args.slots c.args.address c.args.heading ≡ false = let h = c.args.heading in

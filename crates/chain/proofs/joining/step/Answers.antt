@@ -5,7 +5,7 @@ use mathlib.Core.List.{[]}
 use mathlib.Core.Path.{◌≡◌, sym, ap, ◌∙◌}
 use native.Mathlib.Omega.{arith}
 use borrow.Author.Tests.{not-true, not-false}
-use lib.ListN.{length, length-map}
+use lib.ListN.{length}
 use Rattle.refusal.specs.Told.{told, number_told}
 use Rattle.fragment.specs.Answers.{heading_of}
 use Rattle.fragment.proofs.Laws.{heading_told_lem, accepted}
@@ -18,7 +18,7 @@ use borrow.Author.Rules.{rules}
 use Rattle.chain.proofs.joining.step.Goals as goal
 
 pub returns-then-buffer : goal.returns-then-buffer
-returns-then-buffer c = 
+returns-then-buffer c =
     let long : length c.args.chains.slots ≡ 8 = search rules in
     let row = c.args.chains.slots in
     let address = c.args.address in
@@ -29,7 +29,7 @@ returns-then-buffer c =
     (c.unchanged.ensures ∙ ap (λ (n : ℕ). as_step (told n []) row) c.number.ensures) in record { told = both.0; buffer = both.1 }
 
 pub returns-then-not-sound : goal.returns-then-not-sound
-returns-then-not-sound c = 
+returns-then-not-sound c =
     let long : length c.args.chains.slots ≡ 8 = search rules in
     let room : length c.args.chains.slots * 1008 ≤ length c.args.buffer.now = omega (arith, long, c.if-buffer.false) in
     let row = c.args.chains.slots in
@@ -41,7 +41,7 @@ returns-then-not-sound c =
     (c.unchanged-then-not-sound.ensures ∙ ap (λ (n : ℕ). as_step (told n []) row) c.number-then-not-sound.ensures) in record { told = both.0; buffer = both.1 }
 
 pub returns-then-address-gt-LAST_ADDRESS : goal.returns-then-address-gt-LAST_ADDRESS
-returns-then-address-gt-LAST_ADDRESS c = 
+returns-then-address-gt-LAST_ADDRESS c =
     let long : length c.args.chains.slots ≡ 8 = search rules in
     let room : length c.args.chains.slots * 1008 ≤ length c.args.buffer.now = omega (arith, long, c.if-buffer.false) in
     let right : sound c.args.chains.slots ≡ true = sym c.sound.ensures ∙ not-false c.sound.result c.if-not-sound.false-raw in
@@ -54,7 +54,7 @@ returns-then-address-gt-LAST_ADDRESS c =
     (c.unchanged-then-address-gt-LAST_ADDRESS.ensures ∙ ap (λ (n : ℕ). as_step (told n []) row) c.number-then-address-gt-LAST_ADDRESS.ensures) in record { told = both.0; buffer = both.1 }
 
 pub returns-then-heading-ne0 : goal.returns-then-heading-ne0
-returns-then-heading-ne0 c = 
+returns-then-heading-ne0 c =
     let long : length c.args.chains.slots ≡ 8 = search rules in
     let room : length c.args.chains.slots * 1008 ≤ length c.args.buffer.now = omega (arith, long, c.if-buffer.false) in
     let right : sound c.args.chains.slots ≡ true = sym c.sound.ensures ∙ not-false c.sound.result c.if-not-sound.false-raw in
@@ -69,7 +69,7 @@ returns-then-heading-ne0 c =
     (c.unchanged-then-heading-ne0.ensures ∙ ap (λ (n : ℕ). as_step (told n []) row) told_of) in record { told = both.0; buffer = both.1 }
 
 pub join-requires : goal.join-requires
-join-requires c = 
+join-requires c =
     let long : length c.args.chains.slots ≡ 8 = search rules in
     let room : length c.args.chains.slots * 1008 ≤ length c.args.buffer.now = omega (arith, long, c.if-buffer.false) in
     let right : sound c.args.chains.slots ≡ true = sym c.sound.ensures ∙ not-false c.sound.result c.if-not-sound.false-raw in
@@ -79,7 +79,7 @@ join-requires c =
     record { slots_value = right; most_characters_in_bounds = omega (arith, long, room); heading_value = c.heading-heading.ensures ∙ ap as_fragment (heading_told_lem words ((accepted words).0 none)) }
 
 pub returns : goal.returns
-returns c = 
+returns c =
     let long : length c.args.chains.slots ≡ 8 = search rules in
     let room : length c.args.chains.slots * 1008 ≤ length c.args.buffer.now = omega (arith, long, c.if-buffer.false) in
     let right : sound c.args.chains.slots ≡ true = sym c.sound.ensures ∙ not-false c.sound.result c.if-not-sound.false-raw in

@@ -1,15 +1,12 @@
 -- `turn_of` meets its contract.
-use mathlib.Core.Path.{◌≡◌, refl, sym}
-use native.Mathlib.Omega.{arith}
-use borrow.Author.Tests.{lt-ltb, le-ltb}
-use lib.ListN.{length, get_or-eq_default}
-use Rattle.chain.specs.Chains.{blank}
-use Rattle.chain.proofs.joining.Turns.{turn_first, turn_later}
+use mathlib.Core.Path.{◌≡◌}
+use lib.ListN.{length}
+use Rattle.chain.proofs.joining.Turns.{turn_first}
 use borrow.Author.Rules.{rules}
 use Rattle.chain.proofs.joining.turn_of.Goals as goal
 
 pub returns-then-heading-eq-FIRST_FRAGMENT : goal.returns-then-heading-eq-FIRST_FRAGMENT
-returns-then-heading-eq-FIRST_FRAGMENT c = 
+returns-then-heading-eq-FIRST_FRAGMENT c =
     let long : length c.args.slots ≡ 8 = search rules in
     turn_first c.args.slots c.args.address c.args.heading long c.find-older.result
     c.find-older.ensures c.first_free-free.result c.lower.result

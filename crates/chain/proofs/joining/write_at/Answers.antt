@@ -9,7 +9,6 @@ use Rattle.refusal.proofs.Laws.{given_writes}
 use Rattle.fragment.specs.Fragments.{text_in}
 use Rattle.fragment.specs.Answers.{text_of}
 use Rattle.fragment.proofs.Laws.{text_accepted}
-use borrow.Author.Rules.{rules}
 use Rattle.chain.proofs.joining.write_at.Goals as goal
 
 pub returns : goal.returns

@@ -11,7 +11,6 @@ use Rattle.chain.specs.Steps.{goes_on, sum_after, characters_after}
 use Rattle.chain.proofs.Fates.{out_of_turn, wrong_total, goes_on_lem, is_whole, join_room}
 use Rattle.chain.specs.declared.ChainFate.{ChainFate}
 use Rattle.chain.specs.FateAnswers.{as_fate}
-use borrow.Author.Rules.{rules}
 use Rattle.chain.proofs.one_chain.fate.Goals as goal
 
 -- a chain that goes on and awaits an F
@@ -63,7 +62,7 @@ returns-then-sum-ne-WHOLE_SUM c = c.lost-then-sum-ne-WHOLE_SUM.ensures
 
 pub returns : goal.returns
 returns c = ap as_fate (sym (is_whole c.args.chain c.args.heading (record {
-      turn = c.if-heading-chain.false;
-      fits = omega (arith, c.if-heading-gt-MOST_CHARACTERS.false, c.if-chain-heading.false);
-      total = λ ends. sym (sum_of c.args.chain c.args.heading) ∙ c.if-sum-ne-WHOLE_SUM.false;
-    }) (ap not (eq-eqb c.args.heading.continued 0 c.if-heading-ne0.false))))
+  turn = c.if-heading-chain.false;
+  fits = omega (arith, c.if-heading-gt-MOST_CHARACTERS.false, c.if-chain-heading.false);
+  total = λ ends. sym (sum_of c.args.chain c.args.heading) ∙ c.if-sum-ne-WHOLE_SUM.false;
+}) (ap not (eq-eqb c.args.heading.continued 0 c.if-heading-ne0.false))))

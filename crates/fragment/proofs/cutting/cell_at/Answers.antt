@@ -1,5 +1,5 @@
 -- `cell_at` meets its contract: before, within and after the text.
-use Rattle.std.proofs.Common.{◌-◌, ◌∙◌, arith, rules}
+use Rattle.std.proofs.Common.{◌∙◌, arith}
 use Rattle.fragment.proofs.cutting.Message.{sum_small, first_cell, text_cell, fill_cell, cell_small}
 use Rattle.fragment.proofs.cutting.cell_at.Goals as goal
 

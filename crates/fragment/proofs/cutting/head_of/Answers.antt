@@ -1,6 +1,6 @@
 -- `head_of` meets its contract: each number times the weight of its place.
-use Rattle.std.proofs.Common.{◌<◌, arith, rules}
-use Rattle.fragment.proofs.CutHeads.{marks_small, head_first, head_later}
+use Rattle.std.proofs.Common.{arith}
+use Rattle.fragment.proofs.CutHeads.{head_first, head_later}
 use Rattle.fragment.proofs.cutting.head_of.Goals as goal
 
 pub returns-then-place-eq0 : goal.returns-then-place-eq0

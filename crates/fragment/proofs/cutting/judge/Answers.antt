@@ -1,5 +1,5 @@
 -- `judge` meets its contract: the questions stand in the definition's order.
-use Rattle.std.proofs.Common.{◌≡◌, ℕ, ◌+◌, true, false, ltb, length, sym, ◌∙◌, ap₂, arith, rules, le-ltb, lt-ltb}
+use Rattle.std.proofs.Common.{◌≡◌, ℕ, ◌+◌, true, false, ltb, length, sym, ◌∙◌, ap₂, arith, le-ltb, lt-ltb}
 use mathlib.Core.List.{flatten}
 use borrow.Author.Tests.{not-true, not-false}
 use Rattle.fragment.specs.Fragments.{is_size}
@@ -15,14 +15,14 @@ returns-then-not-marked c = c.number.ensures ∙ simp (sym c.marked.ensures ∙ 
 
 pub returns-then-not-is_size : goal.returns-then-not-is_size
 unfolding cut_of
-returns-then-not-is_size c = 
+returns-then-not-is_size c =
     let fits : marked c.args.marks ≡ true = sym c.marked.ensures ∙ not-false _ c.if-not-marked.false-raw in
     c.number-then-not-is_size.ensures
     ∙ simp (fits, sym c.is_size.ensures ∙ not-true _ c.if-not-is_size.true-raw)
 
 pub returns-then-text-gt-MOST_CHARACTERS : goal.returns-then-text-gt-MOST_CHARACTERS
 unfolding cut_of
-returns-then-text-gt-MOST_CHARACTERS c = 
+returns-then-text-gt-MOST_CHARACTERS c =
     let fits : marked c.args.marks ≡ true = sym c.marked.ensures ∙ not-false _ c.if-not-marked.false-raw in
     let sized : is_size c.args.largest ≡ true = sym c.is_size.ensures ∙ not-false _ c.if-not-is_size.false-raw in
     let text = c.args.text.now in
@@ -31,7 +31,7 @@ returns-then-text-gt-MOST_CHARACTERS c =
 
 pub returns-then-not-sendable : goal.returns-then-not-sendable
 unfolding cut_of
-returns-then-not-sendable c = 
+returns-then-not-sendable c =
     let fits : marked c.args.marks ≡ true = sym c.marked.ensures ∙ not-false _ c.if-not-marked.false-raw in
     let sized : is_size c.args.largest ≡ true = sym c.is_size.ensures ∙ not-false _ c.if-not-is_size.false-raw in
     let short : ltb 1008 (length c.args.text.now) ≡ false = le-ltb _ _ c.if-text-gt-MOST_CHARACTERS.false in
@@ -41,7 +41,7 @@ returns-then-not-sendable c =
 
 pub returns-then-lent-fragments_for : goal.returns-then-lent-fragments_for
 unfolding cut_of
-returns-then-lent-fragments_for c = 
+returns-then-lent-fragments_for c =
     let fits : marked c.args.marks ≡ true = sym c.marked.ensures ∙ not-false _ c.if-not-marked.false-raw in
     let sized : is_size c.args.largest ≡ true = sym c.is_size.ensures ∙ not-false _ c.if-not-is_size.false-raw in
     let short : ltb 1008 (length c.args.text.now) ≡ false = le-ltb _ _ c.if-text-gt-MOST_CHARACTERS.false in
@@ -61,7 +61,7 @@ returns-then-lent-fragments_for c =
 
 pub returns : goal.returns
 unfolding cut_of
-returns c = 
+returns c =
     let fits : marked c.args.marks ≡ true = sym c.marked.ensures ∙ not-false _ c.if-not-marked.false-raw in
     let sized : is_size c.args.largest ≡ true = sym c.is_size.ensures ∙ not-false _ c.if-not-is_size.false-raw in
     let short : ltb 1008 (length c.args.text.now) ≡ false = le-ltb _ _ c.if-text-gt-MOST_CHARACTERS.false in

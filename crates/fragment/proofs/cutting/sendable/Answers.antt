@@ -1,5 +1,5 @@
 -- `sendable` meets its contract: what is still to be asked decides.
-use Rattle.std.proofs.Common.{◌≡◌, ◌-◌, length, drop, sym, refl, ◌∙◌, arith, rules}
+use Rattle.std.proofs.Common.{sym, ◌∙◌, arith}
 use borrow.Author.Tests.{not-true, not-false}
 use Rattle.laws.proofs.Rows.{passes, fails, all_asked}
 use Rattle.fragment.specs.Cutting.{sendable}

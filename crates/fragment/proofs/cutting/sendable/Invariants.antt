@@ -1,7 +1,5 @@
 -- `sendable` meets its contract: what is still to be asked decides.
-use Rattle.std.proofs.Common.{◌≡◌, ◌-◌, length, drop, sym, refl, ◌∙◌, arith, rules}
-use borrow.Author.Tests.{not-true, not-false}
-use Rattle.laws.proofs.Rows.{passes, fails, all_asked}
+use Rattle.std.proofs.Common.{◌≡◌, ◌-◌, length, drop}
 use Rattle.fragment.specs.Cutting.{sendable}
 use Rattle.fragment.proofs.cutting.sendable.Given as goal
 

@@ -1,5 +1,5 @@
 -- `signature_of` meets its contract: each character of fill lowers the signature by 3.
-use Rattle.std.proofs.Common.{ℕ, ◌+◌, ◌-◌, ◌*◌, ◌%◌, length, ap, ◌∙◌, arith, rules}
+use Rattle.std.proofs.Common.{ℕ, ◌+◌, ◌-◌, ◌*◌, ◌%◌, length, ap, ◌∙◌, arith}
 use Rattle.fragment.proofs.cutting.Message.{fill_lowers}
 use Rattle.fragment.proofs.cutting.signature_of.Goals as goal
 

@@ -1,34 +1,34 @@
 -- `write_at` meets its contract: a fragment's part of the row is as long as the fragment.
-use Rattle.std.proofs.Common.{◌≡◌, ℕ, ◌+◌, ◌-◌, ◌*◌, ◌≤◌, min, eqb, length, take, drop, sym, ap, ◌∙◌, ap₂, arith}
-use borrow.Rule.Slice.PartMut.{mid_of, put_mid, mid_len, same_len_mid}
+use Rattle.std.proofs.Common.{◌≡◌, ℕ, ◌+◌, ◌-◌, ◌*◌, ◌≤◌, min, eqb, length, take, drop, ap, ◌∙◌, ap₂, arith}
+use borrow.Rule.Slice.PartMut.{mid_of, put_mid, mid_len}
 use Rattle.laws.proofs.Parts.{part_put}
 use Rattle.fragment.specs.Fragments.{fragment_of}
 use Rattle.fragment.proofs.Laws.{size_limits}
 use Rattle.fragment.specs.Cutting.{message_of, words_for, head_at, fragments_for, fragment_at}
-use Rattle.fragment.proofs.CutCounts.{words_at, message_length, fragment_length}
+use Rattle.fragment.proofs.CutCounts.{words_at, fragment_length}
 use Rattle.fragment.proofs.CutLaws.{Cuttable, accepted}
 use Rattle.fragment.proofs.cutting.Writing.{starts_within, part_size, cells_within, cells_taken}
 use Rattle.fragment.proofs.cutting.write_at.Goals as goal
 
 pub fragments_for-count-requires : goal.fragments_for-count-requires
-fragments_for-count-requires c = 
+fragments_for-count-requires c =
     let known : Cuttable c.args.marks c.args.largest c.args.text.now × (fragments_for c.args.largest (length c.args.text.now) + words_for (length c.args.text.now) ≤ length c.args.words.now) = (accepted (length c.args.words.now) c.args.marks c.args.largest c.args.text.now).0 c.requires.text_value in
     let k = known.0 in record { largest_value = k.size; characters_bound = k.short }
 
 pub overflow_mul-start : goal.overflow_mul-start
-overflow_mul-start c = 
+overflow_mul-start c =
     let known : Cuttable c.args.marks c.args.largest c.args.text.now × (fragments_for c.args.largest (length c.args.text.now) + words_for (length c.args.text.now) ≤ length c.args.words.now) = (accepted (length c.args.words.now) c.args.marks c.args.largest c.args.text.now).0 c.requires.text_value in
     let limits : (2 ≤ c.args.largest) × (c.args.largest ≤ 85) = size_limits c.args.largest known.0.size in
     let begins : c.args.largest * c.args.place ≤ length c.args.words.now = omega (arith, known.1, starts_within c.args.largest c.args.text.now c.args.place limits.0 c.requires.place_bound) in
     omega (arith, c.well_formed, begins)
 
 pub words_for-requires : goal.words_for-requires
-words_for-requires c = 
+words_for-requires c =
     let known : Cuttable c.args.marks c.args.largest c.args.text.now × (fragments_for c.args.largest (length c.args.text.now) + words_for (length c.args.text.now) ≤ length c.args.words.now) = (accepted (length c.args.words.now) c.args.marks c.args.largest c.args.text.now).0 c.requires.text_value in
     known.0.short
 
 pub end_of-end-requires : goal.end_of-end-requires
-end_of-end-requires c = 
+end_of-end-requires c =
     let known : Cuttable c.args.marks c.args.largest c.args.text.now × (fragments_for c.args.largest (length c.args.text.now) + words_for (length c.args.text.now) ≤ length c.args.words.now) = (accepted (length c.args.words.now) c.args.marks c.args.largest c.args.text.now).0 c.requires.text_value in
     let limits : (2 ≤ c.args.largest) × (c.args.largest ≤ 85) = size_limits c.args.largest known.0.size in
     omega (
@@ -39,20 +39,20 @@ end_of-end-requires c =
     )
 
 pub overflow_mul-cell : goal.overflow_mul-cell
-overflow_mul-cell c = 
+overflow_mul-cell c =
     let known : Cuttable c.args.marks c.args.largest c.args.text.now × (fragments_for c.args.largest (length c.args.text.now) + words_for (length c.args.text.now) ≤ length c.args.words.now) = (accepted (length c.args.words.now) c.args.marks c.args.largest c.args.text.now).0 c.requires.text_value in
     let limits : (2 ≤ c.args.largest) × (c.args.largest ≤ 85) = size_limits c.args.largest known.0.size in
     omega (arith, limits)
 
 pub offset_bounds-words-start : goal.offset_bounds-words-start
-offset_bounds-words-start c = 
+offset_bounds-words-start c =
     let known : Cuttable c.args.marks c.args.largest c.args.text.now × (fragments_for c.args.largest (length c.args.text.now) + words_for (length c.args.text.now) ≤ length c.args.words.now) = (accepted (length c.args.words.now) c.args.marks c.args.largest c.args.text.now).0 c.requires.text_value in
     let limits : (2 ≤ c.args.largest) × (c.args.largest ≤ 85) = size_limits c.args.largest known.0.size in
     let begins : c.args.largest * c.args.place ≤ length c.args.words.now = omega (arith, known.1, starts_within c.args.largest c.args.text.now c.args.place limits.0 c.requires.place_bound) in
     omega (arith, c.well_formed, begins)
 
 pub write_fragment-requires : goal.write_fragment-requires
-write_fragment-requires c = 
+write_fragment-requires c =
     let known : Cuttable c.args.marks c.args.largest c.args.text.now × (fragments_for c.args.largest (length c.args.text.now) + words_for (length c.args.text.now) ≤ length c.args.words.now) = (accepted (length c.args.words.now) c.args.marks c.args.largest c.args.text.now).0 c.requires.text_value in
     let limits : (2 ≤ c.args.largest) × (c.args.largest ≤ 85) = size_limits c.args.largest known.0.size in
     let afterFirst : ℕ = words_at c.args.largest (length c.args.text.now) c.args.place in
@@ -75,7 +75,7 @@ write_fragment-requires c =
 
 pub returns : goal.returns
 unfolding fragment_at
-returns c = 
+returns c =
     let known : Cuttable c.args.marks c.args.largest c.args.text.now × (fragments_for c.args.largest (length c.args.text.now) + words_for (length c.args.text.now) ≤ length c.args.words.now) = (accepted (length c.args.words.now) c.args.marks c.args.largest c.args.text.now).0 c.requires.text_value in
     let limits : (2 ≤ c.args.largest) × (c.args.largest ≤ 85) = size_limits c.args.largest known.0.size in
     let afterFirst : ℕ = words_at c.args.largest (length c.args.text.now) c.args.place in
@@ -115,7 +115,7 @@ returns c =
     ∙ part_put c.args.words.now from c.end_of-end.result (omega (arith, ends.0)) ends.1 fragment size
 
 pub slice_bounds-write_fragment-end : goal.slice_bounds-write_fragment-end
-slice_bounds-write_fragment-end c = 
+slice_bounds-write_fragment-end c =
     let known : Cuttable c.args.marks c.args.largest c.args.text.now × (fragments_for c.args.largest (length c.args.text.now) + words_for (length c.args.text.now) ≤ length c.args.words.now) = (accepted (length c.args.words.now) c.args.marks c.args.largest c.args.text.now).0 c.requires.text_value in
     let limits : (2 ≤ c.args.largest) × (c.args.largest ≤ 85) = size_limits c.args.largest known.0.size in
     let afterFirst : ℕ = words_at c.args.largest (length c.args.text.now) c.args.place in

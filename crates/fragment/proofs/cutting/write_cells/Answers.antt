@@ -1,7 +1,5 @@
 -- `write_cells` meets its contract: each word holds the next three cells.
-use Rattle.std.proofs.Common.{◌≡◌, ◌+◌, ◌-◌, ◌*◌, ◌≤◌, length, take, drop, refl, ◌∙◌, arith, length-set}
-use Rattle.laws.specs.Lists.{put}
-use Rattle.fragment.specs.Fragments.{words_of}
+use Rattle.std.proofs.Common.{◌+◌, ◌≤◌, length, ◌∙◌, arith, length-set}
 use Rattle.fragment.specs.Cutting.{message_of}
 use Rattle.fragment.proofs.CutCounts.{message_length}
 use Rattle.fragment.proofs.cutting.Writing.{cell_turn, cells_done, body_written}
@@ -9,15 +7,15 @@ use Rattle.fragment.proofs.cutting.write_cells.Goals as goal
 
 pub overflow_add-at : goal.overflow_add-at
 overflow_add-at c = omega (
-      arith,
-      c.well_formed,
-      c.requires.words_in_bounds,
-      message_length c.args.text.now,
-      c.loop-i.invariant.0,
-      c.loop-i.invariant.2,
-      c.loop-i.invariant.3,
-      c.loop-i-test.true,
-    )
+  arith,
+  c.well_formed,
+  c.requires.words_in_bounds,
+  message_length c.args.text.now,
+  c.loop-i.invariant.0,
+  c.loop-i.invariant.2,
+  c.loop-i.invariant.3,
+  c.loop-i-test.true,
+)
 
 pub loop-i-preserved : goal.loop-i-preserved
 loop-i-preserved c = let inv = c.loop-i.invariant in

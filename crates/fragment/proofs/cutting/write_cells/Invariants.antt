@@ -1,10 +1,8 @@
 -- `write_cells` meets its contract: each word holds the next three cells.
-use Rattle.std.proofs.Common.{◌≡◌, ◌+◌, ◌-◌, ◌*◌, ◌≤◌, length, take, drop, refl, ◌∙◌, arith, length-set}
+use Rattle.std.proofs.Common.{◌≡◌, ◌+◌, ◌-◌, ◌*◌, ◌≤◌, length, take, drop}
 use Rattle.laws.specs.Lists.{put}
 use Rattle.fragment.specs.Fragments.{words_of}
 use Rattle.fragment.specs.Cutting.{message_of}
-use Rattle.fragment.proofs.CutCounts.{message_length}
-use Rattle.fragment.proofs.cutting.Writing.{cell_turn, cells_done, body_written}
 use Rattle.fragment.proofs.cutting.write_cells.Given as goal
 
 abbrev pub invariant-loop-i : goal.invariant-loop-i

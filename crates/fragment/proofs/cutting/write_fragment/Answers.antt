@@ -1,14 +1,14 @@
 -- `write_fragment` meets its contract: K as 0 first, then K in the first word.
-use Rattle.std.proofs.Common.{◌≡◌, ℕ, ◌+◌, ◌-◌, ◌*◌, ◌<◌, ◌≤◌, eqb, List, ◌∷◌, length, get_or, take, drop, set, ap, ◌∙◌, ap₂, arith, length-set, get_or-set_same, rules}
+use Rattle.std.proofs.Common.{◌≡◌, ℕ, ◌+◌, ◌-◌, ◌*◌, ◌<◌, eqb, List, ◌∷◌, length, get_or, take, drop, set, ap, ◌∙◌, ap₂, arith, length-set, get_or-set_same}
 use Rattle.sums.specs.Sums.{ten_bits}
 use Rattle.fragment.specs.Fragments.{words_of, fragment_with, fragment_of}
 use Rattle.fragment.specs.Cutting.{message_of, head_at}
 use Rattle.fragment.proofs.CutHeads.{head_fits}
-use Rattle.fragment.proofs.cutting.Writing.{body_length, k_added}
+use Rattle.fragment.proofs.cutting.Writing.{k_added}
 use Rattle.fragment.proofs.cutting.write_fragment.Goals as goal
 
 pub overflow_add-words : goal.overflow_add-words
-overflow_add-words c = 
+overflow_add-words c =
     let cells : List ℕ = take (3 * (length c.args.words.now - 1)) (drop c.args.cell (message_of c.args.text.now)) in
     let zeroed : List ℕ = fragment_with (eqb c.args.place 0) (head_at c.args.marks c.args.place c.args.left) 0 cells in
     let zeroes : c.write_cells.new.words ≡ zeroed = let words = c.args.words.now in
@@ -22,7 +22,7 @@ overflow_add-words c =
     omega (arith, k-fits, c.ten_bit-check.ensures)
 
 pub returns : goal.returns
-returns c = 
+returns c =
     let cells : List ℕ = take (3 * (length c.args.words.now - 1)) (drop c.args.cell (message_of c.args.text.now)) in
     let zeroed : List ℕ = fragment_with (eqb c.args.place 0) (head_at c.args.marks c.args.place c.args.left) 0 cells in
     let zeroes : c.write_cells.new.words ≡ zeroed = let words = c.args.words.now in

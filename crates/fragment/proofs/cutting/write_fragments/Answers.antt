@@ -1,16 +1,16 @@
 -- `write_fragments` meets its contract: each fragment after the one before it.
-use Rattle.std.proofs.Common.{◌≡◌, ℕ, ◌+◌, ◌-◌, ◌*◌, ◌≤◌, List, length, refl, ap, ◌∙◌, arith, rules}
+use Rattle.std.proofs.Common.{ℕ, ◌+◌, ◌-◌, ◌*◌, ◌≤◌, List, length, refl, ap, ◌∙◌, arith}
 use mathlib.Core.List.{flatten}
 use Rattle.laws.specs.Lists.{put}
 use Rattle.laws.proofs.Writing.{length_put}
 use Rattle.fragment.proofs.Laws.{size_limits}
-use Rattle.fragment.specs.Cutting.{words_for, fragments_for, fragment_at, fragments_from, cut}
+use Rattle.fragment.specs.Cutting.{words_for, fragments_for, fragment_at, fragments_from}
 use Rattle.fragment.proofs.CutLaws.{Cuttable, accepted}
 use Rattle.fragment.proofs.cutting.Writing.{starts_within, ends_within, fragments_begin, fragment_turn, fragments_done}
 use Rattle.fragment.proofs.cutting.write_fragments.Goals as goal
 
 pub loop-place-init : goal.loop-place-init
-loop-place-init c = 
+loop-place-init c =
     let known : Cuttable c.args.marks c.args.largest c.args.text.now × (fragments_for c.args.largest (length c.args.text.now) + words_for (length c.args.text.now) ≤ length c.args.words.now) = (accepted (length c.args.words.now) c.args.marks c.args.largest c.args.text.now).0 c.requires.text_value in
     let args = c.args in (
       omega arith,
@@ -20,7 +20,7 @@ loop-place-init c =
     )
 
 pub loop-place-preserved : goal.loop-place-preserved
-loop-place-preserved c = 
+loop-place-preserved c =
     let known : Cuttable c.args.marks c.args.largest c.args.text.now × (fragments_for c.args.largest (length c.args.text.now) + words_for (length c.args.text.now) ≤ length c.args.words.now) = (accepted (length c.args.words.now) c.args.marks c.args.largest c.args.text.now).0 c.requires.text_value in
     let args = c.args in
     let two = (size_limits args.largest known.0.size).0 in
@@ -47,7 +47,7 @@ loop-place-preserved c =
     )
 
 pub returns : goal.returns
-returns c = 
+returns c =
     let known : Cuttable c.args.marks c.args.largest c.args.text.now × (fragments_for c.args.largest (length c.args.text.now) + words_for (length c.args.text.now) ≤ length c.args.words.now) = (accepted (length c.args.words.now) c.args.marks c.args.largest c.args.text.now).0 c.requires.text_value in
     let args = c.args in
     fragments_done args.marks args.largest args.text.now

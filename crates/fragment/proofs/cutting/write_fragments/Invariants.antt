@@ -1,12 +1,8 @@
 -- `write_fragments` meets its contract: each fragment after the one before it.
-use Rattle.std.proofs.Common.{◌≡◌, ℕ, ◌+◌, ◌-◌, ◌*◌, ◌≤◌, List, length, refl, ap, ◌∙◌, arith, rules}
+use Rattle.std.proofs.Common.{◌≡◌, ◌-◌, ◌*◌, ◌≤◌, length}
 use mathlib.Core.List.{flatten}
 use Rattle.laws.specs.Lists.{put}
-use Rattle.laws.proofs.Writing.{length_put}
-use Rattle.fragment.proofs.Laws.{size_limits}
-use Rattle.fragment.specs.Cutting.{words_for, fragments_for, fragment_at, fragments_from, cut}
-use Rattle.fragment.proofs.CutLaws.{Cuttable, accepted}
-use Rattle.fragment.proofs.cutting.Writing.{starts_within, ends_within, fragments_begin, fragment_turn, fragments_done}
+use Rattle.fragment.specs.Cutting.{fragments_from, cut}
 use Rattle.fragment.proofs.cutting.write_fragments.Given as goal
 
 abbrev pub invariant-loop-place : goal.invariant-loop-place

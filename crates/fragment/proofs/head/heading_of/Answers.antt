@@ -1,7 +1,6 @@
 -- `heading_of` meets its contract: each number stands at its place.
 use Rattle.fragment.specs.Fragments.{is_first}
 use Rattle.fragment.proofs.text.Cells.{signature_cell, text_after_signature}
-use Rattle.std.proofs.Common.{rules}
 use Rattle.fragment.proofs.head.heading_of.Goals as goal
 
 pub returns : goal.returns

@@ -1,5 +1,5 @@
 -- `sum` meets its contract: the sum so far and what is still to come, modulo 128.
-use Rattle.std.proofs.Common.{◌≡◌, ℕ, ◌+◌, ◌-◌, ◌%◌, ◌^◌, length, drop, sym, ap, ◌∙◌, zero-add, arith, rules}
+use Rattle.std.proofs.Common.{ℕ, ◌+◌, ◌%◌, ◌^◌, drop, sym, ap, ◌∙◌, arith}
 use Rattle.laws.specs.Lists.{sum_by}
 use Rattle.sums.proofs.Summing.{one_more, none_left}
 use Rattle.fragment.proofs.text.Cells.{cell_sum, sum_words}

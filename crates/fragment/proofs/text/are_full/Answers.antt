@@ -1,5 +1,5 @@
 -- `are_full` meets its contract: what was asked so far, and what is still to be asked, decide.
-use Rattle.std.proofs.Common.{◌≡◌, ◌+◌, ◌-◌, Bool, ◌&&◌, length, drop, refl, ap, ◌∙◌, arith, rules}
+use Rattle.std.proofs.Common.{◌+◌, Bool, ◌&&◌, drop, ap, ◌∙◌, arith}
 use Rattle.laws.specs.Lists.{all}
 use Rattle.fragment.specs.Full.{is_full}
 use Rattle.laws.proofs.Rows.{all_turn, all_done}

@@ -1,7 +1,7 @@
 -- `count_few` meets its contract: the characters so far and those still to come are all.
-use Rattle.std.proofs.Common.{◌-◌, length, get_or, arith, rules}
+use Rattle.std.proofs.Common.{get_or, arith}
 use Rattle.fragment.proofs.text.Cells.{few}
-use Rattle.fragment.proofs.text.Counting.{Counted, counted_second, counted_more, counted_last}
+use Rattle.fragment.proofs.text.Counting.{counted_second, counted_more, counted_last}
 use Rattle.fragment.proofs.text.count_few.Goals as goal
 
 pub loop-i-init : goal.loop-i-init

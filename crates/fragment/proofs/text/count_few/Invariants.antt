@@ -1,7 +1,6 @@
 -- `count_few` meets its contract: the characters so far and those still to come are all.
-use Rattle.std.proofs.Common.{◌-◌, length, get_or, arith, rules}
-use Rattle.fragment.proofs.text.Cells.{few}
-use Rattle.fragment.proofs.text.Counting.{Counted, counted_second, counted_more, counted_last}
+use Rattle.std.proofs.Common.{◌-◌, length}
+use Rattle.fragment.proofs.text.Counting.{Counted}
 use Rattle.fragment.proofs.text.count_few.Given as goal
 
 abbrev pub invariant-loop-i : goal.invariant-loop-i

@@ -1,6 +1,5 @@
 -- `count_in` meets its contract: the cells that are no fill are counted.
-use Rattle.std.proofs.Common.{arith, rules}
-use Rattle.fragment.proofs.text.Cells.{counted, few}
+use Rattle.fragment.proofs.text.Cells.{counted}
 use Rattle.fragment.proofs.text.count_in.Goals as goal
 
 pub returns : goal.returns

@@ -1,7 +1,6 @@
 -- `count_many` meets its contract: the characters so far and those still to come are all.
-use Rattle.std.proofs.Common.{◌-◌, length, get_or, arith, rules}
-use Rattle.fragment.proofs.text.Cells.{few}
-use Rattle.fragment.proofs.text.Counting.{Counted, counted_second, counted_more, counted_last}
+use Rattle.std.proofs.Common.{arith}
+use Rattle.fragment.proofs.text.Counting.{counted_second, counted_more, counted_last}
 use Rattle.fragment.proofs.text.count_many.Goals as goal
 
 pub loop-at-init : goal.loop-at-init

@@ -1,5 +1,5 @@
 -- `has_room` meets its contract: three characters a word after the first are never too few, and where there is less room they are counted.
-use Rattle.std.proofs.Common.{ℕ, leb, length, sym, ap, arith, rules, le-leb}
+use Rattle.std.proofs.Common.{length, sym, arith, le-leb}
 use Rattle.fragment.specs.Cells.{text_from}
 use Rattle.fragment.proofs.text.Cells.{text_most}
 use Rattle.fragment.proofs.text.has_room.Goals as goal

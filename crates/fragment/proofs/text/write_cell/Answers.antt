@@ -1,5 +1,5 @@
 -- `write_cell` meets its contract: fill is not written, another cell is.
-use Rattle.std.proofs.Common.{length, sym, refl, ap, arith, rules}
+use Rattle.std.proofs.Common.{length, sym, refl, ap, arith}
 use Rattle.laws.proofs.Writing.{put_nothing, put_one}
 use Rattle.fragment.proofs.text.Cells.{fill_none, text_one}
 use Rattle.fragment.proofs.text.write_cell.Goals as goal

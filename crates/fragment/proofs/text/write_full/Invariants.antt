@@ -1,9 +1,8 @@
 -- `write_full` meets its contract: the text of the words so far is stored, that of the others, which have no fill, still to come.
-use Rattle.std.proofs.Common.{◌≡◌, ◌-◌, true, length, drop, arith, rules}
+use Rattle.std.proofs.Common.{◌≡◌, ◌-◌, true, length, drop}
 use Rattle.laws.specs.Lists.{all}
 use Rattle.fragment.specs.Full.{is_full}
-use Rattle.laws.proofs.Rows.{all_next}
-use Rattle.fragment.proofs.text.Words.{Begun, begun_none, begun_room, begun_more, begun_all}
+use Rattle.fragment.proofs.text.Words.{Begun}
 use Rattle.fragment.proofs.text.write_full.Given as goal
 
 abbrev pub invariant-loop-i : goal.invariant-loop-i

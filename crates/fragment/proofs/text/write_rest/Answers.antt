@@ -1,6 +1,6 @@
 -- `write_rest` meets its contract: the text of the words so far is stored, that of the others still to come.
-use Rattle.std.proofs.Common.{◌-◌, length, arith, rules}
-use Rattle.fragment.proofs.text.Words.{Begun, begun_none, begun_room, begun_more, begun_all}
+use Rattle.std.proofs.Common.{arith}
+use Rattle.fragment.proofs.text.Words.{begun_room, begun_more, begun_all}
 use Rattle.fragment.proofs.text.write_rest.Goals as goal
 
 pub write_word-at-requires : goal.write_word-at-requires

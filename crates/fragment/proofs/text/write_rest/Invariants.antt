@@ -1,6 +1,6 @@
 -- `write_rest` meets its contract: the text of the words so far is stored, that of the others still to come.
-use Rattle.std.proofs.Common.{◌-◌, length, arith, rules}
-use Rattle.fragment.proofs.text.Words.{Begun, begun_none, begun_room, begun_more, begun_all}
+use Rattle.std.proofs.Common.{◌-◌, length}
+use Rattle.fragment.proofs.text.Words.{Begun}
 use Rattle.fragment.proofs.text.write_rest.Given as goal
 
 abbrev pub invariant-loop-i : goal.invariant-loop-i

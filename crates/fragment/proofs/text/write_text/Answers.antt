@@ -1,5 +1,5 @@
 -- `write_text` meets its contract: the text is that of the second word without the signature and of the words after it.
-use Rattle.std.proofs.Common.{◌≡◌, ℕ, ◌≤◌, Bool, length, get_or, sym, ap, ◌∙◌, arith, rules, leb-false, leb-true}
+use Rattle.std.proofs.Common.{◌≡◌, ℕ, ◌≤◌, Bool, length, get_or, sym, ap, ◌∙◌, arith, leb-false, leb-true}
 use borrow.Author.Tests.{not-true, not-false}
 use Rattle.laws.specs.Lists.{put}
 use Rattle.fragment.specs.Fragments.{is_first, text_in}
@@ -16,7 +16,7 @@ returns-then-words-lt-FEWEST_WORDS c = let args = c.args in
     record { told = ap as_text (sym none.0); buffer = sym none.1 }
 
 pub returns-then-not-has_room : goal.returns-then-not-has_room
-returns-then-not-has_room c = 
+returns-then-not-has_room c =
     let same : text_from c.unsigned-second.result c.args.words.now ≡ text_in c.args.words.now = let words = c.args.words.now in
     ap (λ (n : ℕ). text_from n words) (c.unsigned-second.ensures ∙ ap (λ (first : Bool). unsigned first (get_or words 1 0)) c.is_first.ensures)
     ∙ text_after_signature (is_first words) words (omega (arith, c.if-words-lt-FEWEST_WORDS.false)) in
@@ -28,12 +28,15 @@ returns-then-not-has_room c =
     record { told = rw c.number.ensures (ap as_text (sym told.0)); buffer = sym told.1 }
 
 pub returns : goal.returns
-returns c = 
+returns c =
     let same : text_from c.unsigned-second.result c.args.words.now ≡ text_in c.args.words.now = let words = c.args.words.now in
     ap (λ (n : ℕ). text_from n words) (c.unsigned-second.ensures ∙ ap (λ (first : Bool). unsigned first (get_or words 1 0)) c.is_first.ensures)
     ∙ text_after_signature (is_first words) words (omega (arith, c.if-words-lt-FEWEST_WORDS.false)) in
     let room : length (text_from c.unsigned-second.result c.args.words.now) ≤ length c.args.text.now = leb-true _ _ (sym c.has_room.ensures ∙ not-false _ c.if-not-has_room.false-raw) in
     let args = c.args in
     let text = same in
-    let lent : length (text_in args.words.now) ≤ length args.text.now = omega (arith, room, ap length text) in record { told = rw (c.write_words.ensures.count, text) (ap as_text (sym (text_told args.words.now (length args.text.now) lent))); buffer = c.write_words.ensures.buffer
-          ∙ ap (put args.text.now 0) text ∙ sym (text_given args.words.now args.text.now lent) }
+    let lent : length (text_in args.words.now) ≤ length args.text.now = omega (arith, room, ap length text) in record {
+      told = rw (c.write_words.ensures.count, text) (ap as_text (sym (text_told args.words.now (length args.text.now) lent)));
+      buffer = c.write_words.ensures.buffer
+          ∙ ap (put args.text.now 0) text ∙ sym (text_given args.words.now args.text.now lent);
+    }

@@ -1,10 +1,8 @@
 -- `all_fit` meets its contract: what is still to be asked is asked of the listeners left.
-use Prim.Native.Nat.{◌-◌, ◌≤◌}
-use mathlib.Core.Path.{◌≡◌, sym, ap, ◌∙◌}
+use mathlib.Core.Path.{◌≡◌, sym, ◌∙◌}
 use native.Mathlib.Omega.{arith}
-use lib.ListN.{length, take, drop}
-use Rattle.frames.specs.Listening.{all_fit}
-use Rattle.frames.proofs.Hearing.{looked, ask_frame, ask_collapse, ask_others, ask_none}
+use lib.ListN.{length}
+use Rattle.frames.proofs.Hearing.{ask_frame, ask_collapse, ask_others, ask_none}
 use borrow.Author.Rules.{rules}
 use Rattle.frames.proofs.marking.all_fit.Goals as goal
 use Rattle.frames.proofs.marking.all_fit.Goals.{Start}
@@ -25,12 +23,12 @@ returns-then-listener-gt-LAST_COLLAPSE c = sym
 
 pub loop-i-preserved : goal.loop-i-preserved
 loop-i-preserved c = (
-      omega arith,
-      omega arith,
-      c.loop-i.invariant.2
-          ∙ ask_others c.args.listeners c.looked_at-size.result c.loop-i.i
-          c.loop-i-test.true c.loop-i.invariant.1 (omega arith) (omega arith),
-    )
+  omega arith,
+  omega arith,
+  c.loop-i.invariant.2
+      ∙ ask_others c.args.listeners c.looked_at-size.result c.loop-i.i
+      c.loop-i-test.true c.loop-i.invariant.1 (omega arith) (omega arith),
+)
 
 pub returns : goal.returns
 returns c = sym

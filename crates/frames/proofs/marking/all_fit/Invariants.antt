@@ -1,11 +1,8 @@
 -- `all_fit` meets its contract: what is still to be asked is asked of the listeners left.
 use Prim.Native.Nat.{◌-◌, ◌≤◌}
-use mathlib.Core.Path.{◌≡◌, sym, ap, ◌∙◌}
-use native.Mathlib.Omega.{arith}
+use mathlib.Core.Path.{◌≡◌}
 use lib.ListN.{length, take, drop}
 use Rattle.frames.specs.Listening.{all_fit}
-use Rattle.frames.proofs.Hearing.{looked, ask_frame, ask_collapse, ask_others, ask_none}
-use borrow.Author.Rules.{rules}
 use Rattle.frames.proofs.marking.all_fit.Given as goal
 
 abbrev pub invariant-loop-i : goal.invariant-loop-i

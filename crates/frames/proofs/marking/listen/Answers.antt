@@ -8,7 +8,6 @@ use Rattle.frames.specs.Listening.{heard, all_fit, ones_of, masks_of, count_of, 
 use Rattle.frames.proofs.Masks.{repeated}
 use Rattle.frames.proofs.Hearing.{heard_repeats}
 use Rattle.frames.proofs.Laws.{counted}
-use borrow.Author.Rules.{rules}
 use Rattle.frames.proofs.marking.listen.Goals as goal
 use Rattle.frames.proofs.marking.listen.Goals.{Else-not-all_fit}
 

@@ -1,11 +1,10 @@
 -- `marked_bits` meets its contract: the count is that of the masks passed.
-use Prim.Native.Nat.{ℕ, ◌-◌, ◌*◌, ◌≤◌}
+use Prim.Native.Nat.{ℕ, ◌≤◌}
 use mathlib.Core.Path.{◌≡◌, refl}
 use borrow.Author.Rules.{rules}
 use native.Mathlib.Omega.{arith}
 use lib.Count.{ones, ones-le}
-use lib.ListN.{length, take, get_or}
-use lib.Seq.{take-length}
+use lib.ListN.{length, get_or}
 use mir.Syntax.{w16}
 use mir.Val.{Fits}
 use Rattle.frames.proofs.Masks.{ones_more}

@@ -1,11 +1,10 @@
 -- `mask` meets its contract: the comb, moved to the base frame within its period.
-use Prim.Native.Nat.{◌*◌, ◌%◌, ◌^◌, ◌≤◌}
+use Prim.Native.Nat.{◌*◌, ◌%◌, ◌^◌}
 use mathlib.Core.Path.{◌≡◌, ◌∙◌}
-use native.Mathlib.Nat.{one-mul, mod-lt}
+use native.Mathlib.Nat.{one-mul}
 use native.Mathlib.Omega.{arith}
-use lib.Pow.{shl_exact, pow_pos, pow_mono}
+use lib.Pow.{shl_exact}
 use Rattle.frames.proofs.Hearing.{comb_of}
-use borrow.Author.Rules.{rules}
 use Rattle.frames.proofs.marking.mask.Goals as goal
 use Rattle.frames.proofs.marking.mask.Goals.{After-comb}
 

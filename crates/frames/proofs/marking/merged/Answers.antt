@@ -1,5 +1,4 @@
 -- `merged` meets its contract: what is marked is what the listeners passed listen to.
-use Prim.Native.Nat.{◌-◌, ◌≤◌}
 use mathlib.Core.Path.{◌≡◌, refl, ap, ◌∙◌}
 use native.Mathlib.Numerals.{add-one}
 use native.Mathlib.Omega.{arith}
@@ -28,7 +27,7 @@ mask-marked-requires c = fit_among c.args.listeners c.looked_at-size.result c.lo
 
 pub loop-i-preserved : goal.loop-i-preserved
 loop-i-preserved c = (
-      omega arith,
-      rw (c.loop-i.invariant.1, c.mask-marked.ensures, add-one)
-          (merge_more c.args.listeners c.loop-i.i 0 32 (omega (arith, long c.before.before.before.before.before))),
-    )
+  omega arith,
+  rw (c.loop-i.invariant.1, c.mask-marked.ensures, add-one)
+      (merge_more c.args.listeners c.loop-i.i 0 32 (omega (arith, long c.before.before.before.before.before))),
+)

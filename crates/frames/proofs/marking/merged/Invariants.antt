@@ -1,12 +1,8 @@
 -- `merged` meets its contract: what is marked is what the listeners passed listen to.
 use Prim.Native.Nat.{◌-◌, ◌≤◌}
-use mathlib.Core.Path.{◌≡◌, refl, ap, ◌∙◌}
-use native.Mathlib.Numerals.{add-one}
-use native.Mathlib.Omega.{arith}
-use lib.ListN.{length, take}
-use Rattle.frames.specs.Listening.{heard, mask_from, all_fit}
-use Rattle.frames.proofs.Hearing.{looked, fit_among, merge_more}
-use borrow.Author.Rules.{rules}
+use mathlib.Core.Path.{◌≡◌}
+use lib.ListN.{take}
+use Rattle.frames.specs.Listening.{heard, mask_from}
 use Rattle.frames.proofs.marking.merged.Given as goal
 
 abbrev pub invariant-loop-i : goal.invariant-loop-i

@@ -1,5 +1,4 @@
 -- `wait` meets its contract: each return comes after the tests that the definition asks.
-use borrow.Author.Rules.{rules}
 use borrow.Author.Tests.{le-leb, lt-leb}
 use Rattle.frames.specs.Waiting.{waited}
 use Rattle.frames.proofs.WaitLaws.{wait_sum}

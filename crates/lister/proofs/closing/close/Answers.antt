@@ -4,7 +4,6 @@ use mathlib.Core.List.{[]}
 use mathlib.Core.Path.{refl}
 use native.Mathlib.Omega.{arith}
 use lib.ListN.{length, length-take}
-use borrow.Author.Rules.{rules}
 use Rattle.lister.specs.Stands.{kept_of}
 use Rattle.lister.proofs.writing.Copying.{room_there}
 use Rattle.lister.proofs.Writes.{wrote_none, answered_same, closes_none, closes_some}

@@ -1,11 +1,7 @@
 -- `with_return` meets its contract: the carriage return stands after what is kept, if one was held back and fits.
-use Prim.Native.Nat.{◌<◌}
 use mathlib.Core.Path.{◌≡◌, refl}
-use lib.Dec.{ltb}
 use lib.ListN.{length, length-set}
 use borrow.Author.Rules.{rules}
-use borrow.Author.Tests.{ltb-true}
-use Rattle.laws.proofs.Tests.{second_of}
 use Rattle.lister.proofs.closing.Ends.{return_kept, no_return_kept}
 use Rattle.lister.proofs.closing.with_return.Goals as goal
 

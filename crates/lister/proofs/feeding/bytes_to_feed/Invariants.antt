@@ -1,6 +1,5 @@
 -- `bytes_to_feed` meets its contract: the loop is left at the first line feed, or with none found.
 use Prim.Native.Nat.{◌≤◌, ◌-◌}
-use borrow.Author.Rules.{rules}
 use Rattle.lister.proofs.feeding.bytes_to_feed.Given as goal
 
 abbrev pub invariant-loop-n : goal.invariant-loop-n

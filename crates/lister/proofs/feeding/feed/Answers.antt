@@ -1,12 +1,10 @@
 -- `feed` meets its contract: `Progress` holds between two turns, and at the end is what is asked.
-use Prim.Native.Nat.{◌-◌}
 use mathlib.Core.Logic.{inl, inr}
-use mathlib.Core.Path.{◌≡◌, sym}
+use mathlib.Core.Path.{◌≡◌}
 use native.Mathlib.Omega.{arith}
 use lib.ListN.{length}
 use borrow.Author.Rules.{rules}
-use Rattle.lister.specs.Portions.{stand_at}
-use Rattle.lister.proofs.Progress.{Progress, progress_start, progress_turn, progress_end}
+use Rattle.lister.proofs.Progress.{progress_start, progress_turn, progress_end}
 use Rattle.lister.proofs.feeding.feed.Goals as goal
 
 pub loop-course-init : goal.loop-course-init

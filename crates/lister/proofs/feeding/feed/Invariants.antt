@@ -1,12 +1,8 @@
 -- `feed` meets its contract: `Progress` holds between two turns, and at the end is what is asked.
 use Prim.Native.Nat.{◌-◌}
-use mathlib.Core.Logic.{inl, inr}
-use mathlib.Core.Path.{◌≡◌, sym}
-use native.Mathlib.Omega.{arith}
 use lib.ListN.{length}
-use borrow.Author.Rules.{rules}
 use Rattle.lister.specs.Portions.{stand_at}
-use Rattle.lister.proofs.Progress.{Progress, progress_start, progress_turn, progress_end}
+use Rattle.lister.proofs.Progress.{Progress}
 use Rattle.lister.proofs.feeding.feed.Given as goal
 
 abbrev pub invariant-loop-course : goal.invariant-loop-course

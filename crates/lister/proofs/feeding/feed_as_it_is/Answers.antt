@@ -1,6 +1,5 @@
 -- `feed_as_it_is` meets its contract.
 use native.Mathlib.Omega.{arith}
-use borrow.Author.Rules.{rules}
 use Rattle.lister.proofs.AsItIs.{fed_as_it_is}
 use Rattle.lister.proofs.feeding.feed_as_it_is.Goals as goal
 

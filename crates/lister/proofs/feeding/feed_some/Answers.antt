@@ -3,7 +3,7 @@ use Prim.Native.Nat.{◌<◌}
 use native.Mathlib.Omega.{arith}
 use borrow.Author.Rules.{rules}
 use Rattle.lister.proofs.Progress.{byte_on}
-use Rattle.lister.proofs.WholeLine.{other_on, line_length, line_on}
+use Rattle.lister.proofs.WholeLine.{other_on, line_on}
 use Rattle.lister.proofs.feeding.feed_some.Goals as goal
 
 pub returns-then-n-ge16 : goal.returns-then-n-ge16

@@ -1,5 +1,4 @@
 -- `keep` meets its contract: the byte stands after those that are kept, or the line is full.
-use borrow.Author.Rules.{rules}
 use Rattle.lister.proofs.Keeping.{keep_full, keep_more}
 use Rattle.lister.proofs.feeding.keep.Goals as goal
 

@@ -1,5 +1,4 @@
 -- `keep_byte` meets its contract: a line feed, a carriage return, or any other byte.
-use borrow.Author.Rules.{rules}
 use Rattle.lister.proofs.Keeping.{next_line, next_held, next_kept}
 use Rattle.lister.proofs.feeding.keep_byte.Goals as goal
 

@@ -1,5 +1,4 @@
 -- `keep_held` meets its contract: the carriage return is kept, or there is none.
-use borrow.Author.Rules.{rules}
 use Rattle.lister.proofs.Keeping.{keep_none}
 use Rattle.lister.proofs.feeding.keep_held.Goals as goal
 

@@ -1,7 +1,6 @@
 -- `write_byte` meets its contract: a line feed, a carriage return, or any other byte.
 use native.Mathlib.Omega.{arith}
-use borrow.Author.Rules.{rules}
-use Rattle.lister.proofs.Writes.{wrote_same, wrote_then, held_length, writes_line, writes_held, writes_byte}
+use Rattle.lister.proofs.Writes.{wrote_same, wrote_then, writes_line, writes_held, writes_byte}
 use Rattle.lister.proofs.feeding.write_byte.Goals as goal
 
 pub returns-then-byte-eq10 : goal.returns-then-byte-eq10

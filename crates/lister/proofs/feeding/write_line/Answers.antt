@@ -1,8 +1,7 @@
 -- `write_line` meets its contract: the text as it is, and its end right after it.
 use native.Mathlib.Omega.{arith}
-use borrow.Author.Rules.{rules}
 use borrow.Author.Tests.{not-false}
-use Rattle.lister.proofs.line_end.Told.{whole_of, places_of, number_of}
+use Rattle.lister.proofs.line_end.Told.{whole_of, number_of}
 use Rattle.lister.proofs.Said.{read_shown}
 use Rattle.lister.proofs.Writes.{wrote_same, wrote_then}
 use Rattle.lister.proofs.feeding.write_line.Goals as goal

@@ -1,6 +1,5 @@
 -- `fields` meets its contract: the bytes are the two lists of six with what stands round them.
 use mathlib.Core.List.{[], ◌∷◌}
-use borrow.Author.Rules.{rules}
 use Rattle.capcode.specs.Text.{digits}
 use Rattle.lister.specs.Verdicts.{line_feed, phase_shown}
 use Rattle.lister.proofs.line_end.LineEnds.{six_six}

@@ -1,10 +1,7 @@
 -- `judge` meets its contract: what the text was read as decides.
 use mathlib.Core.Path.{sym, ap, ◌∙◌}
-use borrow.Author.Rules.{rules}
 use Rattle.capcode.specs.Reads.{told_read}
-use Rattle.lister.specs.Verdicts.{verdict_as}
 use Rattle.lister.proofs.line_end.Phase.{read_phase}
-use Rattle.lister.proofs.line_end.Told.{accepted_told}
 use Rattle.lister.proofs.line_end.judge.Goals as goal
 
 pub accepted_end-requires : goal.accepted_end-requires

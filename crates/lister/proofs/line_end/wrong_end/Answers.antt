@@ -1,7 +1,6 @@
 -- `wrong_end` meets its contract: the word, the refusal's number, a blank, the place and the line feed.
 use mathlib.Core.List.{[], ◌∷◌, ◌++◌}
 use native.Mathlib.Omega.{arith}
-use borrow.Author.Rules.{rules}
 use Rattle.refusal.specs.Told.{refused_at}
 use Rattle.lister.specs.Verdicts.{plain, padded}
 use Rattle.lister.proofs.Writes.{wrote_then}

@@ -1,5 +1,4 @@
 -- `title` meets its contract: the first line has 42 bytes.
-use borrow.Author.Rules.{rules}
 use Rattle.lister.specs.Texts.{header}
 use Rattle.lister.proofs.writing.Copying.{room_lacks, room_there}
 use Rattle.lister.proofs.starting.title.Goals as goal

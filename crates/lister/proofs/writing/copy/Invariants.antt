@@ -1,9 +1,7 @@
 -- `copy` meets its contract: after i turns the first i bytes of the text stand at the place.
 use Prim.Native.Nat.{◌-◌}
-use native.Mathlib.Omega.{arith}
 use lib.ListN.{length}
-use Rattle.lister.proofs.writing.Copying.{Copied, copied_none, copied_more, copied_all}
-use borrow.Author.Rules.{rules}
+use Rattle.lister.proofs.writing.Copying.{Copied}
 use Rattle.lister.proofs.writing.copy.Given as goal
 
 abbrev pub invariant-loop-i : goal.invariant-loop-i

@@ -1,12 +1,8 @@
 -- `stepped_through` meets its contract: what is still to come is run from the mirror reached.
 use Prim.Native.Nat.{◌-◌, ◌≤◌}
-use mathlib.Core.Path.{◌≡◌, refl, sym, ◌∙◌}
-use native.Mathlib.Numerals.{add-one}
-use native.Mathlib.Omega.{arith}
-use lib.ListN.{length, drop, drop_of_length-le}
-use lib.Seq.{drop-cons}
+use mathlib.Core.Path.{◌≡◌}
+use lib.ListN.{length, drop}
 use Rattle.mirror.specs.Handshake.{run_of}
-use borrow.Author.Rules.{rules}
 use Rattle.mirror.proofs.following.stepped_through.Given as goal
 
 abbrev pub invariant-loop-i : goal.invariant-loop-i

@@ -1,6 +1,5 @@
 -- `character_of` meets its contract: the digits by counting, none over 15, the others by the column.
 use Rattle.numeric.proofs.Codes.{digit_character, no_character}
-use borrow.Author.Rules.{rules}
 use Rattle.numeric.proofs.reading.character_of.Goals as goal
 
 pub returns-then-code-lt10 : goal.returns-then-code-lt10

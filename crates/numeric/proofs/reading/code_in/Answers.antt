@@ -2,7 +2,6 @@
 use mathlib.Core.Path.{sym}
 use native.Mathlib.Omega.{arith}
 use Rattle.numeric.proofs.reading.Characters.{code_within, code_last, code_over}
-use borrow.Author.Rules.{rules}
 use Rattle.numeric.proofs.reading.code_in.Goals as goal
 
 pub returns-then-place-lt18 : goal.returns-then-place-lt18

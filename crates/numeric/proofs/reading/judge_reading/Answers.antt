@@ -7,8 +7,6 @@ use lib.ListN.{length}
 use Rattle.sums.specs.Words.{undamaged}
 use Rattle.numeric.specs.Pages.{room_of, is_numbered, vector_fits, is_size, checked}
 use Rattle.numeric.specs.Answers.{read_of}
-use Rattle.numeric.proofs.reading.Readable.{check_limit, size_limits}
-use borrow.Author.Rules.{rules}
 use Rattle.numeric.proofs.reading.judge_reading.Goals as goal
 
 pub returns-then-not-vector_fits : goal.returns-then-not-vector_fits
@@ -17,14 +15,14 @@ returns-then-not-vector_fits c set = c.number.ensures ∙ simp (sym c.vector_fit
 
 pub returns-then-not-is_size : goal.returns-then-not-is_size
 unfolding read_of
-returns-then-not-is_size c set = 
+returns-then-not-is_size c set =
     let fits : vector_fits c.args.kind c.args.check ≡ true = sym c.vector_fits.ensures ∙ not-false _ c.if-not-vector_fits.false-raw in
     c.number-then-not-is_size.ensures
     ∙ simp (fits, sym c.is_size.ensures ∙ not-true _ c.if-not-is_size.true-raw)
 
 pub returns-then-not-undamaged : goal.returns-then-not-undamaged
 unfolding read_of
-returns-then-not-undamaged c set = 
+returns-then-not-undamaged c set =
     let fits : vector_fits c.args.kind c.args.check ≡ true = sym c.vector_fits.ensures ∙ not-false _ c.if-not-vector_fits.false-raw in
     let sized : is_size (length c.args.words.now) ≡ true = sym c.is_size.ensures ∙ not-false _ c.if-not-is_size.false-raw in
     c.number-then-not-undamaged.ensures
@@ -32,7 +30,7 @@ returns-then-not-undamaged c set =
 
 pub returns-then-not-checked : goal.returns-then-not-checked
 unfolding read_of
-returns-then-not-checked c set = 
+returns-then-not-checked c set =
     let fits : vector_fits c.args.kind c.args.check ≡ true = sym c.vector_fits.ensures ∙ not-false _ c.if-not-vector_fits.false-raw in
     let sized : is_size (length c.args.words.now) ≡ true = sym c.is_size.ensures ∙ not-false _ c.if-not-is_size.false-raw in
     let whole : undamaged c.args.words.now ≡ true = sym c.undamaged.ensures ∙ not-false _ c.if-not-undamaged.false-raw in
@@ -41,7 +39,7 @@ returns-then-not-checked c set =
 
 pub returns-then-lent-room_of : goal.returns-then-lent-room_of
 unfolding read_of
-returns-then-lent-room_of c set = 
+returns-then-lent-room_of c set =
     let fits : vector_fits c.args.kind c.args.check ≡ true = sym c.vector_fits.ensures ∙ not-false _ c.if-not-vector_fits.false-raw in
     let sized : is_size (length c.args.words.now) ≡ true = sym c.is_size.ensures ∙ not-false _ c.if-not-is_size.false-raw in
     let whole : undamaged c.args.words.now ≡ true = sym c.undamaged.ensures ∙ not-false _ c.if-not-undamaged.false-raw in
@@ -58,7 +56,7 @@ returns-then-lent-room_of c set =
 
 pub returns : goal.returns
 unfolding read_of
-returns c set = 
+returns c set =
     let fits : vector_fits c.args.kind c.args.check ≡ true = sym c.vector_fits.ensures ∙ not-false _ c.if-not-vector_fits.false-raw in
     let sized : is_size (length c.args.words.now) ≡ true = sym c.is_size.ensures ∙ not-false _ c.if-not-is_size.false-raw in
     let whole : undamaged c.args.words.now ≡ true = sym c.undamaged.ensures ∙ not-false _ c.if-not-undamaged.false-raw in

@@ -9,31 +9,30 @@ use Rattle.refusal.proofs.Laws.{given_writes}
 use Rattle.numeric.specs.Pages.{set_with, spaces_at_end, is_numbered, text_in}
 use Rattle.numeric.specs.Answers.{read_of, read_told, as_read}
 use Rattle.numeric.proofs.reading.Readable.{Readable, readable, as_told, text_fits, text_first}
-use borrow.Author.Rules.{rules}
 use Rattle.numeric.proofs.reading.read_page.Goals as goal
 
 pub room_of-room-requires : goal.room_of-room-requires
-room_of-room-requires c = 
+room_of-room-requires c =
     let known : let a = c.args in Readable (length a.text.now) a.kind a.words.now × (read_of (set_with a.chinese) (length a.text.now) a.kind a.check a.words.now ≡ read_told (set_with a.chinese) a.kind a.words.now) = let a = c.args in
     readable (set_with a.chinese) (length a.text.now) a.kind a.check a.words.now c.requires in
     let page = known.0 in
     record { le_words = page.least; words_bound = page.most }
 
 pub write_characters-requires : goal.write_characters-requires
-write_characters-requires c = 
+write_characters-requires c =
     let known : let a = c.args in Readable (length a.text.now) a.kind a.words.now × (read_of (set_with a.chinese) (length a.text.now) a.kind a.check a.words.now ≡ read_told (set_with a.chinese) a.kind a.words.now) = let a = c.args in
     readable (set_with a.chinese) (length a.text.now) a.kind a.check a.words.now c.requires in
     let page = known.0 in
     record { words_value = page.whole; in_bounds = page.least; words_len_bound = page.most; room_value = c.room_of-room.ensures; room_in_bounds = omega (arith, c.room_of-room.ensures, page.room) }
 
 pub bounds-words-0 : goal.bounds-words-0
-bounds-words-0 c = 
+bounds-words-0 c =
     let known : let a = c.args in Readable (length a.text.now) a.kind a.words.now × (read_of (set_with a.chinese) (length a.text.now) a.kind a.check a.words.now ≡ read_told (set_with a.chinese) a.kind a.words.now) = let a = c.args in
     readable (set_with a.chinese) (length a.text.now) a.kind a.check a.words.now c.requires in
     omega (arith, known.0.least)
 
 pub slice_bounds-spaces_at_end-end : goal.slice_bounds-spaces_at_end-end
-slice_bounds-spaces_at_end-end c = 
+slice_bounds-spaces_at_end-end c =
     let known : let a = c.args in Readable (length a.text.now) a.kind a.words.now × (read_of (set_with a.chinese) (length a.text.now) a.kind a.check a.words.now ≡ read_told (set_with a.chinese) a.kind a.words.now) = let a = c.args in
     readable (set_with a.chinese) (length a.text.now) a.kind a.check a.words.now c.requires in
     let written : List ℕ = c.write_characters.new.text in
@@ -46,7 +45,7 @@ slice_bounds-spaces_at_end-end c =
     omega (arith, as_many)
 
 pub slice_bounds-spaces_at_end-end-2 : goal.slice_bounds-spaces_at_end-end-2
-slice_bounds-spaces_at_end-end-2 c = 
+slice_bounds-spaces_at_end-end-2 c =
     let known : let a = c.args in Readable (length a.text.now) a.kind a.words.now × (read_of (set_with a.chinese) (length a.text.now) a.kind a.check a.words.now ≡ read_told (set_with a.chinese) a.kind a.words.now) = let a = c.args in
     readable (set_with a.chinese) (length a.text.now) a.kind a.check a.words.now c.requires in
     let written : List ℕ = c.write_characters.new.text in
@@ -59,7 +58,7 @@ slice_bounds-spaces_at_end-end-2 c =
     sym (length-take-le _ _ (omega (arith, as_many)))
 
 pub returns : goal.returns
-returns c = 
+returns c =
     let known : let a = c.args in Readable (length a.text.now) a.kind a.words.now × (read_of (set_with a.chinese) (length a.text.now) a.kind a.check a.words.now ≡ read_told (set_with a.chinese) a.kind a.words.now) = let a = c.args in
     readable (set_with a.chinese) (length a.text.now) a.kind a.check a.words.now c.requires in
     let written : List ℕ = c.write_characters.new.text in

@@ -1,11 +1,9 @@
 -- `spaces_at_end` meets its contract: what was counted, with what is still to be counted, are the spaces at the end.
 use Prim.Native.Nat.{◌-◌}
 use mathlib.Core.Path.{refl}
-use native.Mathlib.Omega.{arith}
 use lib.ListN.{get_or}
-use Rattle.laws.proofs.Endings.{Counted, count_starts, look_back, counted_most, fewer_left, count_ends}
+use Rattle.laws.proofs.Endings.{look_back, count_ends}
 use Rattle.numeric.specs.Pages.{is_space}
-use borrow.Author.Rules.{rules}
 use Rattle.numeric.proofs.reading.spaces_at_end.Goals as goal
 
 pub loop-left-preserved : goal.loop-left-preserved

@@ -1,19 +1,13 @@
 -- `write_characters` meets its contract: the characters so far are stored, the others still to come; the bit reached is that after them.
-use Prim.Native.Nat.{ℕ, ◌+◌, ◌-◌, ◌*◌, ◌/◌, ◌%◌, ◌^◌, ◌≤◌, ◌<◌}
-use mathlib.Core.Path.{◌≡◌, refl, sym, ap, ◌∙◌}
-use mathlib.Core.List.{map}
-use mathlib.Core.Logic.{⊎_elim}
-use native.Mathlib.Nat.{sub-zero, pow-zero, div-one}
+use Prim.Native.Nat.{ℕ, ◌+◌, ◌-◌, ◌*◌, ◌/◌, ◌%◌, ◌^◌, ◌<◌}
+use mathlib.Core.Path.{◌≡◌, sym, ap, ◌∙◌}
 use native.Mathlib.Omega.{arith}
-use lib.ListN.{length, get_or, length-set}
+use lib.ListN.{get_or, length-set}
 use Rattle.laws.specs.Layouts.{size}
-use Rattle.laws.specs.Lists.{put}
 use Rattle.laws.specs.Numerals.{number, digits}
 use Rattle.laws.proofs.Writing.{put_nothing, spelled_turn}
 use Rattle.numeric.specs.Pages.{set_with, head_of, text_in}
-use Rattle.numeric.proofs.Heads.{head_small}
 use Rattle.numeric.proofs.reading.Characters.{after_characters}
-use borrow.Author.Rules.{rules}
 use Rattle.numeric.proofs.reading.write_characters.Goals as goal
 use Rattle.numeric.proofs.reading.write_characters.Goals.{then-place-lt17, else-place-lt17}
 

@@ -2,8 +2,7 @@
 use mathlib.Core.Path.{sym, ◌∙◌}
 use native.Mathlib.Omega.{arith}
 use Rattle.numeric.specs.Pages.{set_with}
-use Rattle.numeric.proofs.Codes.{code_most, space_of, text_code, space_code, no_more}
-use borrow.Author.Rules.{rules}
+use Rattle.numeric.proofs.Codes.{code_most, space_of, text_code, space_code}
 use Rattle.numeric.proofs.writing.code_at.Goals as goal
 
 pub returns-then-place-text : goal.returns-then-place-text

@@ -2,7 +2,6 @@
 use Rattle.laws.specs.Lists.{place_in}
 use Rattle.numeric.specs.Pages.{standard_set, chinese_set}
 use Rattle.numeric.proofs.Codes.{digit_limits, digit_code, no_chinese, no_standard}
-use borrow.Author.Rules.{rules}
 use Rattle.numeric.proofs.writing.code_of.Goals as goal
 
 pub returns-then-character : goal.returns-then-character

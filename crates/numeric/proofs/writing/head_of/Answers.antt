@@ -1,6 +1,6 @@
 -- `head_of` meets its contract: each number times the weight of its place.
 use native.Mathlib.Omega.{arith}
-use Rattle.numeric.proofs.Heads.{flags_small, head_is}
+use Rattle.numeric.proofs.Heads.{head_is}
 use Rattle.numeric.proofs.writing.head_of.Goals as goal
 
 pub returns : goal.returns

@@ -1,12 +1,9 @@
 -- `in_set` meets its contract: what is still to be asked decides.
-use Prim.Native.Nat.{◌-◌}
-use mathlib.Core.Path.{◌≡◌, refl, ◌∙◌}
+use mathlib.Core.Path.{◌∙◌}
 use native.Mathlib.Omega.{arith}
-use lib.ListN.{length, drop}
 use Rattle.laws.proofs.Rows.{passes, fails, all_asked}
-use Rattle.numeric.specs.Pages.{set_with, in_set}
+use Rattle.numeric.specs.Pages.{in_set}
 use Rattle.numeric.proofs.Codes.{in_place, in_no_place}
-use borrow.Author.Rules.{rules}
 use Rattle.numeric.proofs.writing.in_set.Goals as goal
 
 pub returns-then-code_of-gt15 : goal.returns-then-code_of-gt15

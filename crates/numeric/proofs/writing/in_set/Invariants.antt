@@ -1,12 +1,8 @@
 -- `in_set` meets its contract: what is still to be asked decides.
 use Prim.Native.Nat.{◌-◌}
-use mathlib.Core.Path.{◌≡◌, refl, ◌∙◌}
-use native.Mathlib.Omega.{arith}
+use mathlib.Core.Path.{◌≡◌}
 use lib.ListN.{length, drop}
-use Rattle.laws.proofs.Rows.{passes, fails, all_asked}
 use Rattle.numeric.specs.Pages.{set_with, in_set}
-use Rattle.numeric.proofs.Codes.{in_place, in_no_place}
-use borrow.Author.Rules.{rules}
 use Rattle.numeric.proofs.writing.in_set.Given as goal
 
 abbrev pub invariant-loop-i : goal.invariant-loop-i

@@ -8,8 +8,6 @@ use lib.ListN.{length}
 use Rattle.numeric.specs.Pages.{set_with, most_words, room_of, page_of, is_numbered, in_set, headed}
 use Rattle.numeric.specs.Answers.{flags_of, written_of}
 use Rattle.numeric.proofs.Bits.{page_length}
-use Rattle.numeric.proofs.writing.Writable.{most_characters}
-use borrow.Author.Rules.{rules}
 use Rattle.numeric.proofs.writing.judge_writing.Goals as goal
 
 pub returns-then-not-headed : goal.returns-then-not-headed
@@ -18,7 +16,7 @@ returns-then-not-headed c = c.number.ensures ∙ simp (sym c.headed.ensures ∙ 
 
 pub returns-then-text-room_of : goal.returns-then-text-room_of
 unfolding written_of
-returns-then-text-room_of c = 
+returns-then-text-room_of c =
     let fits : headed c.args.kind (flags_of c.args.numbering) ≡ true = sym c.headed.ensures ∙ not-false _ c.if-not-headed.false-raw in
     let args = c.args in
     c.number-then-text-room_of.ensures
@@ -30,7 +28,7 @@ returns-then-text-room_of c =
 
 pub returns-then-not-in_set : goal.returns-then-not-in_set
 unfolding written_of
-returns-then-not-in_set c = 
+returns-then-not-in_set c =
     let fits : headed c.args.kind (flags_of c.args.numbering) ≡ true = sym c.headed.ensures ∙ not-false _ c.if-not-headed.false-raw in
     let short : length c.args.text.now ≤ room_of (is_numbered c.args.kind) most_words = omega (arith, c.room_of.ensures, c.if-text-room_of.false) in
     c.number-then-not-in_set.ensures
@@ -38,7 +36,7 @@ returns-then-not-in_set c =
 
 pub returns-then-lent-words_for : goal.returns-then-lent-words_for
 unfolding written_of
-returns-then-lent-words_for c = 
+returns-then-lent-words_for c =
     let fits : headed c.args.kind (flags_of c.args.numbering) ≡ true = sym c.headed.ensures ∙ not-false _ c.if-not-headed.false-raw in
     let short : length c.args.text.now ≤ room_of (is_numbered c.args.kind) most_words = omega (arith, c.room_of.ensures, c.if-text-room_of.false) in
     let known : in_set (set_with c.args.chinese) c.args.text.now ≡ true = sym c.in_set.ensures ∙ not-false _ c.if-not-in_set.false-raw in
@@ -55,7 +53,7 @@ returns-then-lent-words_for c =
 
 pub returns : goal.returns
 unfolding written_of
-returns c = 
+returns c =
     let fits : headed c.args.kind (flags_of c.args.numbering) ≡ true = sym c.headed.ensures ∙ not-false _ c.if-not-headed.false-raw in
     let short : length c.args.text.now ≤ room_of (is_numbered c.args.kind) most_words = omega (arith, c.room_of.ensures, c.if-text-room_of.false) in
     let known : in_set (set_with c.args.chinese) c.args.text.now ≡ true = sym c.in_set.ensures ∙ not-false _ c.if-not-in_set.false-raw in

@@ -1,8 +1,6 @@
 -- `later_word` meets its contract: 24 bits hold any 21 that begin in the first four.
-use native.Mathlib.Omega.{arith}
 use Rattle.numeric.specs.Pages.{set_with, spaced, codes_of}
 use Rattle.numeric.proofs.writing.Words.{later_is}
-use borrow.Author.Rules.{rules}
 use Rattle.numeric.proofs.writing.later_word.Goals as goal
 
 pub returns : goal.returns

@@ -6,7 +6,6 @@ use Rattle.laws.specs.Lists.{place_in}
 use Rattle.numeric.specs.Pages.{set_with, spaced}
 use Rattle.numeric.proofs.Laws.{usable_set}
 use Rattle.numeric.proofs.writing.Words.{six_row, spaced_codes}
-use borrow.Author.Rules.{rules}
 use Rattle.numeric.proofs.writing.six_codes.Goals as goal
 
 pub returns : goal.returns

@@ -9,7 +9,6 @@ use Rattle.numeric.specs.Pages.{set_with}
 use Rattle.numeric.specs.Answers.{as_written, written_of}
 use Rattle.numeric.proofs.Laws.{page_for}
 use Rattle.numeric.proofs.writing.Writable.{write_plain}
-use borrow.Author.Rules.{rules}
 use Rattle.numeric.proofs.writing.write_in.Goals as goal
 
 pub returns-then-number-ne0 : goal.returns-then-number-ne0
@@ -17,6 +16,9 @@ returns-then-number-ne0 c = let args = c.args in
     let lent = args.words.now in
     let characters = set_with args.chinese in
     let answer = written_of characters (length lent) args.kind args.numbering args.text.now in
-    let some : number_told answer ≡ 0 → ⊥ = λ none. c.if-number-ne0.true (c.judge_writing-number.ensures ∙ none) in record { told = c.refused.ensures
+    let some : number_told answer ≡ 0 → ⊥ = λ none. c.if-number-ne0.true (c.judge_writing-number.ensures ∙ none) in record {
+      told = c.refused.ensures
           ∙ ap as_written
-          (ap (λ (n : ℕ). told n []) c.judge_writing-number.ensures ∙ sym (write_plain characters (length lent) args.kind args.numbering args.text.now some)); buffer = sym (refusal_keeps answer lent (page_for characters args.kind args.numbering args.text.now) some) }
+          (ap (λ (n : ℕ). told n []) c.judge_writing-number.ensures ∙ sym (write_plain characters (length lent) args.kind args.numbering args.text.now some));
+      buffer = sym (refusal_keeps answer lent (page_for characters args.kind args.numbering args.text.now) some);
+    }

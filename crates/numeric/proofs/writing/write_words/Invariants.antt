@@ -1,14 +1,11 @@
 -- `write_words` meets its contract: each word is a digit of the page's bits, of which the later ones are the characters' alone.
-use Prim.Native.Nat.{ℕ, ◌+◌, ◌-◌, ◌*◌, ◌/◌, ◌%◌, ◌^◌, ◌≤◌}
-use mathlib.Core.Path.{◌≡◌, refl, sym, ap, ◌∙◌}
-use native.Mathlib.Omega.{arith}
-use lib.ListN.{length, length-set}
+use Prim.Native.Nat.{◌+◌, ◌-◌, ◌*◌, ◌/◌, ◌^◌, ◌≤◌}
+use mathlib.Core.Path.{◌≡◌}
+use lib.ListN.{length}
 use Rattle.laws.specs.Layouts.{size}
 use Rattle.laws.specs.Lists.{put}
 use Rattle.laws.specs.Numerals.{digits}
 use Rattle.numeric.specs.Pages.{set_with, head_of, spaced, codes_of}
-use Rattle.numeric.proofs.Heads.{head_small}
-use Rattle.numeric.proofs.writing.Words.{word_turn, first_turn, all_written, after_head}
 use Rattle.numeric.proofs.writing.write_words.Given as goal
 
 abbrev pub invariant-loop-i : goal.invariant-loop-i

@@ -1,9 +1,5 @@
 -- `meaning_of` meets its contract: a word within a batch, or where a sync word must stand.
-use borrow.Author.Tests.{ltb-false}
-use lib.Dec.{ltb, eqb}
-use Rattle.laws.proofs.Tests.{neither}
 use Rattle.pocsag.specs.Batches.{meaning_of}
-use borrow.Author.Rules.{rules}
 use Rattle.pocsag.proofs.batch.meaning_of.Goals as goal
 
 pub returns-then-left : goal.returns-then-left

@@ -1,10 +1,7 @@
 -- `turned` meets its contract: the bits so far are turned, and the others still to come.
-use Prim.Native.Nat.{◌-◌, ◌^◌, ◌≤◌, ◌<◌}
 use mathlib.Core.Path.{◌≡◌, sym, ◌∙◌}
 use native.Mathlib.Omega.{arith}
-use Rattle.pocsag.specs.Batches as Batches
-use Rattle.pocsag.proofs.Turning.{poured, pours, pours_on, pours_small, pours_most}
-use borrow.Author.Rules.{rules}
+use Rattle.pocsag.proofs.Turning.{poured, pours, pours_on, pours_small}
 use Rattle.pocsag.proofs.batch.turned.Goals as goal
 
 pub loop-left-init : goal.loop-left-init

@@ -1,9 +1,7 @@
 -- `mend` meets its contract: the two tables pass their tests, which are computed here over all entries.
 use mathlib.Core.Path.{refl}
-use borrow.Author.Tests.{lt-ltb, le-ltb}
 use Rattle.pocsag.specs.Codewords.{divided}
 use Rattle.pocsag.proofs.Entries.{tables_right}
-use borrow.Author.Rules.{rules}
 use Rattle.pocsag.proofs.code.mend.Goals as goal
 
 pub mend_each-requires : goal.mend_each-requires

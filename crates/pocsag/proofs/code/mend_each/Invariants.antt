@@ -1,15 +1,10 @@
 -- `mend_each` meets its contract: the words so far are mended, and those still to come are as they were.
-use Prim.Native.Nat.{◌+◌, ◌-◌, ◌≤◌, ◌<◌}
+use Prim.Native.Nat.{◌-◌}
 use mathlib.Core.List.{map}
-use mathlib.Core.Path.{◌≡◌, refl, ap, ◌∙◌}
-use native.Mathlib.Omega.{arith}
-use lib.ListN.{length, drop, set, length-set}
-use lib.Seq.{drop-set-lt}
+use mathlib.Core.Path.{◌≡◌}
+use lib.ListN.{length, drop}
 use Rattle.laws.specs.Lists.{put}
-use Rattle.laws.proofs.Writing.{put_each, put_all}
-use Rattle.pocsag.specs.declared.Mended.{Mended}
 use Rattle.pocsag.specs.Mending.{word_mended, bits_told}
-use borrow.Author.Rules.{rules}
 use Rattle.pocsag.proofs.code.mend_each.Given as goal
 
 abbrev pub invariant-loop-i : goal.invariant-loop-i

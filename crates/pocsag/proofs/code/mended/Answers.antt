@@ -1,8 +1,6 @@
 -- `mended` meets its contract: the table has the entry of the word's remainder.
 use native.Mathlib.Omega.{arith}
 use Rattle.pocsag.proofs.Division.{remainder_small}
-use Rattle.pocsag.proofs.Entries.{wrong_most}
-use borrow.Author.Rules.{rules}
 use Rattle.pocsag.proofs.code.mended.Goals as goal
 
 pub bounds-table-remainder : goal.bounds-table-remainder

@@ -7,7 +7,6 @@ use lib.Bits.{bit_xor}
 use Rattle.pocsag.specs.Codewords.{is_even, bits_named}
 use Rattle.pocsag.specs.Mending.{mended_of}
 use Rattle.pocsag.proofs.Entries.{wrong_most}
-use borrow.Author.Rules.{rules}
 use Rattle.pocsag.proofs.code.mended_by.Goals as goal
 
 pub bits_named-requires : goal.bits_named-requires

@@ -2,9 +2,7 @@
 use Prim.Native.Nat.{◌/◌, ◌%◌, ◌^◌, ◌<◌}
 use native.Mathlib.Nat.{zero-add}
 use native.Mathlib.Omega.{arith}
-use lib.ListN.{get_or}
-use Rattle.pocsag.proofs.Division.{in_parts, part_small}
-use borrow.Author.Rules.{rules}
+use Rattle.pocsag.proofs.Division.{in_parts}
 use Rattle.pocsag.proofs.code.remainder.Goals as goal
 
 pub returns : goal.returns

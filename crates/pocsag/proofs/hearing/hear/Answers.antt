@@ -2,7 +2,6 @@
 use mathlib.Core.Path.{refl}
 use Rattle.pocsag.specs.Codewords.{divided}
 use Rattle.pocsag.proofs.Entries.{tables_right}
-use borrow.Author.Rules.{rules}
 use Rattle.pocsag.proofs.hearing.hear.Goals as goal
 
 pub hear_each-requires : goal.hear_each-requires

@@ -1,19 +1,15 @@
 -- `hear_each` meets its contract: the words so far had nothing to tell.
-use Prim.Native.Nat.{◌-◌}
 use mathlib.Core.Bool.{true, false}
 use mathlib.Core.Path.{◌≡◌, sym, ap, ◌∙◌}
-use native.Mathlib.Omega.{arith}
 use lib.ListN.{length, get_or}
 use Rattle.pocsag.specs.declared.Mended.{Mended}
-use Rattle.pocsag.specs.Mending.{mended_of, as_mended}
-use Rattle.pocsag.specs.Batches.{meaning_of, step_by, stored_by}
+use Rattle.pocsag.specs.Batches.{step_by, stored_by}
 use Rattle.pocsag.specs.Hearing.{step_of, stored_of, tells}
-use Rattle.pocsag.proofs.Rows.{Silent, stored_length, silence_starts, tells_here, silence_goes_on, silence_ends}
-use borrow.Author.Rules.{rules}
+use Rattle.pocsag.proofs.Rows.{tells_here, silence_goes_on, silence_ends}
 use Rattle.pocsag.proofs.hearing.hear_each.Goals as goal
 
 pub returns-then-tells : goal.returns-then-tells
-returns-then-tells c = 
+returns-then-tells c =
     let stepped : let l = c.loop-i in let word = get_or c.args.words.now l.i 0 in (c.step-step.result ≡ step_of (length l.lent) l.state word) × (c.step-step.new.lent ≡ stored_of l.state word l.lent) = let l = c.loop-i in (
       c.step-step.ensures.told ∙ ap (step_by (length l.lent) l.state) c.mended-mended.ensures,
       c.step-step.ensures.lent ∙ ap (λ (m : Mended). stored_by l.state m l.lent) c.mended-mended.ensures,
@@ -28,7 +24,7 @@ returns-then-tells c =
     record { told = rw is.0 ended.0; lent = is.1 ∙ ended.1 }
 
 pub loop-i-preserved : goal.loop-i-preserved
-loop-i-preserved c = 
+loop-i-preserved c =
     let stepped : let l = c.loop-i in let word = get_or c.args.words.now l.i 0 in (c.step-step.result ≡ step_of (length l.lent) l.state word) × (c.step-step.new.lent ≡ stored_of l.state word l.lent) = let l = c.loop-i in (
       c.step-step.ensures.told ∙ ap (step_by (length l.lent) l.state) c.mended-mended.ensures,
       c.step-step.ensures.lent ∙ ap (λ (m : Mended). stored_by l.state m l.lent) c.mended-mended.ensures,

@@ -1,14 +1,10 @@
 -- `are_message_words` meets its contract: the bits so far, and what is still to be asked, decide.
 use Prim.Native.Nat.{◌-◌, ◌^◌}
 use mathlib.Core.Bool.{◌&&◌}
-use mathlib.Core.Path.{◌≡◌, refl, ◌∙◌}
-use native.Mathlib.Omega.{arith}
+use mathlib.Core.Path.{◌≡◌}
 use lib.Dec.{ltb}
 use lib.ListN.{length, drop}
 use Rattle.laws.specs.Numerals.{are_digits}
-use Rattle.laws.proofs.Rows.{all_done}
-use Rattle.sums.proofs.Asking.{asked_more}
-use borrow.Author.Rules.{rules}
 use Rattle.pocsag.proofs.text.are_message_words.Given as goal
 
 abbrev pub invariant-loop-at : goal.invariant-loop-at

@@ -5,7 +5,6 @@ use Rattle.refusal.specs.declared.Refusal.TheVariants as refusals
 use Rattle.refusal.specs.Told.{number_unless}
 use Rattle.pocsag.specs.Texts.{read_of}
 use Rattle.pocsag.proofs.Readable.{room_asked}
-use borrow.Author.Rules.{rules}
 use Rattle.pocsag.proofs.text.judge.Goals as goal
 
 pub returns-then-kind-gt-SEVEN_BIT : goal.returns-then-kind-gt-SEVEN_BIT

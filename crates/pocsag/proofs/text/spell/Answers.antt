@@ -1,23 +1,18 @@
 -- `spell` meets its contract: the characters so far are stored, and the others still to come.
-use Prim.Native.Nat.{◌-◌, ◌/◌, ◌%◌, ◌^◌, ◌≤◌, ◌<◌}
-use mathlib.Core.List.{map}
-use mathlib.Core.Logic.{⊎_elim}
-use mathlib.Core.Path.{◌≡◌, refl, sym, ap, ◌∙◌}
-use native.Mathlib.Nat.{sub-zero, pow-zero, div-one}
+use Prim.Native.Nat.{◌-◌, ◌/◌, ◌%◌, ◌^◌, ◌<◌}
+use mathlib.Core.Path.{◌≡◌, sym, ap, ◌∙◌}
 use native.Mathlib.Omega.{arith}
 use lib.ListN.{length, length-set}
-use Rattle.laws.specs.Lists.{put}
 use Rattle.laws.specs.Numerals.{number, digits}
 use Rattle.laws.proofs.Writing.{put_nothing, spelled_turn}
 use Rattle.pocsag.specs.Texts.{width_of, character_of, text_in}
-use Rattle.pocsag.proofs.Spelling.{Held, held_starts, word_left, code_held, spelled_on, room_bits, width_small}
-use Rattle.pocsag.proofs.Spelling.{Ready, ready_taken, ready_left, held_fits, code_small}
-use borrow.Author.Rules.{rules}
+use Rattle.pocsag.proofs.Spelling.{word_left, code_held, spelled_on, room_bits, width_small}
+use Rattle.pocsag.proofs.Spelling.{Ready, ready_taken, ready_left, held_fits}
 use Rattle.pocsag.proofs.text.spell.Goals as goal
 use Rattle.pocsag.proofs.text.spell.Goals.{then-bits-width, else-bits-width}
 
 pub overflow_add-held : goal.overflow_add-held
-overflow_add-held c = 
+overflow_add-held c =
     let word-to-come : let args = c.args in let l = c.loop-i in (l.bits < width_of args.kind) × (l.at < length args.words.now) = let l = c.loop-i in
     let kind = c.args.kind in
     let words = c.args.words.now in
@@ -31,21 +26,21 @@ overflow_add-held c =
     record { fits = held_fits (width_of kind) words l.held l.bits l.at l.i l.invariant.2 come.0 (width_small kind).1 come.1 c.requires.words_value }
 
 pub loop-i-preserved : goal.loop-i-preserved
-loop-i-preserved c = 
+loop-i-preserved c =
     let ready : let args = c.args in Ready (width_of args.kind) args.words.now c.if-bits-width.held c.if-bits-width.bits c.if-bits-width.at c.loop-i.i = let l = c.loop-i in
     let kind = c.args.kind in
     let words = c.args.words.now in
     elim c.if-bits-width.branch [
-      then-bits-width w ↦
-        let within = room_bits kind (length words) l.i (omega (arith, c.loop-i-test.true, c.requires.room_value)) in
-        let short : l.bits < width_of kind = omega (arith, w.if-bits-width.true, c.width_of-width.ensures) in
-        let come = word_left (width_of kind) words l.held l.bits l.at l.i l.invariant.2 short within in
-        rw (w.held-is, w.bits-is, w.at-is)
-        (ready_taken (width_of kind) words l.held l.bits l.at l.i l.invariant.2 short (width_small kind).1 come c.requires.words_value)
-    | else-bits-width w ↦
-        rw (w.held-is, w.bits-is, w.at-is)
-        (ready_left (width_of kind) words l.held l.bits l.at l.i l.invariant.2
-        (omega (arith, w.if-bits-width.false, c.width_of-width.ensures)) l.invariant.1)
+      | then-bits-width w ↦
+          let within = room_bits kind (length words) l.i (omega (arith, c.loop-i-test.true, c.requires.room_value)) in
+          let short : l.bits < width_of kind = omega (arith, w.if-bits-width.true, c.width_of-width.ensures) in
+          let come = word_left (width_of kind) words l.held l.bits l.at l.i l.invariant.2 short within in
+          rw (w.held-is, w.bits-is, w.at-is)
+          (ready_taken (width_of kind) words l.held l.bits l.at l.i l.invariant.2 short (width_small kind).1 come c.requires.words_value)
+      | else-bits-width w ↦
+          rw (w.held-is, w.bits-is, w.at-is)
+          (ready_left (width_of kind) words l.held l.bits l.at l.i l.invariant.2
+          (omega (arith, w.if-bits-width.false, c.width_of-width.ensures)) l.invariant.1)
     ] in
     let l = c.loop-i in
     let kind = c.args.kind in

@@ -1,18 +1,12 @@
 -- `spell` meets its contract: the characters so far are stored, and the others still to come.
-use Prim.Native.Nat.{◌-◌, ◌/◌, ◌%◌, ◌^◌, ◌≤◌, ◌<◌}
+use Prim.Native.Nat.{◌-◌, ◌/◌, ◌^◌, ◌≤◌, ◌<◌}
 use mathlib.Core.List.{map}
-use mathlib.Core.Logic.{⊎_elim}
-use mathlib.Core.Path.{◌≡◌, refl, sym, ap, ◌∙◌}
-use native.Mathlib.Nat.{sub-zero, pow-zero, div-one}
-use native.Mathlib.Omega.{arith}
-use lib.ListN.{length, length-set}
+use mathlib.Core.Path.{◌≡◌}
+use lib.ListN.{length}
 use Rattle.laws.specs.Lists.{put}
 use Rattle.laws.specs.Numerals.{number, digits}
-use Rattle.laws.proofs.Writing.{put_nothing, spelled_turn}
-use Rattle.pocsag.specs.Texts.{width_of, character_of, text_in}
-use Rattle.pocsag.proofs.Spelling.{Held, held_starts, word_left, code_held, spelled_on, room_bits, width_small}
-use Rattle.pocsag.proofs.Spelling.{Ready, ready_taken, ready_left, held_fits, code_small}
-use borrow.Author.Rules.{rules}
+use Rattle.pocsag.specs.Texts.{width_of, character_of}
+use Rattle.pocsag.proofs.Spelling.{Held}
 use Rattle.pocsag.proofs.text.spell.Given as goal
 
 abbrev pub invariant-loop-i : goal.invariant-loop-i

@@ -1,10 +1,7 @@
 -- `collect` meets its contract: each byte does what the definition says of it.
 use Prim.Native.Nat.{◌-◌}
-use mathlib.Core.Path.{ap, sym, ◌∙◌}
 use lib.ListN.{length}
-use Rattle.pocsag_lister.specs.declared.Taken.{Taken}
-use Rattle.pocsag_lister.proofs.Portions.{Collecting, collecting_starts, collecting_ends, collecting_full, collecting-wrong, collecting-word, collecting-byte}
-use borrow.Author.Rules.{rules}
+use Rattle.pocsag_lister.proofs.Portions.{Collecting}
 use Rattle.pocsag_lister.proofs.collecting.collect.Given as goal
 
 abbrev pub invariant-loop-taken : goal.invariant-loop-taken

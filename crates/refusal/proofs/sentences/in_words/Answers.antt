@@ -2,7 +2,6 @@
 use mathlib.Core.Path.{ap, ◌∙◌}
 use Rattle.refusal.specs.Sentences.{sentences, joined, in_places}
 use Rattle.refusal.proofs.SentenceLaws.{line_is_sentence}
-use borrow.Author.Rules.{rules}
 use Rattle.refusal.proofs.sentences.in_words.Goals as goal
 
 pub line_of-requires : goal.line_of-requires

@@ -1,10 +1,9 @@
 -- `line_end` meets its contract: what is found from a place on is found from the line's start.
-use Prim.Native.Nat.{◌+◌, ◌-◌, ◌≤◌}
-use mathlib.Core.Path.{◌≡◌, refl, sym, ◌∙◌}
+use mathlib.Core.Path.{sym, ◌∙◌}
 use borrow.Author.Tests.{eq-eqb, ne_eqb}
-use lib.ListN.{length, get_or, drop}
+use lib.ListN.{get_or}
 use Rattle.laws.proofs.Searches.{found_here, found_later, found_none}
-use Rattle.refusal.specs.Sentences.{is_feed, line_end}
+use Rattle.refusal.specs.Sentences.{is_feed}
 use borrow.Author.Rules.{rules}
 use Rattle.refusal.proofs.sentences.line_end.Goals as goal
 

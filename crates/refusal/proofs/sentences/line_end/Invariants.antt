@@ -1,11 +1,8 @@
 -- `line_end` meets its contract: what is found from a place on is found from the line's start.
 use Prim.Native.Nat.{◌+◌, ◌-◌, ◌≤◌}
-use mathlib.Core.Path.{◌≡◌, refl, sym, ◌∙◌}
-use borrow.Author.Tests.{eq-eqb, ne_eqb}
-use lib.ListN.{length, get_or, drop}
-use Rattle.laws.proofs.Searches.{found_here, found_later, found_none}
-use Rattle.refusal.specs.Sentences.{is_feed, line_end}
-use borrow.Author.Rules.{rules}
+use mathlib.Core.Path.{◌≡◌}
+use lib.ListN.{length, drop}
+use Rattle.refusal.specs.Sentences.{line_end}
 use Rattle.refusal.proofs.sentences.line_end.Given as goal
 
 abbrev pub invariant-loop-at : goal.invariant-loop-at

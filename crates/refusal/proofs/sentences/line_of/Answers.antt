@@ -1,6 +1,5 @@
 -- `line_of` meets its contract: the line between its start and its end is placed.
-use Rattle.refusal.proofs.SentenceLaws.{line_room, line_placed}
-use borrow.Author.Rules.{rules}
+use Rattle.refusal.proofs.SentenceLaws.{line_room}
 use Rattle.refusal.proofs.sentences.line_of.Goals as goal
 
 pub placed-requires : goal.placed-requires

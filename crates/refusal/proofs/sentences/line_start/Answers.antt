@@ -1,7 +1,5 @@
 -- `line_start` meets its contract: the lines left from a place on are those of the whole table that are asked for.
-use Prim.Native.Nat.{◌≤◌}
-use mathlib.Core.Path.{◌≡◌, refl, sym, ◌∙◌}
-use lib.ListN.{length, drop}
+use mathlib.Core.Path.{◌≡◌, sym, ◌∙◌}
 use lib.Seq.{drop-length}
 use Rattle.refusal.specs.Sentences.{lines_from}
 use Rattle.refusal.proofs.SentenceLaws.{line_passed, lines_end}

@@ -1,11 +1,8 @@
 -- `line_start` meets its contract: the lines left from a place on are those of the whole table that are asked for.
 use Prim.Native.Nat.{◌≤◌}
-use mathlib.Core.Path.{◌≡◌, refl, sym, ◌∙◌}
+use mathlib.Core.Path.{◌≡◌}
 use lib.ListN.{length, drop}
-use lib.Seq.{drop-length}
 use Rattle.refusal.specs.Sentences.{lines_from}
-use Rattle.refusal.proofs.SentenceLaws.{line_passed, lines_end}
-use borrow.Author.Rules.{rules}
 use Rattle.refusal.proofs.sentences.line_start.Given as goal
 
 abbrev pub invariant-loop-left : goal.invariant-loop-left

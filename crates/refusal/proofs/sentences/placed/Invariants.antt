@@ -1,10 +1,8 @@
 -- `placed` meets its contract: after i turns the first i bytes stand in their places.
 use Prim.Native.Nat.{◌-◌, ◌≤◌}
 use mathlib.Core.List.{◌++◌}
-use mathlib.Core.Path.{◌≡◌, refl}
+use mathlib.Core.Path.{◌≡◌}
 use lib.ListN.{take, drop, replicate}
-use Rattle.refusal.proofs.SentenceLaws.{placed_more}
-use borrow.Author.Rules.{rules}
 use Rattle.refusal.proofs.sentences.placed.Given as goal
 
 abbrev pub invariant-loop-i : goal.invariant-loop-i
