@@ -48,7 +48,7 @@ line_cut = refl
 
 -- ---- the premises as tests
 
--- whether each premise holds, in their order: cuts, copies, in_order, loses-few, ready, closed, quiet
+-- whether each premise holds, in their order: cuts, copies, in_order, few_lost, ready, closed, quiet
 unfoldable pub held : Message → State → List Arrival → List Bool
 unfolding places neighbours undisturbed texts_out from_first answers step_of drop_of chains_after buffer_after sound fate
     cut fragments_from fragment_at fragment_of sendable message_of heading_of words_of cells_of without_fill number
@@ -238,7 +238,7 @@ pub order_needed : Needed 2 line free (copy 0 ∷ copy 1 ∷ copy 2 ∷ copy 3 �
 unfolding held
 order_needed = misread 11 refl refl refl
 
--- loses-few: the same three are lost, the last has the next F, and a shorter text is handed out
+-- few_lost: the same three are lost, the last has the next F, and a shorter text is handed out
 pub few_needed : Needed 3 line free (copy 0 ∷ copy 4 ∷ []) (bytes_of "TALES" ∷ [])
 unfolding held
 few_needed = misread 2 refl refl refl

@@ -164,17 +164,17 @@ vector_bad false true false values e = absurd (omega arith)
 vector_bad false false short values e = (refl, refl)
 
 -- a message word that is not refused is held and lacked, and there is room
-word_taken : (is_held_lem is-lacked short : Bool) (values : List ℕ)
-    → number_told (ask (is_held_lem && not is-lacked) refusals.OutOfTurn (ask (not is_held_lem) refusals.NoCall (ask short refusals.Room (given values)))) ≡ 0
-    → (is_held_lem ≡ true) × (is-lacked ≡ true) × (short ≡ false)
+word_taken : (is-held is-lacked short : Bool) (values : List ℕ)
+    → number_told (ask (is-held && not is-lacked) refusals.OutOfTurn (ask (not is-held) refusals.NoCall (ask short refusals.Room (given values)))) ≡ 0
+    → (is-held ≡ true) × (is-lacked ≡ true) × (short ≡ false)
 word_taken true true true values e = absurd (omega arith)
 word_taken true true false values e = (refl, refl, refl)
 word_taken true false short values e = absurd (omega arith)
 word_taken false is-lacked short values e = absurd (omega arith)
 
 -- a message word is never told 9
-word_not_bad : (is_held_lem is-lacked short : Bool) (values : List ℕ)
-    → number_told (ask (is_held_lem && not is-lacked) refusals.OutOfTurn (ask (not is_held_lem) refusals.NoCall (ask short refusals.Room (given values)))) ≡ 9 → ⊥
+word_not_bad : (is-held is-lacked short : Bool) (values : List ℕ)
+    → number_told (ask (is-held && not is-lacked) refusals.OutOfTurn (ask (not is-held) refusals.NoCall (ask short refusals.Room (given values)))) ≡ 9 → ⊥
 word_not_bad true true true values e = omega arith
 word_not_bad true true false values e = omega arith
 word_not_bad true false short values e = omega arith
@@ -219,12 +219,12 @@ pub record Heard (s : Calls) (n : ℕ) : Type 0 where
 -- a vector for a call that has none yet
 pub record Vectored (s : Calls) (n : ℕ) : Type 0 where
   pub heard : Heard s n
-  pub is_vector_lem : is_for_vector s n ≡ true
+  pub for_vector : is_for_vector s n ≡ true
   pub first : has_vector (vector_call s n) ≡ false
 
 -- its call stands in its place
 pub vectored_within : (s : Calls) (n : ℕ) → Vectored s n → vector_place s n < length (opens s)
-vectored_within s n v = (held (message_in n).phase (message_in n).word (opens s) v.is_vector_lem).0
+vectored_within s n v = (held (message_in n).phase (message_in n).word (opens s) v.for_vector).0
 
 module _ (s : Calls) (memory : List ℕ) (n : ℕ) where
   -- 01: "The vector packet (same phase, that word number) gives the span of message words": it is taken where its span is good, and the memory has room
@@ -283,7 +283,7 @@ module _ (s : Calls) (memory : List ℕ) (n : ℕ) where
           vector_taken (has_vector (vector_call s n)) (vector_fits (vector_call s n) (vector_of n)) (is_short memory) _
           (sym (ap number_told (picks_first (is_for_vector s n) _ (word_told s memory (message_in n)) e.1)) ∙ both.1) in
           record {
-            vectored = record { heard = both.0; is_vector_lem = e.1; first = taken.0 };
+            vectored = record { heard = both.0; for_vector = e.1; first = taken.0 };
             good = (vector_fits_lem (vector_call s n) (vector_of n)).0 taken.1;
             room = ltb-false (length memory) 680 taken.2;
           }
@@ -293,12 +293,12 @@ module _ (s : Calls) (memory : List ℕ) (n : ℕ) where
           let c = vector_call s n in (
             ap number_told
                 (heard_passes v.vectored.heard
-                ∙ picks_first (is_for_vector s n) _ (word_told s memory (message_in n)) v.vectored.is_vector_lem
+                ∙ picks_first (is_for_vector s n) _ (word_told s memory (message_in n)) v.vectored.for_vector
                 ∙ passes (not (has_vector c) && not (vector_fits c (vector_of n))) refusals.Size _
                 (rw ((vector_fits_lem c (vector_of n)).1 v.good) (and-false (not (has_vector c))))
                 ∙ passes (has_vector c) refusals.OutOfTurn _ v.vectored.first
                 ∙ passes (is_short memory) refusals.Room _ (le-ltb (length memory) 680 v.room)),
-            v.vectored.is_vector_lem,
+            v.vectored.for_vector,
           )
 
   -- 9 is told exactly for a bad span
@@ -313,7 +313,7 @@ module _ (s : Calls) (memory : List ℕ) (n : ℕ) where
           let bad =
           vector_bad (has_vector (vector_call s n)) (vector_fits (vector_call s n) (vector_of n)) (is_short memory) _
           (sym (ap number_told (picks_first (is_for_vector s n) _ (word_told s memory (message_in n)) is)) ∙ both.1) in
-          record { vectored = record { heard = both.0; is_vector_lem = is; first = bad.0 }; bad = bad.1 })
+          record { vectored = record { heard = both.0; for_vector = is; first = bad.0 }; bad = bad.1 })
           (λ none.
           absurd
           (word_not_bad (is_held (opens s) (message_in n)) (is_lacked (opens s) (message_in n) memory) (is_short memory) _
@@ -324,7 +324,7 @@ module _ (s : Calls) (memory : List ℕ) (n : ℕ) where
       back b =
           ap number_told
           (heard_passes b.vectored.heard
-          ∙ picks_first (is_for_vector s n) _ (word_told s memory (message_in n)) b.vectored.is_vector_lem
+          ∙ picks_first (is_for_vector s n) _ (word_told s memory (message_in n)) b.vectored.for_vector
           ∙ refused_by (not (has_vector (vector_call s n)) && not (vector_fits (vector_call s n) (vector_of n))) refusals.Size _ (rw (b.vectored.first, b.bad)))
 
   -- a message word is taken exactly then
@@ -342,13 +342,13 @@ module _ (s : Calls) (memory : List ℕ) (n : ℕ) where
       back : WordTaken → (hear_number s memory n ≡ 0) × (is_for_vector s n ≡ false)
       back w =
           let m = message_in n in
-          let is_held_lem = any_weaker (λ c. lacks c m memory) (λ c. holds_word c m) (opens s)
+          let is-held = any_weaker (λ c. lacks c m memory) (λ c. holds_word c m) (opens s)
           (λ c e. first_of (holds_word c m) (leb lacking (get_or memory (word_place c m) lacking)) e) w.lacked in (
             ap number_told
                 (heard_passes w.heard
                 ∙ picks_second (is_for_vector s n) (vector_told s memory (vector_place s n) (vector_call s n) (vector_of n)) _ w.no_vector
                 ∙ passes (is_held (opens s) m && not (is_lacked (opens s) m memory)) refusals.OutOfTurn _ (rw w.lacked (and-false (is_held (opens s) m)))
-                ∙ passes (not (is_held (opens s) m)) refusals.NoCall _ (ap not is_held_lem)
+                ∙ passes (not (is_held (opens s) m)) refusals.NoCall _ (ap not is-held)
                 ∙ passes (is_short memory) refusals.Room _ (le-ltb (length memory) 680 w.room)),
             w.no_vector,
           )
@@ -395,14 +395,14 @@ module _ (s : Calls) (memory : List ℕ) (n : ℕ) where
   gives_vector v =
       let none = (vector_accepted.1 v).0 in
       picks_second (eqb (hear_number s memory n) 9) _ _ (ne_eqb (hear_number s memory n) 9 (λ e. omega arith))
-      ∙ picks_first (eqb (hear_number s memory n) 0 && is_for_vector s n) _ s (rw (none, v.vectored.is_vector_lem))
+      ∙ picks_first (eqb (hear_number s memory n) 0 && is_for_vector s n) _ s (rw (none, v.vectored.for_vector))
 
   -- the records after a word that is taken are as they were
   pub word_stays : WordTaken → heard_in s memory n ≡ s
   word_stays w =
       heard_by (λ t. t ≡ s)
-      (λ b. absurd (not_both (is_for_vector s n) b.vectored.is_vector_lem w.no_vector))
-      (λ v. absurd (not_both (is_for_vector s n) v.vectored.is_vector_lem w.no_vector))
+      (λ b. absurd (not_both (is_for_vector s n) b.vectored.for_vector w.no_vector))
+      (λ v. absurd (not_both (is_for_vector s n) v.vectored.for_vector w.no_vector))
       refl
 
   -- 01: "Unless said, state and lent memory stay as they were", of the records and of any refusal but 9
@@ -424,16 +424,16 @@ module _ (s : Calls) (memory : List ℕ) (n : ℕ) where
       (λ none is. taken (vector_accepted.0 (eqb-true (hear_number s memory n) 0 none, is)))
       (λ none is. given (word_accepted.0 (eqb-true (hear_number s memory n) 0 none, is)))
     where
-      by_number : (none is_vector_lem : Bool)
-          → (none ≡ true → is_vector_lem ≡ true → P (put memory (place_of (vector_given s n)) (replicate (vector_given s n).words lacking)))
-          → (none ≡ true → is_vector_lem ≡ false → P (given_to (opens s) (message_in n) memory))
+      by_number : (none is-vector : Bool)
+          → (none ≡ true → is-vector ≡ true → P (put memory (place_of (vector_given s n)) (replicate (vector_given s n).words lacking)))
+          → (none ≡ true → is-vector ≡ false → P (given_to (opens s) (message_in n) memory))
           → P
           (pick none
-          (pick is_vector_lem (put memory (place_of (vector_given s n)) (replicate (vector_given s n).words lacking))
+          (pick is-vector (put memory (place_of (vector_given s n)) (replicate (vector_given s n).words lacking))
           (given_to (opens s) (message_in n) memory)) memory)
       by_number true true there here = there refl refl
       by_number true false there here = here refl refl
-      by_number false is_vector_lem there here = else
+      by_number false is-vector there here = else
 
 -- ---- the end of the frame
 

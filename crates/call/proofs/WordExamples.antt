@@ -99,7 +99,7 @@ given_examples = refl
 
 -- ---- the premises of what a word completes
 
--- one word: the calls, the place of one, the memory before; its bit, and what finished-bit says
+-- one word: the calls, the place of one, the memory before; its bit, and what finished_bit says
 abbrev FinishedCase : Type 0
 FinishedCase = List Call × ℕ × List ℕ × ℕ × ℕ
 
@@ -113,7 +113,7 @@ finished_cases =
     ∷ (call_with 1 0 90 0 ∷ call_with 1 85 1 1 ∷ [], 0, set (replicate 680 0) 85 lacking, 0, 1)
     ∷ []
 
--- finished-bit: the bit is not what it says wherever a premise fails
+-- finished_bit: the bit is not what it says wherever a premise fails
 pub finished_examples :
     map {A = FinishedCase} {B = ℕ × ℕ}
     (λ t.
@@ -131,7 +131,7 @@ finished_examples = refl
 abbrev next_frame : List Event
 next_frame = ended ∷ addressed 0x01200503 ∷ heard 0x03230094 ∷ heard 0x14200456 ∷ []
 
--- words-came holds within a frame only: after its end the area is another call's
+-- words_came holds within a frame only: after its end the area is another call's
 pub next_frame_words :
     let s = after_all start opening in
     let c = get_or (opens s.calls) 0 blank in

@@ -37,7 +37,7 @@ built_cases =
     ∷ (long, 1 ∷ 0 ∷ [], false, true, 0, 0 ∷ 0 ∷ [])
     ∷ []
 
--- read-packed: what is read back is not what was given wherever a premise fails
+-- read_packed: what is read back is not what was given wherever a premise fails
 pub built_examples :
     map {A = BuiltCase} {B = Bool × Bool × ℕ × List ℕ}
     (λ c. (laid c.0, fit c.0 c.1, packed c.0 c.1, fields_of c.0 (packed c.0 c.1))) built_cases
@@ -66,7 +66,7 @@ read_cases =
     ∷ (long, 2 ^ 32, false, true, true, true, 0)
     ∷ []
 
--- packed-read-whole: the packet built again is another wherever a premise fails
+-- packed_read_whole: the packet built again is another wherever a premise fails
 pub read_examples :
     map {A = ReadCase} {B = Bool × Bool × Bool × Bool × ℕ}
     (λ c. (

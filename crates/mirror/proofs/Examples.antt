@@ -1,4 +1,4 @@
--- Worked examples: 01's marked case 9, a start_up that ends talking, and for each premise of a law a case in which it alone fails, and the law with it.
+-- Worked examples: 01's marked case 9, a start-up that ends talking, and for each premise of a law a case in which it alone fails, and the law with it.
 use Prim.Native.Nat.{ℕ}
 use mathlib.Core.Bool.{Bool, true, false}
 use mathlib.Core.List.{List, [], ◌∷◌, map}
@@ -21,7 +21,7 @@ abbrev course : Mirror → List ℕ → List Bool
 course m [] = []
 course m (n ∷ ns) = talks (step_of m n) ∷ course (step_of m n) ns
 
--- a start_up: the packets of case 9, a wrong checksum, and the right one
+-- a start-up: the packets of case 9, a wrong checksum, and the right one
 pub start_up : course (reset_by 0xFF000106).mirror (0x01000010 ∷ 0x03400000 ∷ 0x00400117 ∷ 0x00400116 ∷ []) ≡ false ∷ false ∷ false ∷ true ∷ []
 start_up = refl
 

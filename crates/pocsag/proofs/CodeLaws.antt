@@ -314,8 +314,8 @@ beyond_exactly word below = (
 
 -- 02, item 5: "no two different sent words can come from one received word under that rule"
 pub one_sender : (first second word : ℕ) → is_sent first ≡ true → is_sent second ≡ true → Near first word → Near second word → first ≡ second
-one_sender first second word is-first is-second IsNear-first near-second =
-    sym (changed_back first word is-first IsNear-first) ∙ changed_back second word is-second near-second
+one_sender first second word is-first is-second near-first near-second =
+    sym (changed_back first word is-first near-first) ∙ changed_back second word is-second near-second
 
 -- ---- other wrong bits
 

@@ -18,7 +18,7 @@ use Rattle.pocsag_lister.specs.Collecting.{found_in}
 -- four bytes push out whatever was there before them
 four_bytes : (value a b c d : ℕ) → a < 256 → b < 256 → c < 256
     → shifted_byte (shifted_byte (shifted_byte (shifted_byte value a) b) c) d ≡ ((a * 256 + b) * 256 + c) * 256 + d
-four_bytes value a b c d small-a small_b small-c = omega arith
+four_bytes value a b c d small-a small-b small-c = omega arith
 
 -- the same, by recursion on the bytes
 raw_from : (bytes : List ℕ) (t : Token) → t.count ≡ 0 → are_digits 256 bytes ≡ true → found_in true t bytes ≡ map word_found (words_in bytes)
