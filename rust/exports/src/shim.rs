@@ -1,6 +1,6 @@
 //! The library's exports in C, for every machine but the one that the kit compiles for: each calls the function of the
-//! proved module that its own thunk calls. C decides how a struct is handed over on the machine at hand; the inner function
-//! takes every struct and every slice by a pointer.
+//! proved module that its own thunk calls. C decides how a struct is handed over on the machine at hand. To the module every
+//! struct and every slice goes by a pointer: `module` writes a function for that beside each inner one.
 
 use crate::c::{declared, plain};
 use crate::library::{is_number, Library, Part};
@@ -128,7 +128,13 @@ pub fn inner(part: &Part, function: &Function) -> String {
     format!("{}::{}", part.place.join("::"), function.name)
 }
 
-/// What an inner function takes for a parameter, in C's words: a number as it is and anything else by a pointer.
+/// The name of the function of the module that the shim calls: it takes structs and slices by a pointer and calls the inner
+/// one.
+pub fn by_pointers(inner: &str) -> String {
+    format!("{inner}::by_pointers")
+}
+
+/// What that function takes for a parameter, in C's words: a number as it is and anything else by a pointer.
 fn taken(kind: &Type) -> String {
     match kind {
         Type::Plain(name) if name == "usize" => "uint64_t".to_string(),
@@ -138,7 +144,7 @@ fn taken(kind: &Type) -> String {
     }
 }
 
-/// How an argument is handed to the inner function.
+/// How an argument is handed to it.
 fn handed(name: &str, kind: &Type) -> String {
     match kind {
         Type::Plain(kind) if is_number(kind) => name.to_string(),
@@ -177,7 +183,7 @@ fn function(part: &Part, known: &Function) -> String {
         _ if is_number => format!("    return {call};\n"),
         _ => format!("    {} answer;\n    {call};\n    return answer;\n", plain(answer)),
     });
-    let label = inner(part, known);
+    let label = by_pointers(&inner(part, known));
     format!(
         "\n{gives} inner_{bare}({}) __asm__(\"{label}\");\n\n{} {}({parameters})\n{{\n{body}}}\n",
         kinds.join(", "),

@@ -75,8 +75,9 @@ pub struct Source {
     pub variants: BTreeMap<String, Vec<String>>,
 }
 
-/// How the line of an exported function begins.
+/// How the line of an exported function begins, and what stands above it.
 const EXPORT: &str = "pub extern \"C\" fn ";
+const KEEPS_NAME: &str = "#[unsafe(no_mangle)]";
 
 /// How the first line of a constant ends that is a text, whose own lines follow.
 const TEXT: &str = " = *b\"\\";
@@ -157,7 +158,7 @@ struct Reader<'a> {
     comment: Vec<String>,
     /// Whether `#[repr(C)]` stands above the next item.
     crosses: bool,
-    /// Whether `#[no_mangle]` stands above the next item.
+    /// Whether `#[unsafe(no_mangle)]` stands above the next item.
     keeps_name: bool,
     of: Option<String>,
     read: Source,
@@ -244,14 +245,29 @@ impl Reader<'_> {
         }
     }
 
-    /// `path::name;`, perhaps with another name for it.
+    /// `path::name;`, perhaps with another name for it, or `path::{name, name};`, perhaps over several lines.
     fn import(&mut self, text: &str, is_public: bool) -> Result<(), String> {
+        let mut text = without_comment(text).to_string();
+        while !text.ends_with(';') {
+            let line = self.lines.next().ok_or(format!("`use {text}` has no end"))?;
+            text = format!("{} {}", text, without_comment(line.trim())).trim_end().to_string();
+        }
         let fault = || format!("`use {text}` names no item");
-        let path = without_comment(text).strip_suffix(';').ok_or_else(fault)?;
-        let (path, other) = path.split_once(" as ").map_or((path, None), |(path, other)| (path, Some(other)));
-        let (_, name) = path.rsplit_once("::").ok_or_else(fault)?;
-        let path = path.split("::").map(str::to_string).collect();
-        self.read.uses.push(Use { name: other.unwrap_or(name).to_string(), path, is_public });
+        let whole = text.strip_suffix(';').ok_or_else(fault)?;
+        let (before, names) = match whole.split_once('{') {
+            Some((before, names)) => {
+                let names = names.strip_suffix('}').filter(|names| !names.contains('{'));
+                (before, names.ok_or_else(fault)?)
+            }
+            None => ("", whole),
+        };
+        for name in names.split(',').map(str::trim).filter(|name| !name.is_empty()) {
+            let path = format!("{before}{name}");
+            let (path, other) = path.split_once(" as ").map_or((&path[..], None), |(path, other)| (path, Some(other)));
+            let (_, name) = path.rsplit_once("::").ok_or_else(fault)?;
+            let path = path.split("::").map(str::to_string).collect();
+            self.read.uses.push(Use { name: other.unwrap_or(name).to_string(), path, is_public });
+        }
         Ok(())
     }
 
@@ -263,13 +279,13 @@ impl Reader<'_> {
         Ok(())
     }
 
-    /// Refuses a function that the archive or the header alone would have: `#[no_mangle]` and `pub extern "C" fn` stand
-    /// together, each at the start of its line, or not at all.
+    /// Refuses a function that the archive or the header alone would have: `#[unsafe(no_mangle)]` and `pub extern "C" fn`
+    /// stand together, each at the start of its line, or not at all.
     fn paired(&self, line: &str) -> Result<(), String> {
         let text = line.trim();
         match (self.keeps_name, text.strip_prefix(EXPORT).map(leading_name)) {
-            (true, None) => Err(format!("#[no_mangle] stands above `{text}`, which is no `{}`", EXPORT.trim_end())),
-            (false, Some(name)) => Err(format!("{name} is `{}` without #[no_mangle]", EXPORT.trim_end())),
+            (true, None) => Err(format!("{KEEPS_NAME} stands above `{text}`, which is no `{}`", EXPORT.trim_end())),
+            (false, Some(name)) => Err(format!("{name} is `{}` without {KEEPS_NAME}", EXPORT.trim_end())),
             (true, Some(name)) if line != text => Err(format!("the export {name} stands within another item")),
             _ => Ok(()),
         }
@@ -318,7 +334,7 @@ impl Reader<'_> {
         match without_comment(text) {
             "" => {}
             "#[repr(C)]" => self.crosses = true,
-            "#[no_mangle]" => self.keeps_name = true,
+            KEEPS_NAME => self.keeps_name = true,
             other if other.starts_with("#[") => {}
             _ => {
                 self.paired(line)?;
@@ -349,7 +365,7 @@ pub fn read(text: &str) -> Result<Source, String> {
         reader.line(line)?;
     }
     if reader.keeps_name {
-        return Err("#[no_mangle] stands above nothing".to_string());
+        return Err(format!("{KEEPS_NAME} stands above nothing"));
     }
     Ok(reader.read)
 }
@@ -360,7 +376,7 @@ mod tests {
 
     const TEXT: &str = "// About it.\nuse calls::Call;\n\n// A place.\n#[repr(C)]\npub struct Place {\n    pub at: [u16; 8],\n}\n\n\
         pub enum Kind {\n    // The other.\n    Other,\n}\n\n\
-        impl Kind {\n    // The first.\n    pub const FIRST: u32 = 0x0F;\n\n            Kind::Other => 2,\n}\n\n// Says where.\n// Takes nothing.\n#[no_mangle]\n\
+        impl Kind {\n    // The first.\n    pub const FIRST: u32 = 0x0F;\n\n            Kind::Other => 2,\n}\n\n// Says where.\n// Takes nothing.\n#[unsafe(no_mangle)]\n\
         pub extern \"C\" fn where_is(\n    call: Call,\n    memory: &mut [u32],\n) -> Place\n    ensures { .. }\n{\n}\n";
 
     #[test]
@@ -383,15 +399,18 @@ mod tests {
     #[test]
     fn lines_of_modules_and_of_use_are_read_in_each_form() {
         let text = "mod finding; // finding.rt: where a chain is\npub mod joining;\npub(crate) mod fate;\n\n\
-            ghost use lib.ListN.{length};\nuse super::Chain as Record;\npub use joining::step;\n\
-            pub(crate) use fate::Fate;\n";
+            ghost use Rattle.std.specs.Prelude.{length};\nuse super::Chain as Record;\npub use joining::step;\n\
+            pub(crate) use fate::Fate;\nuse calls::{\n    Call, CALLS as MOST,\n    ends::End, // the last\n};\n";
         let read = read(text).unwrap();
         assert_eq!(read.modules, ["finding", "joining", "fate"]);
         let uses: Vec<(&str, String, bool)> =
             read.uses.iter().map(|used| (&used.name[..], used.path.join("::"), used.is_public)).collect();
         let own = |name, path: &str| (name, path.to_string(), false);
         let passed_on = ("step", "joining::step".to_string(), true);
-        assert_eq!(uses, [own("Record", "super::Chain"), passed_on, own("Fate", "fate::Fate")]);
+        let first = [own("Record", "super::Chain"), passed_on, own("Fate", "fate::Fate")];
+        let grouped = [own("Call", "calls::Call"), own("MOST", "calls::CALLS"), own("End", "calls::ends::End")];
+        assert_eq!(uses, [first, grouped].concat());
+        assert!(super::read("use calls::{Call, ends::{End}};\n").is_err());
     }
 
     #[test]

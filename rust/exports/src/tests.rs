@@ -16,14 +16,15 @@ struct Folder {
 }
 
 impl Folder {
-    /// The crates in the order of crates.txt, and each file by its path below `crates`.
+    /// The crates in the order of crates.txt, of which `host` is a static library, and each file by its path below `crates`.
     fn new(crates: &str, files: &[(&str, &str)]) -> Folder {
         let number = FOLDERS.fetch_add(1, Ordering::Relaxed);
         let root = env::temp_dir().join(format!("mortisevane-exports-{}-{number}", process::id()));
         // Of an earlier run that was cut short nothing may be left.
         let _ = fs::remove_dir_all(&root);
         let folder = Folder { root };
-        let names: String = crates.split(' ').map(|name| format!("{name}:\n")).collect();
+        let kind = |name: &str| if name == "host" { " staticlib" } else { "" };
+        let names: String = crates.split(' ').map(|name| format!("{name}{}:\n", kind(name))).collect();
         folder.write("crates.txt", &names);
         for (path, text) in files {
             folder.write(&format!("crates/{path}"), text);
@@ -62,7 +63,7 @@ fn fault(crates: &str, files: &[(&str, &str)]) -> String {
 /// An exported function with all that its comment has to say.
 pub fn export(signature: &str) -> String {
     let comment = "// Does it.\n// Takes something.\n// Answers something.\n// Refuses nothing.\n";
-    format!("\n{comment}#[no_mangle]\npub extern \"C\" fn {signature}\n    ensures {{ .. }}\n{{\n}}\n")
+    format!("\n{comment}#[unsafe(no_mangle)]\npub extern \"C\" fn {signature}\n    ensures {{ .. }}\n{{\n}}\n")
 }
 
 /// The text of a module of `host`: its head, its `use` lines, and one export.
@@ -130,7 +131,7 @@ fn a_module_below_another_stands_in_its_folder() {
 fn names_are_found_within_a_crate() {
     let chains = module(
         "Chains.",
-        "ghost use lib.Nowhere.{nothing};\nuse crate::Chain;\nuse crate::records::Chains;\nuse super::records;\n",
+        "ghost use Rattle.nowhere.specs.{nothing};\nuse crate::Chain;\nuse crate::records::Chains;\nuse super::records;\n",
         "mortisevane_chains(chain: Chain) -> Chains",
     );
     let lib = format!("// All.\nmod chains;\nmod records;\nmod sizes;\n\npub use sizes::SLOTS;\n{CHAIN}");
@@ -381,17 +382,17 @@ fn an_export_is_marked_and_public_or_refused() {
         fault("host", &[("host/src/lib.rt", "// All.\nmod sums;\n"), ("host/src/sums.rt", &format!("{part}{text}"))])
     };
     let path = "crates/host/src/sums.rt";
-    let expected = format!("{path}: mortisevane_bare is `pub extern \"C\" fn` without #[no_mangle]");
-    assert_eq!(told(&export("mortisevane_bare() -> u32").replace("#[no_mangle]\n", "")), expected);
-    let above = |item: &str| format!("{path}: #[no_mangle] stands above `{item}`, which is no `pub extern \"C\" fn`");
+    let expected = format!("{path}: mortisevane_bare is `pub extern \"C\" fn` without #[unsafe(no_mangle)]");
+    assert_eq!(told(&export("mortisevane_bare() -> u32").replace("#[unsafe(no_mangle)]\n", "")), expected);
+    let above = |item: &str| format!("{path}: #[unsafe(no_mangle)] stands above `{item}`, which is no `pub extern \"C\" fn`");
     assert_eq!(
-        told("#[no_mangle]\npub fn mortisevane_bare() -> u32 {\n}\n"),
+        told("#[unsafe(no_mangle)]\npub fn mortisevane_bare() -> u32 {\n}\n"),
         above("pub fn mortisevane_bare() -> u32 {")
     );
     let private = "extern \"C\" fn mortisevane_bare() -> u32 {";
-    assert_eq!(told(&format!("#[no_mangle] // kept\n{private}\n}}\n")), above(private));
-    assert_eq!(told("\n#[no_mangle]\n"), format!("{path}: #[no_mangle] stands above nothing"));
-    let method = "impl Sum {\n    #[no_mangle]\n    pub extern \"C\" fn mortisevane_in() -> u32 {\n    }\n}\n";
+    assert_eq!(told(&format!("#[unsafe(no_mangle)] // kept\n{private}\n}}\n")), above(private));
+    assert_eq!(told("\n#[unsafe(no_mangle)]\n"), format!("{path}: #[unsafe(no_mangle)] stands above nothing"));
+    let method = "impl Sum {\n    #[unsafe(no_mangle)]\n    pub extern \"C\" fn mortisevane_in() -> u32 {\n    }\n}\n";
     assert_eq!(told(method), format!("{path}: the export mortisevane_in stands within another item"));
 }
 

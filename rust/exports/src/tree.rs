@@ -155,11 +155,11 @@ impl Tree {
     }
 }
 
-/// The crates of crates.txt, in its order.
+/// The crates of crates.txt, in its order. After a name there may be what is made of the crate, as in `host staticlib:`.
 fn crates(root: &Path) -> Result<Vec<String>, String> {
     let text = fs::read_to_string(root.join("crates.txt")).map_err(|fault| format!("crates.txt: {fault}"))?;
     let names = text.lines().filter(|line| !line.starts_with('#')).filter_map(|line| line.split_once(':'));
-    Ok(names.map(|(name, _)| name.to_string()).collect())
+    Ok(names.filter_map(|(name, _)| name.split_whitespace().next()).map(str::to_string).collect())
 }
 
 /// Reads a file and those of its modules.
