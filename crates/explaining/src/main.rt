@@ -1,46 +1,51 @@
 // The listing with a sentence below each refused line, for the label desk: its line number, a caret under the place where the
 // text goes wrong, and how to mend it. CAPCODE lines come from standard input, and go to standard output as `listing` lists
-// them. The accepted CAPCODEs go to descriptor 3 with their line numbers, and last how many lines there were and how many were
-// refused: `./list --explain` makes the summary of that.
+// them. With the argument --summary=FILE the accepted CAPCODEs go to that file with their line numbers, and last how many lines
+// there were and how many were refused: `./list --explain` makes the summary of that.
+#![tactic(auto)]
+
 ghost use Rattle.std.specs.Prelude.{◌≤◌, ◌<◌, length};
 
+use anyhow::{Context, Result, bail};
 use capcode::ReadAnswer;
-use libc::{STDIN_FILENO, STDOUT_FILENO};
 use lister::{Lister, Written};
+use std::alloc::Global;
+use std::env;
+use std::fs::File;
+use std::io::{BufWriter, Read, Write, sink};
+use std::process::ExitCode;
 
-const ACCEPTED: i32 = 3;
+// How many bytes are read at a time.
+const PORTION: usize = 4096;
 
-// How far an input is explained: where its listing stands, how many lines have ended and how many of them were refused, and
-// whether all was written.
-#[derive(Drop)]
+// How many bytes of the listing are written at a time.
+const ROOM: usize = 65536;
+
+// How far an input is explained: where its listing stands, how many lines have ended and how many of them were refused.
+#[derive(Clone, Copy)]
 struct Explained {
     lister: Lister,
     lines: u64,
     refused: u64,
-    is_well: bool,
 }
 
-// What was said of a line: whether it is refused, and whether all was written.
-#[derive(Drop)]
-struct Said {
-    is_refused: bool,
-    is_written: bool,
-}
-
-// Whether to read on, and how far the input is explained.
-#[derive(Drop)]
+// How far the input is explained, and whether to read on.
+#[derive(Clone, Copy)]
 struct Turned {
     state: Explained,
     goes_on: bool,
 }
 
-// Writes to standard output, or says on standard error why not.
-fn write(text: &[u8]) -> bool {
-    let is_written = io::write_all(STDOUT_FILENO, text);
-    if !is_written {
-        os::fail(b"standard output");
-    }
-    is_written
+// What the program is asked for: the file that the summary is made of, if one is named, and whether all arguments are known.
+#[derive(Drop)]
+struct Asked {
+    summary: Option<String>,
+    is_known: bool,
+}
+
+// Writes a part of the listing, or says why not.
+fn write<W: Write>(text: &[u8], writer: &mut W) -> Result<()> {
+    writer.write_all(text).context("standard output")
 }
 
 // One more, if a number of 64 bits holds it.
@@ -49,106 +54,127 @@ fn one_more(n: u64) -> u64 {
 }
 
 // Writes so many bytes of a row, or all where it has no more.
-fn write_first(row: &[u8], count: usize) -> bool {
+fn write_first<W: Write>(row: &[u8], count: usize, writer: &mut W) -> Result<()> {
     if count < row.len() {
-        return write(&row[..count]);
+        return write(&row[..count], writer);
     }
-    write(row)
+    write(row, writer)
 }
 
 // Writes the caret under a place of the line above.
-fn write_caret(place: u8) -> bool {
-    write_first(b"               ", place as usize) & write(b"^ ")
+fn write_caret<W: Write>(place: u8, writer: &mut W) -> Result<()> {
+    write_first(b"               ", place as usize, writer)?;
+    write(b"^ ", writer)
 }
 
 // Writes the letter that is to be written, if there is one.
-fn write_letter(letter: u8) -> bool {
+fn write_letter<W: Write>(letter: u8, writer: &mut W) -> Result<()> {
     if letter == 0 {
-        return true;
+        return Ok(());
     }
-    write(&[letter])
+    write(&[letter], writer)
 }
 
 // Writes the line number, and the sentence that says what is wrong with a text.
-fn write_remark(text: &[u8], line: u64) -> bool {
+fn write_remark<W: Write>(text: &[u8], line: u64, writer: &mut W) -> Result<()> {
     let advice = capcode::advise(text, line == 1);
     let sentence = refusal::in_words(advice.row);
-    let bytes = sentence.bytes;
-    let numbered = write(b"line ") & io::print_decimal(STDOUT_FILENO, line);
-    let said = write(b": ") & write_first(&bytes, sentence.length);
-    ((numbered & said) & write_letter(advice.letter)) & write(b"\n")
+    write!(writer, "line {line}: ").context("standard output")?;
+    write_first(&sentence.bytes, sentence.length, writer)?;
+    write_letter(advice.letter, writer)?;
+    write(b"\n", writer)
 }
 
 // Writes an accepted CAPCODE and its line number for the summary.
-fn write_accepted(text: &[u8], line: u64) -> bool {
-    let written = io::write_all(ACCEPTED, text) & io::write_all(ACCEPTED, b" ");
-    (written & io::print_decimal(ACCEPTED, line)) & io::write_all(ACCEPTED, b"\n")
+fn write_accepted<S: Write>(text: &[u8], line: u64, summary: &mut S) -> Result<()> {
+    summary.write_all(text).context("the summary")?;
+    writeln!(summary, " {line}").context("the summary")
 }
 
-// Says what is wrong with the text of a line, if anything is.
-fn explain_line(text: &[u8], line: u64) -> Said {
+// Says what is wrong with the text of a line, if anything is, and whether anything is.
+fn explain_line<W: Write, S: Write>(
+    text: &[u8],
+    line: u64,
+    writer: &mut W,
+    summary: &mut S,
+) -> Result<bool> {
     match capcode::read(text) {
-        ReadAnswer::Whole(_, _) => Said {
-            is_refused: false,
-            is_written: write_accepted(text, line),
-        },
-        ReadAnswer::Wrong(_, place) => Said {
-            is_refused: true,
-            is_written: write_caret(place) & write_remark(text, line),
-        },
-        ReadAnswer::Refused(_) => Said {
-            is_refused: true,
-            is_written: write_remark(text, line),
-        },
+        ReadAnswer::Whole(_, _) => {
+            write_accepted(text, line, summary)?;
+            Ok(false)
+        }
+        ReadAnswer::Wrong(_, place) => {
+            write_caret(place, writer)?;
+            write_remark(text, line, writer)?;
+            Ok(true)
+        }
+        ReadAnswer::Refused(_) => {
+            write_remark(text, line, writer)?;
+            Ok(true)
+        }
     }
 }
 
 // Says what is wrong with the first bytes of a line, if anything is; a count over its length stands for all of them.
-fn explain_first(line: &[u8], count: usize, number: u64) -> Said {
+fn explain_first<W: Write, S: Write>(
+    line: &[u8],
+    count: usize,
+    number: u64,
+    writer: &mut W,
+    summary: &mut S,
+) -> Result<bool> {
     if count < line.len() {
-        return explain_line(&line[..count], number);
+        return explain_line(&line[..count], number, writer, summary);
     }
-    explain_line(line, number)
+    explain_line(line, number, writer, summary)
 }
 
 // Counts a line that has ended, and says what is wrong with its text: the bytes that are kept of it.
-fn explain_kept(lister: Lister, before: Explained, is_listed: bool) -> Explained {
-    let line = lister.line;
-    let count = lister.count;
+fn explain_kept<W: Write, S: Write>(
+    ended: Lister,
+    before: Explained,
+    writer: &mut W,
+    summary: &mut S,
+) -> Result<Explained> {
     let number = one_more(before.lines);
-    let said = explain_first(&line, count, number);
-    let next = before.lister;
-    Explained {
-        lister: next,
+    let is_refused = explain_first(&ended.line, ended.count, number, writer, summary)?;
+    Ok(Explained {
+        lister: before.lister,
         lines: number,
-        refused: if said.is_refused {
+        refused: if is_refused {
             one_more(before.refused)
         } else {
             before.refused
         },
-        is_well: is_listed & said.is_written,
-    }
+    })
 }
 
 // Lists a part of a line, or its line feed. A part is so short that the listing of it has room.
-fn list_part(before: Explained, part: &[u8], out: &mut [u8]) -> Explained {
+fn list_part<W: Write>(
+    before: Explained,
+    part: &[u8],
+    out: &mut [u8],
+    writer: &mut W,
+) -> Result<Explained> {
     let fed = lister::feed(before.lister, part, out);
-    let is_written = write_first(out, fed.written);
-    let is_whole = fed.taken == part.len();
-    let lister = fed.lister;
-    Explained {
-        lister,
-        lines: before.lines,
-        refused: before.refused,
-        is_well: is_written & is_whole,
+    write_first(out, fed.written, writer)?;
+    if fed.taken < part.len() {
+        bail!("standard output: the buffer is too short");
     }
+    let mut after = before;
+    after.lister = fed.lister;
+    Ok(after)
 }
 
 // Ends a line at its line feed.
-fn end_line(before: Explained, out: &mut [u8]) -> Explained {
-    let ended = before.lister;
-    let after = list_part(before, b"\n", out);
-    explain_kept(ended, after, after.is_well)
+fn end_line<W: Write, S: Write>(
+    before: Explained,
+    out: &mut [u8],
+    writer: &mut W,
+    summary: &mut S,
+) -> Result<Explained> {
+    let after = list_part(before, b"\n", out, writer)?;
+    explain_kept(before.lister, after, writer, summary)
 }
 
 // Where the line that a place lies in ends: at its line feed, or at the end of the portion.
@@ -178,129 +204,164 @@ fn after_feed(input: &[u8], feed: usize) -> usize
 }
 
 // Lists a portion line by line, with what is wrong with each.
-fn explain_portion(start: Explained, input: &[u8], out: &mut [u8]) -> Explained {
+fn explain_portion<W: Write, S: Write>(
+    start: Explained,
+    input: &[u8],
+    out: &mut [u8],
+    writer: &mut W,
+    summary: &mut S,
+) -> Result<Explained> {
     let mut state = start;
     let mut at = 0;
     while at < input.len() {
         let end = line_end(input, at);
-        state = list_part(state, &input[at..end], out);
-        if !state.is_well {
-            return state;
-        }
+        state = list_part(state, &input[at..end], out, writer)?;
         if input.len() <= end {
-            return state;
+            break;
         }
-        state = end_line(state, out);
-        if !state.is_well {
-            return state;
-        }
+        state = end_line(state, out, writer, summary)?;
         at = after_feed(input, end);
     }
-    state
+    Ok(state)
 }
 
 // Writes what was put at a buffer's start, if it was put there.
-fn write_put(answer: Written, out: &[u8]) -> bool {
+fn write_put<W: Write>(answer: Written, out: &[u8], writer: &mut W) -> Result<()> {
     let Written::Length(n) = answer else {
-        return false;
+        bail!("standard output: the buffer is too short");
     };
-    write_first(out, n)
+    write_first(out, n, writer)
 }
 
 // Ends the last line, if that has a byte and no line feed.
-fn explain_close(before: Explained) -> Explained {
-    let lister = before.lister;
-    let ended = lister::with_return(lister);
+fn explain_close<W: Write, S: Write>(
+    before: Explained,
+    out: &mut [u8],
+    writer: &mut W,
+    summary: &mut S,
+) -> Result<Explained> {
+    let ended = lister::with_return(before.lister);
     if ended.count == 0 {
-        return before;
+        return Ok(before);
     }
-    let mut out = io::buffer();
-    let answer = lister::close(lister, &mut out);
-    let is_listed = write_put(answer, &out);
-    explain_kept(ended, before, is_listed)
+    let answer = lister::close(before.lister, out);
+    write_put(answer, out, writer)?;
+    explain_kept(ended, before, writer, summary)
 }
 
 // Writes for the summary how many lines there were, and how many were refused.
-fn write_totals(state: Explained) {
-    let lines = io::write_all(ACCEPTED, b"lines ") & io::print_decimal(ACCEPTED, state.lines);
-    let refused = io::write_all(ACCEPTED, b" refused ")
-        & io::print_decimal(ACCEPTED, state.refused);
-    let ended = io::write_all(ACCEPTED, b"\n");
-    if !((lines & refused) & ended) {
-        os::fail(b"the summary");
-    }
+fn write_totals<S: Write>(state: Explained, summary: &mut S) -> Result<()> {
+    let lines = state.lines;
+    let refused = state.refused;
+    writeln!(summary, "lines {lines} refused {refused}").context("the summary")?;
+    summary.flush().context("the summary")
 }
 
-// Reads a portion and explains it. The end of the input is a read of no bytes.
-fn explain_read(before: Explained, input: &mut [u8], out: &mut [u8]) -> Turned {
-    let got = libc::read(STDIN_FILENO, input);
-    if got <= 0 {
-        let is_well = got == 0;
-        if !is_well {
-            os::fail(b"standard input");
-        }
-        let lister = before.lister;
-        return Turned {
-            state: Explained {
-                lister,
-                lines: before.lines,
-                refused: before.refused,
-                is_well,
-            },
-            goes_on: false,
-        };
-    }
-    let n = io::count(got, input);
-    let state = explain_portion(before, &input[..n], out);
-    Turned {
+// Reads a portion and explains it, and writes all that is said of it. The end of the input is a read of no bytes.
+fn explain_read<R: Read, W: Write, S: Write>(
+    before: Explained,
+    reader: &mut R,
+    input: &mut [u8],
+    out: &mut [u8],
+    writer: &mut W,
+    summary: &mut S,
+) -> Result<Turned> {
+    let n = reader.read(input).context("standard input")?;
+    let state = explain_portion(before, &input[..n], out, writer, summary)?;
+    writer.flush().context("standard output")?;
+    Ok(Turned {
         state,
-        goes_on: state.is_well,
-    }
+        goes_on: 0 < n,
+    })
 }
 
-// Explains all that can be read. A loop has to end, and nothing says that an input does: the turns are counted down, from a
-// number that no run uses up. A byte is listed as eight bytes at most, so that a portion has room in the larger buffer.
-fn explain_input() -> Explained {
-    let mut turned = Turned {
-        state: Explained {
-            lister: lister::start(),
-            lines: 0,
-            refused: 0,
-            is_well: true,
-        },
-        goes_on: true,
-    };
-    let mut input = io::buffer();
-    let mut out = io::large_buffer();
-    let mut turns = u64::MAX;
-    while turns > 0 {
+// Explains all that can be read. A loop has to end, and nothing says that an input does: the turns are counted, up to a number
+// that no run reaches. A byte is listed as eight bytes at most, so that a portion has room in the larger buffer.
+fn explain_input<R: Read, W: Write, S: Write>(
+    start: Explained,
+    reader: &mut R,
+    input: &mut [u8],
+    out: &mut [u8],
+    writer: &mut W,
+    summary: &mut S,
+) -> Result<Explained> {
+    let mut state = start;
+    for _ in 0..u64::MAX {
+        let turned = explain_read(state, reader, input, out, writer, summary)?;
+        state = turned.state;
         if !turned.goes_on {
             break;
         }
-        let state = turned.state;
-        turned = explain_read(state, &mut input, &mut out);
-        turns -= 1;
     }
-    turned.state
+    Ok(state)
 }
 
-// Writes the listing's first line.
-fn write_title() -> bool {
-    let mut out = io::buffer();
-    let answer = lister::title(&mut out);
-    write_put(answer, &out)
+// Writes the listing's first line, before anything is read.
+fn write_title<W: Write>(out: &mut [u8], writer: &mut W) -> Result<()> {
+    let answer = lister::title(out);
+    write_put(answer, out, writer)?;
+    writer.flush().context("standard output")
 }
 
-fn main() {
-    if !write_title() {
-        return;
+// Explains an input from its first byte to its end. Its buffers are made once, so that an input of any length takes the same
+// memory.
+fn explain<R: Read, W: Write, S: Write>(
+    alloc: Global,
+    reader: &mut R,
+    writer: &mut W,
+    summary: &mut S,
+) -> Result<()> {
+    let mut input = vec![in alloc; 0u8; PORTION]?;
+    let mut out = vec![in alloc; 0u8; ROOM]?;
+    write_title(&mut out, writer)?;
+    let start = Explained {
+        lister: lister::start(),
+        lines: 0,
+        refused: 0,
+    };
+    let listed = explain_input(start, reader, &mut input, &mut out, writer, summary)?;
+    let state = explain_close(listed, &mut out, writer, summary)?;
+    writer.flush().context("standard output")?;
+    write_totals(state, summary)
+}
+
+// What is asked for with one argument more.
+fn with_argument(alloc: Global, asked: Asked, text: &str) -> Result<Asked> {
+    let mut next = asked;
+    match text.strip_prefix("--summary=") {
+        Some(name) => next.summary = Some(String::from_str(alloc, name)?),
+        None => next.is_known = false,
     }
-    let listed = explain_input();
-    if !listed.is_well {
-        return;
+    Ok(next)
+}
+
+// What the arguments after the program's name ask for.
+fn ask(rt: &HostRuntime) -> Result<Asked> {
+    let mut asked = Asked {
+        summary: None,
+        is_known: true,
+    };
+    for text in env::args(rt)?.skip(1) {
+        asked = with_argument(rt.alloc(), asked, &text)?;
     }
-    let state = explain_close(listed);
-    if state.is_well {
-        write_totals(state);
+    Ok(asked)
+}
+
+fn main(rt: HostRuntime) -> Result<ExitCode> {
+    let asked = ask(&rt)?;
+    if !asked.is_known {
+        eprintln!(rt; "usage: explaining [--summary=FILE]")?;
+        return Ok(ExitCode::from(2));
     }
+    let mut reader = rt.stdin();
+    let mut writer = BufWriter::new(rt.alloc(), rt.stdout())?;
+    match asked.summary {
+        Some(name) => {
+            let file = File::create(&rt, name.as_str()).context("the summary")?;
+            let mut summary = BufWriter::new(rt.alloc(), file)?;
+            explain(rt.alloc(), &mut reader, &mut writer, &mut summary)?;
+        }
+        None => explain(rt.alloc(), &mut reader, &mut writer, &mut sink())?,
+    }
+    Ok(ExitCode::SUCCESS)
 }

@@ -1,6 +1,6 @@
 //! Seeded lines through a listing program that explains them: it writes a remark
-//! below each refused line, and on descriptor 3 the accepted texts and the
-//! totals. Which sentence of the table a remark has is judged here once more, by
+//! below each refused line, and into the file that `--summary=` names the
+//! accepted texts and the totals. Which sentence of the table a remark has is judged here once more, by
 //! the place at which the second program says that a text goes wrong.
 
 use std::collections::BTreeSet;
@@ -35,9 +35,6 @@ const EXAMPLES: &[u8] = b"\xEF\xBB\xBFE0001234\nE0001234\n\xEF\xBB\xBFE0001234\r
     0774Y0002101249 \nI0001234 \nE0001234 x\nE00012 34\n e0001234\ne0001234\n\
     5h0001234\n0774a0001234\n0774y0001234\nE000123O\nEo001234\nO0001234\n\
     Y0001234\n12A0001234\nM0001234\nE000123-\n1270X4291000000\r\nE0001234\r";
-
-/// Opens a file on descriptor 3 for a program: a shell can do so safely.
-const OPEN_AND_RUN: &str = "file=$1; shift; exec \"$@\" 3>\"$file\"";
 
 pub fn compare(listing: &[String], count: u64, seed: u64) -> Result<String, String> {
     let source = fs::read_to_string(TABLE).map_err(|error| format!("{TABLE}: {error}"))?;
@@ -103,8 +100,8 @@ fn inputs(count: u64, seed: u64) -> impl Iterator<Item = Input> {
     ])
 }
 
-/// The program with its arguments, and the file on its descriptor 3, which goes
-/// when all is compared.
+/// The program with its arguments, and the file for its summary, which goes when
+/// all is compared.
 struct Program {
     command: Vec<String>,
     file: PathBuf,
@@ -113,20 +110,19 @@ struct Program {
 impl Program {
     fn new(listing: &[String]) -> Program {
         let file = env::temp_dir().join(format!("mortisevane-explained-{}", process::id()));
-        let path = file.display().to_string();
-        let shell = ["sh", "-c", OPEN_AND_RUN, "sh", &path].map(str::to_string);
+        let summary = format!("--summary={}", file.display());
         Program {
-            command: [&shell, listing].concat(),
+            command: [listing, &[summary]].concat(),
             file,
         }
     }
 
     fn agrees(&self, input: &Input, expected: &Expected) -> Result<(), String> {
         let listing = output_of(&self.command, &input.bytes, input.feeding)?;
-        let summary = fs::read(&self.file).map_err(|error| format!("descriptor 3: {error}"))?;
+        let summary = fs::read(&self.file).map_err(|error| format!("the summary: {error}"))?;
         let outputs = [
             ("the listing", listing, &expected.listing),
-            ("descriptor 3", summary, &expected.summary),
+            ("the summary", summary, &expected.summary),
         ];
         for (output, told, expected) in outputs {
             if let Some(difference) = first_difference(&input.bytes, &told, expected) {
