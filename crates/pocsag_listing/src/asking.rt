@@ -1,6 +1,9 @@
 // What the program is asked for: its arguments.
-use crate::Options;
+use crate::{Asked, Options};
+use anyhow::Result;
 use pocsag::TextKind;
+use std::alloc::Global;
+use std::env;
 
 // No kind is chosen: each page is read by its function.
 const BY_FUNCTION: u32 = 3;
@@ -13,54 +16,49 @@ fn with_kind(options: Options, kind: u32) -> Options {
 }
 
 // The options with one that says how the input is read, or what is told; others are not known.
-fn with_other(options: Options, text: &[u8]) -> Options {
+fn with_other(options: Options, text: &str) -> Options {
     let mut next = options;
-    if check::same(text, b"--raw") {
-        next.is_raw = true;
-        return next;
+    match text {
+        "--raw" => next.is_raw = true,
+        "--explain" => next.is_explained = true,
+        _ => next.is_known = false,
     }
-    if check::same(text, b"--explain") {
-        next.is_explained = true;
-        return next;
-    }
-    next.is_known = false;
     next
 }
 
 // The options with one more.
-fn with_option(options: Options, text: &[u8]) -> Options {
-    if check::same(text, b"--numeric") {
-        return with_kind(options, TextKind::NUMERIC);
+fn with_option(options: Options, text: &str) -> Options {
+    match text {
+        "--numeric" => with_kind(options, TextKind::NUMERIC),
+        "--chinese" => with_kind(options, TextKind::NUMERIC_CHINESE),
+        "--text" => with_kind(options, TextKind::SEVEN_BIT),
+        _ => with_other(options, text),
     }
-    if check::same(text, b"--chinese") {
-        return with_kind(options, TextKind::NUMERIC_CHINESE);
-    }
-    if check::same(text, b"--text") {
-        return with_kind(options, TextKind::SEVEN_BIT);
-    }
-    with_other(options, text)
 }
 
-// The options with that of an argument.
-fn with_argument(options: Options, i: usize) -> Options {
-    let mut text = [0u8; 16];
-    let length = os::arg(i, &mut text);
-    with_option(options, &text[..length])
+// What is asked for with one argument more.
+fn with_argument(alloc: Global, asked: Asked, text: &str) -> Result<Asked> {
+    let mut next = asked;
+    match text.strip_prefix("--summary=") {
+        Some(name) => next.summary = Some(String::from_str(alloc, name)?),
+        None => next.options = with_option(next.options, text),
+    }
+    Ok(next)
 }
 
-// The options that the arguments after the program's name ask for.
-pub(crate) fn options() -> Options {
-    let mut options = Options {
-        is_raw: false,
-        kind: BY_FUNCTION,
-        is_explained: false,
-        is_known: true,
+// What the arguments after the program's name ask for.
+pub(crate) fn options(rt: &HostRuntime) -> Result<Asked> {
+    let mut asked = Asked {
+        options: Options {
+            is_raw: false,
+            kind: BY_FUNCTION,
+            is_explained: false,
+            is_known: true,
+        },
+        summary: None,
     };
-    let count = os::arg_count();
-    let mut i = 1;
-    while i < count {
-        options = with_argument(options, i);
-        i += 1;
+    for text in env::args(rt)?.skip(1) {
+        asked = with_argument(rt.alloc(), asked, &text)?;
     }
-    options
+    Ok(asked)
 }

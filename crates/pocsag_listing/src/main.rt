@@ -2,9 +2,15 @@
 // carry to standard output. What is refused is told by its number and its place, and nothing is passed over. The options
 // are those of `./pocsag`, whose help says what the lines mean. The parts that decide what is told stand in `pocsag` and
 // `pocsag_lister`, with their contracts.
-use libc::STDERR_FILENO;
+#![tactic(auto)]
+
+use anyhow::{Context, Result};
 use pocsag::PocsagReader;
 use pocsag_lister::Token;
+use std::alloc::Global;
+use std::fs::File;
+use std::io::{BufWriter, Read, Write};
+use std::process::ExitCode;
 
 // What is written.
 mod writing;
@@ -21,16 +27,20 @@ mod reading;
 // What the program is asked for.
 mod asking;
 
-// How much is kept to be written, and whether all went well so far.
-#[derive(Drop)]
-pub struct Sink {
-    pub filled: usize,
-    pub is_well: bool,
-}
+// How many bytes are read at a time, and how many are kept to be written.
+const PORTION: usize = 65536;
 
-// What is asked for: how the input is read; the kind that all pages are read by, if one is chosen; whether what is refused
-// is said in words; and whether all arguments are known.
-#[derive(Drop)]
+// How many words are collected at a time.
+const ROW: usize = 1024;
+
+// A page has room for so many message words, which are so many characters or fewer.
+const PAGE_WORDS: usize = 4096;
+
+const PAGE_CHARACTERS: usize = 20480;
+
+// How the input is listed: how it is read; the kind that all pages are read by, if one is chosen; whether what is refused is
+// said in words; and whether all arguments are known.
+#[derive(Clone, Copy)]
 pub struct Options {
     pub is_raw: bool,
     pub kind: u32,
@@ -38,10 +48,17 @@ pub struct Options {
     pub is_known: bool,
 }
 
-// How far words are told: where their reading stands; how many words and pages there were, and how many of them were
-// refused; how many bytes are left at the end; the refused words that are not told yet, by their number, or 0 where there
-// are none, and the first and last of them; and what is kept to be written.
+// What is asked for: the options, and the file for the totals that an explained listing is summed up from, if one is named.
 #[derive(Drop)]
+pub struct Asked {
+    pub options: Options,
+    pub summary: Option<String>,
+}
+
+// How far words are told: where their reading stands; how many words and pages there were, and how many of them were
+// refused; how many bytes are left at the end; and the refused words that are not told yet, by their number, or 0 where
+// there are none, and the first and last of them.
+#[derive(Clone, Copy)]
 pub struct Course {
     pub reader: PocsagReader,
     pub words: u64,
@@ -52,36 +69,25 @@ pub struct Course {
     pub run_number: u32,
     pub run_first: u64,
     pub run_last: u64,
-    pub sink: Sink,
 }
 
 // How far an input is listed.
-#[derive(Drop)]
+#[derive(Clone, Copy)]
 pub struct Listed {
     pub token: Token,
     pub course: Course,
 }
 
 // How far it is listed, and whether to read on.
-#[derive(Drop)]
+#[derive(Clone, Copy)]
 pub struct Turn {
     pub listed: Listed,
     pub goes_on: bool,
 }
 
-// Where the totals of an explained listing go, of which `./pocsag --explain` makes the summary.
-const TOTALS: i32 = 3;
-
 // Where the telling stands before the first word: the title is to be written.
-fn start(out: &mut [u8]) -> Listed {
-    let sink = writing::put(
-        Sink {
-            filled: 0,
-            is_well: true,
-        },
-        b"ADDRESS FUNCTION KIND MENDED FILL TEXT\n",
-        out,
-    );
+fn start<W: Write>(writer: &mut W) -> Result<Listed> {
+    writing::put(writer, b"ADDRESS FUNCTION KIND MENDED FILL TEXT\n")?;
     let course = Course {
         reader: PocsagReader {
             left: 0,
@@ -100,57 +106,65 @@ fn start(out: &mut [u8]) -> Listed {
         run_number: 0,
         run_first: 0,
         run_last: 0,
-        sink,
     };
-    Listed {
+    Ok(Listed {
         token: pocsag_lister::start(),
         course,
-    }
+    })
 }
 
-// Writes a number after a text for the summary.
-fn write_total(text: &[u8], n: u64) -> bool {
-    io::write_all(TOTALS, text) & io::print_decimal(TOTALS, n)
+// The totals for the summary: how many words and pages there were, how many of them were refused, and how many bytes were
+// left.
+fn write_totals<S: Write>(course: Course, summary: &mut S) -> Result<()> {
+    let Course {
+        words,
+        refused_words,
+        pages,
+        refused_pages,
+        left,
+        ..
+    } = course;
+    writeln!(
+        summary,
+        "words {words} refused {refused_words} pages {pages} refused {refused_pages} left {left}"
+    )
+    .context("the summary")
 }
 
-// Writes for the summary how many words and pages there were, how many of them were refused, and how many bytes were left.
-fn write_totals(course: Course) {
-    let words = write_total(b"words ", course.words)
-        & write_total(b" refused ", course.refused_words);
-    let pages = write_total(b" pages ", course.pages)
-        & write_total(b" refused ", course.refused_pages);
-    let left = write_total(b" left ", course.left as u64) & io::write_all(TOTALS, b"\n");
-    if !((words & pages) & left) {
-        os::fail(b"the summary");
-    }
-}
-
-// Lists all that can be read. A page has room for 4,096 message words, which are 20,480 characters or fewer.
-fn list(options: Options) -> Course {
-    let mut input = io::large_buffer();
-    let mut out = io::large_buffer();
-    let mut row = [0u32; 1024];
-    let mut lent = [0u32; 4096];
-    let mut text = [0u8; 20480];
-    let begun = start(&mut out);
+// Lists all that can be read. The buffers are made once, so that an input of any length takes the same memory.
+fn list<R: Read, W: Write>(
+    alloc: Global,
+    options: Options,
+    reader: &mut R,
+    writer: &mut W,
+) -> Result<Course> {
+    let mut input = vec![in alloc; 0u8; PORTION]?;
+    let mut row = vec![in alloc; 0u32; ROW]?;
+    let mut lent = vec![in alloc; 0u32; PAGE_WORDS]?;
+    let mut text = vec![in alloc; 0u8; PAGE_CHARACTERS]?;
+    let begun = start(writer)?;
     let listed = reading::list_all(
-        begun, options, &mut input, &mut row, &mut lent, &mut text, &mut out,
-    );
-    reading::list_end(listed, options, &mut lent, &mut text, &mut out)
+        begun, options, reader, &mut input, &mut row, &mut lent, &mut text, writer,
+    )?;
+    reading::list_end(listed, options, &mut lent, &mut text, writer)
 }
 
-fn main() {
-    let options = asking::options();
-    if !options.is_known {
-        io::write_all(
-            STDERR_FILENO,
-            b"usage: pocsag_listing [--raw] [--numeric | --chinese | --text] [--explain]\n",
-        );
-        return;
+fn main(rt: HostRuntime) -> Result<ExitCode> {
+    let asked = asking::options(&rt)?;
+    if !asked.options.is_known {
+        eprintln!(rt;
+            "usage: pocsag_listing [--raw] [--numeric | --chinese | --text] [--explain] [--summary=FILE]"
+        )?;
+        return Ok(ExitCode::from(2));
     }
-    let course = list(options);
-    let sink = course.sink;
-    if sink.is_well & options.is_explained {
-        write_totals(course);
+    let mut writer = BufWriter::with_capacity(rt.alloc(), PORTION, rt.stdout())?;
+    let listed = list(rt.alloc(), asked.options, &mut rt.stdin(), &mut writer);
+    // Nothing more is written after an error: what is still kept is let go.
+    let _ = writer.into_parts();
+    let course = listed?;
+    if let Some(name) = asked.summary {
+        let mut summary = File::create(&rt, name.as_str()).context("the summary")?;
+        write_totals(course, &mut summary)?;
     }
+    Ok(ExitCode::SUCCESS)
 }

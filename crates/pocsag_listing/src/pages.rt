@@ -1,22 +1,23 @@
 // A page as it is listed: the kind that its text is read by, and its line.
+use crate::Options;
 use crate::writing::{put, put_after, put_first_shown, put_line_end, put_sentence};
-use crate::{Options, Sink};
+use anyhow::Result;
 use pocsag::{PocsagPage, PocsagText};
 use pocsag_lister::Kind;
 use refusal::Refusal;
+use std::io::Write;
 
 // Puts an address.
-fn put_address(sink: Sink, address: u32, out: &mut [u8]) -> Sink {
-    let digits = pocsag_lister::seven_digits(address);
-    put(sink, &digits, out)
+fn put_address<W: Write>(writer: &mut W, address: u32) -> Result<()> {
+    put(writer, &pocsag_lister::seven_digits(address))
 }
 
 // Puts what a page is listed as.
-fn put_kind(sink: Sink, kind: Kind, out: &mut [u8]) -> Sink {
+fn put_kind<W: Write>(writer: &mut W, kind: Kind) -> Result<()> {
     match kind {
-        Kind::Tone => put(sink, b" TONE", out),
-        Kind::Numeric => put(sink, b" NUMERIC", out),
-        Kind::Text => put(sink, b" TEXT", out),
+        Kind::Tone => put(writer, b" TONE"),
+        Kind::Numeric => put(writer, b" NUMERIC"),
+        Kind::Text => put(writer, b" TEXT"),
     }
 }
 
@@ -38,112 +39,115 @@ fn before_fill(read: PocsagText) -> usize {
 }
 
 // Puts a blank and so many characters of a text, where there are any.
-fn put_text(sink: Sink, text: &[u8], count: usize, out: &mut [u8]) -> Sink {
+fn put_text<W: Write>(writer: &mut W, text: &[u8], count: usize) -> Result<()> {
     if count == 0 {
-        return sink;
+        return Ok(());
     }
-    put_first_shown(put(sink, b" ", out), text, count, out)
+    put(writer, b" ")?;
+    put_first_shown(writer, text, count)
 }
 
 // Puts an address and a function.
-fn put_head(sink: Sink, page: PocsagPage, out: &mut [u8]) -> Sink {
-    let addressed = put_address(sink, page.address, out);
-    put_after(addressed, b" ", page.function as u64, out)
+fn put_head<W: Write>(writer: &mut W, page: PocsagPage) -> Result<()> {
+    put_address(writer, page.address)?;
+    put_after(writer, b" ", page.function as u64)
 }
 
 // Puts how many bits were mended, and how many characters at the end are fill.
-fn put_counts(sink: Sink, mended: u32, fill: usize, out: &mut [u8]) -> Sink {
-    let told = put_after(sink, b" ", mended as u64, out);
-    put_after(told, b" ", fill as u64, out)
+fn put_counts<W: Write>(writer: &mut W, mended: u32, fill: usize) -> Result<()> {
+    put_after(writer, b" ", mended as u64)?;
+    put_after(writer, b" ", fill as u64)
 }
 
 // Puts all that stands before the text of a page.
-fn put_fields(sink: Sink, page: PocsagPage, kind: u32, fill: usize, out: &mut [u8]) -> Sink {
-    let headed = put_head(sink, page, out);
-    let named = put_kind(headed, pocsag_lister::listed_as(kind, page.words), out);
-    put_counts(named, page.mended, fill, out)
+fn put_fields<W: Write>(writer: &mut W, page: PocsagPage, kind: u32, fill: usize) -> Result<()> {
+    put_head(writer, page)?;
+    put_kind(writer, pocsag_lister::listed_as(kind, page.words))?;
+    put_counts(writer, page.mended, fill)
 }
 
 // Puts the line of a page that was handed out.
-fn put_page(
-    sink: Sink,
+fn put_page<W: Write>(
+    writer: &mut W,
     page: PocsagPage,
     kind: u32,
     lent: &[u32],
     text: &mut [u8],
-    out: &mut [u8],
-) -> Sink {
+) -> Result<()> {
     let read = read_text(kind, page.words, lent, text);
-    let told = put_fields(sink, page, kind, read.fill_at_end, out);
-    put(put_text(told, text, before_fill(read), out), b"\n", out)
+    put_fields(writer, page, kind, read.fill_at_end)?;
+    put_text(writer, text, before_fill(read))?;
+    put(writer, b"\n")
 }
 
 // Puts the line of a page that is refused: its number, and the place of the message word at which it went wrong.
-fn put_refused(sink: Sink, page: PocsagPage, out: &mut [u8]) -> Sink {
-    let headed = put_head(sink, page, out);
-    let refused = put_after(headed, b" REFUSED ", page.number as u64, out);
-    put_line_end(refused, b" ", page.words as u64, out)
+fn put_refused<W: Write>(writer: &mut W, page: PocsagPage) -> Result<()> {
+    put_head(writer, page)?;
+    put_after(writer, b" REFUSED ", page.number as u64)?;
+    put_line_end(writer, b" ", page.words as u64)
 }
 
 // Puts what else a number stands for.
-fn put_remark(sink: Sink, number: u32, out: &mut [u8]) -> Sink {
+fn put_remark<W: Write>(writer: &mut W, number: u32) -> Result<()> {
     if number == Refusal::NoSync.number() {
-        return put(sink, b", or the words ended", out);
+        return put(writer, b", or the words ended");
     }
-    sink
+    Ok(())
 }
 
 // Puts what the refusal of a page means.
-fn put_meaning(sink: Sink, number: u32, out: &mut [u8]) -> Sink {
-    let said = put_sentence(put(sink, b": ", out), number, out);
-    put_remark(said, number, out)
+fn put_meaning<W: Write>(writer: &mut W, number: u32) -> Result<()> {
+    put(writer, b": ")?;
+    put_sentence(writer, number)?;
+    put_remark(writer, number)
 }
 
 // Puts which page went wrong, and at which of its words.
-fn put_place(sink: Sink, page: PocsagPage, out: &mut [u8]) -> Sink {
-    let addressed = put_address(put(sink, b"page ", out), page.address, out);
-    put_after(addressed, b", message word ", page.words as u64, out)
+fn put_place<W: Write>(writer: &mut W, page: PocsagPage) -> Result<()> {
+    put(writer, b"page ")?;
+    put_address(writer, page.address)?;
+    put_after(writer, b", message word ", page.words as u64)
 }
 
 // Puts what came of a page before it went wrong.
-fn put_begun(sink: Sink, text: &[u8], count: usize, out: &mut [u8]) -> Sink {
+fn put_begun<W: Write>(writer: &mut W, text: &[u8], count: usize) -> Result<()> {
     if count == 0 {
-        return put(sink, b"; no character came before that\n", out);
+        return put(writer, b"; no character came before that\n");
     }
-    let marked = put(sink, b"; not the whole text:", out);
-    put(put_text(marked, text, count, out), b"\n", out)
+    put(writer, b"; not the whole text:")?;
+    put_text(writer, text, count)?;
+    put(writer, b"\n")
 }
 
 // Puts what a refused page means, and the characters that came whole before it went wrong.
-fn put_explained(
-    sink: Sink,
+fn put_explained<W: Write>(
+    writer: &mut W,
     page: PocsagPage,
     kind: u32,
     lent: &[u32],
     text: &mut [u8],
-    out: &mut [u8],
-) -> Sink {
+) -> Result<()> {
     let read = read_text(kind, page.words, lent, text);
-    let meant = put_meaning(put_place(sink, page, out), page.number, out);
-    put_begun(meant, text, read.characters, out)
+    put_place(writer, page)?;
+    put_meaning(writer, page.number)?;
+    put_begun(writer, text, read.characters)
 }
 
 // Lists a page that ended.
-pub(crate) fn put_ended(
-    sink: Sink,
+pub(crate) fn put_ended<W: Write>(
+    writer: &mut W,
     page: PocsagPage,
     options: Options,
     lent: &[u32],
     text: &mut [u8],
-    out: &mut [u8],
-) -> Sink {
+) -> Result<()> {
     let kind = pocsag_lister::kind_of(options.kind, page.function);
     if page.number == 0 {
-        return put_page(sink, page, kind, lent, text, out);
+        return put_page(writer, page, kind, lent, text);
     }
-    let refused = put_refused(sink, page, out);
+    put_refused(writer, page)?;
     if !options.is_explained {
-        return refused;
+        return Ok(());
     }
-    put_explained(refused, page, kind, lent, text, out)
+    put_explained(writer, page, kind, lent, text)
 }

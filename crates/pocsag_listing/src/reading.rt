@@ -5,8 +5,9 @@ ghost use Rattle.std.specs.Prelude.{◌+◌, ◌≤◌, ◌<◌, length};
 use crate::telling::{hear_words, tell_bytes, tell_page, tell_words};
 use crate::writing::flush;
 use crate::{Course, Listed, Options, Turn};
-use libc::STDIN_FILENO;
+use anyhow::{Context, Result};
 use pocsag_lister::{Collected, Found, Token};
+use std::io::{Read, Write};
 
 // Collects words from a place of a portion on.
 fn collect_from(is_raw: bool, token: Token, input: &[u8], at: usize, row: &mut [u32]) -> Collected
@@ -18,77 +19,70 @@ fn collect_from(is_raw: bool, token: Token, input: &[u8], at: usize, row: &mut [
 }
 
 // Hears so many words of a row, or all where it has no more.
-fn hear_first(
+fn hear_first<W: Write>(
     course: Course,
     options: Options,
     row: &[u32],
     count: usize,
     lent: &mut [u32],
     text: &mut [u8],
-    out: &mut [u8],
-) -> Course {
-    if count < row.len() {
-        return hear_words(
-            course,
-            options,
-            pocsag_lister::nothing(),
-            &row[..count],
-            lent,
-            text,
-            out,
-        );
-    }
+    writer: &mut W,
+) -> Result<Course> {
+    let words = if count < row.len() {
+        &row[..count]
+    } else {
+        row
+    };
     hear_words(
         course,
         options,
         pocsag_lister::nothing(),
-        row,
+        words,
         lent,
         text,
-        out,
+        writer,
     )
 }
 
 // Hears the word that stands where a run of characters is none, if there was one.
-fn hear_wrong(
+fn hear_wrong<W: Write>(
     course: Course,
     options: Options,
     wrong: Found,
     lent: &mut [u32],
     text: &mut [u8],
-    out: &mut [u8],
-) -> Course {
+    writer: &mut W,
+) -> Result<Course> {
     if !wrong.is_word {
-        return course;
+        return Ok(course);
     }
-    hear_words(course, options, wrong, &[wrong.word], lent, text, out)
+    hear_words(course, options, wrong, &[wrong.word], lent, text, writer)
 }
 
 // Hears what was collected.
-fn hear_collected(
+fn hear_collected<W: Write>(
     course: Course,
     options: Options,
     collected: Collected,
     row: &[u32],
     lent: &mut [u32],
     text: &mut [u8],
-    out: &mut [u8],
-) -> Course {
-    let wrong = collected.wrong;
-    let heard = hear_first(course, options, row, collected.count, lent, text, out);
-    hear_wrong(heard, options, wrong, lent, text, out)
+    writer: &mut W,
+) -> Result<Course> {
+    let heard = hear_first(course, options, row, collected.count, lent, text, writer)?;
+    hear_wrong(heard, options, collected.wrong, lent, text, writer)
 }
 
 // Lists a portion.
-fn list_portion(
+fn list_portion<W: Write>(
     listed: Listed,
     options: Options,
     input: &[u8],
     row: &mut [u32],
     lent: &mut [u32],
     text: &mut [u8],
-    out: &mut [u8],
-) -> Listed
+    writer: &mut W,
+) -> Result<Listed>
     requires { 0 < length row.old }
 {
     let mut token = listed.token;
@@ -97,123 +91,89 @@ fn list_portion(
     while at < input.len() {
         let collected = collect_from(options.is_raw, token, input, at, row);
         token = collected.token;
-        course = hear_collected(course, options, collected, row, lent, text, out);
+        course = hear_collected(course, options, collected, row, lent, text, writer)?;
         at += collected.taken;
     }
-    Listed { token, course }
-}
-
-// The same listing, and whether all went well so far.
-fn with_well(listed: Listed, is_well: bool) -> Listed {
-    let mut course = listed.course;
-    let mut sink = course.sink;
-    sink.is_well = is_well & sink.is_well;
-    course.sink = sink;
-    let mut next = listed;
-    next.course = course;
-    next
-}
-
-// The same listing, after all that was kept is written.
-fn flushed(listed: Listed, out: &[u8]) -> Listed {
-    let mut course = listed.course;
-    let sink = flush(course.sink, out);
-    course.sink = sink;
-    let mut next = listed;
-    next.course = course;
-    next
-}
-
-// Whether all went well so far.
-fn is_well(listed: Listed) -> bool {
-    let course = listed.course;
-    let sink = course.sink;
-    sink.is_well
+    Ok(Listed { token, course })
 }
 
 // Lists a portion, and writes all that was kept.
-fn list_got(
+fn list_got<W: Write>(
     listed: Listed,
     options: Options,
     input: &[u8],
     row: &mut [u32],
     lent: &mut [u32],
     text: &mut [u8],
-    out: &mut [u8],
-) -> Turn
+    writer: &mut W,
+) -> Result<Listed>
     requires { 0 < length row.old }
 {
-    let next = list_portion(listed, options, input, row, lent, text, out);
-    let written = flushed(next, out);
-    Turn {
-        listed: written,
-        goes_on: is_well(written),
-    }
+    let next = list_portion(listed, options, input, row, lent, text, writer)?;
+    flush(writer)?;
+    Ok(next)
 }
 
 // Reads a portion and lists it. The end of the input is a read of no bytes.
-fn list_read(
+fn list_read<R: Read, W: Write>(
     listed: Listed,
     options: Options,
+    reader: &mut R,
     input: &mut [u8],
     row: &mut [u32],
     lent: &mut [u32],
     text: &mut [u8],
-    out: &mut [u8],
-) -> Turn
+    writer: &mut W,
+) -> Result<Turn>
     requires { 0 < length row.old }
 {
-    let got = libc::read(STDIN_FILENO, input);
-    if got <= 0 {
-        let is_end = got == 0;
-        if !is_end {
-            os::fail(b"standard input");
-        }
-        return Turn {
-            listed: with_well(listed, is_end),
+    let n = reader.read(input).context("standard input")?;
+    if n == 0 {
+        return Ok(Turn {
+            listed,
             goes_on: false,
-        };
+        });
     }
-    let n = io::count(got, input);
-    list_got(listed, options, &input[..n], row, lent, text, out)
+    let next = list_got(listed, options, &input[..n], row, lent, text, writer)?;
+    Ok(Turn {
+        listed: next,
+        goes_on: true,
+    })
 }
 
-// Lists all that can be read. A loop has to end, and nothing says that an input does: the turns are counted down, from a
-// number that no run uses up.
-pub(crate) fn list_all(
+// Lists all that can be read. A loop has to end, and nothing says that an input does: the turns are counted, up to a number
+// that no run reaches.
+pub(crate) fn list_all<R: Read, W: Write>(
     start: Listed,
     options: Options,
+    reader: &mut R,
     input: &mut [u8],
     row: &mut [u32],
     lent: &mut [u32],
     text: &mut [u8],
-    out: &mut [u8],
-) -> Listed
+    writer: &mut W,
+) -> Result<Listed>
     requires { 0 < length row.old }
 {
-    let mut turn = Turn {
-        listed: start,
-        goes_on: true,
-    };
-    let mut turns = u64::MAX;
-    while turns > 0 {
+    let mut listed = start;
+    for _ in 0..u64::MAX {
+        let turn = list_read(listed, options, reader, input, row, lent, text, writer)?;
+        listed = turn.listed;
         if !turn.goes_on {
-            return turn.listed;
+            break;
         }
-        turn = list_read(turn.listed, options, input, row, lent, text, out);
-        turns -= 1;
     }
-    turn.listed
+    Ok(listed)
 }
 
 // Tells what is left where the input ends: the word of a run that no blank ends, or the bytes that make no word.
-fn list_left(
+fn list_left<W: Write>(
     listed: Listed,
     options: Options,
     lent: &mut [u32],
     text: &mut [u8],
-    out: &mut [u8],
-) -> Course {
+    writer: &mut W,
+) -> Result<Course> {
     let token = listed.token;
     let found = pocsag_lister::left(options.is_raw, token);
     if found.is_word {
@@ -224,55 +184,54 @@ fn list_left(
             &[found.word],
             lent,
             text,
-            out,
+            writer,
         );
     }
     if found.number != 0 {
-        return tell_bytes(listed.course, options, token, found.number, out);
+        return tell_bytes(listed.course, options, token, found.number, writer);
     }
-    listed.course
+    Ok(listed.course)
 }
 
 // Tells the page that is still open where the input ends, if there is one.
-fn list_open(
+fn list_open<W: Write>(
     course: Course,
     options: Options,
     lent: &[u32],
     text: &mut [u8],
-    out: &mut [u8],
-) -> Course {
+    writer: &mut W,
+) -> Result<Course> {
     let page = pocsag::close(course.reader);
-    tell_page(course, options, page, lent, text, out)
+    tell_page(course, options, page, lent, text, writer)
 }
 
 // Tells the refused words that are not told yet, and writes all that was kept.
-fn list_kept(course: Course, options: Options, out: &mut [u8]) -> Course {
-    let mut told = tell_words(course, options, out);
-    let sink = flush(told.sink, out);
-    told.sink = sink;
-    told
+fn list_kept<W: Write>(course: Course, options: Options, writer: &mut W) -> Result<Course> {
+    let told = tell_words(course, options, writer)?;
+    flush(writer)?;
+    Ok(told)
 }
 
 // Tells all that there is to tell after the last word.
-fn list_closed(
+fn list_closed<W: Write>(
     course: Course,
     options: Options,
     lent: &[u32],
     text: &mut [u8],
-    out: &mut [u8],
-) -> Course {
-    let closed = list_open(course, options, lent, text, out);
-    list_kept(closed, options, out)
+    writer: &mut W,
+) -> Result<Course> {
+    let closed = list_open(course, options, lent, text, writer)?;
+    list_kept(closed, options, writer)
 }
 
 // Lists what there is at the end of the input.
-pub(crate) fn list_end(
+pub(crate) fn list_end<W: Write>(
     listed: Listed,
     options: Options,
     lent: &mut [u32],
     text: &mut [u8],
-    out: &mut [u8],
-) -> Course {
-    let last = list_left(listed, options, lent, text, out);
-    list_closed(last, options, lent, text, out)
+    writer: &mut W,
+) -> Result<Course> {
+    let last = list_left(listed, options, lent, text, writer)?;
+    list_closed(last, options, lent, text, writer)
 }

@@ -4,164 +4,170 @@ ghost use Rattle.std.specs.Prelude.{◌+◌, ◌≤◌, ◌<◌, length};
 
 use crate::pages::put_ended;
 use crate::writing::{put, put_after, put_line_end, put_sentence};
-use crate::{Course, Options, Sink};
+use crate::{Course, Options};
+use anyhow::Result;
 use pocsag::{PocsagHeard, PocsagPage, PocsagReader};
 use pocsag_lister::{Found, Token, one_more};
+use std::io::Write;
 
 // Puts a number, or the first and the last of several.
-fn put_span(
-    sink: Sink,
+fn put_span<W: Write>(
+    writer: &mut W,
     one: &[u8],
     several: &[u8],
     to: &[u8],
     first: u64,
     last: u64,
-    out: &mut [u8],
-) -> Sink {
+) -> Result<()> {
     if first == last {
-        return put_after(sink, one, first, out);
+        return put_after(writer, one, first);
     }
-    let begun = put_after(sink, several, first, out);
-    put_after(begun, to, last, out)
+    put_after(writer, several, first)?;
+    put_after(writer, to, last)
 }
 
 // Puts what a refusal means after what it is of, and how it is mended.
-fn put_meaning(sink: Sink, number: u32, hint: &[u8], out: &mut [u8]) -> Sink {
-    let said = put_sentence(put(sink, b": ", out), number, out);
-    put(said, hint, out)
+fn put_meaning<W: Write>(writer: &mut W, number: u32, hint: &[u8]) -> Result<()> {
+    put(writer, b": ")?;
+    put_sentence(writer, number)?;
+    put(writer, hint)
 }
 
 // Puts the line of refused words.
-fn put_words(sink: Sink, first: u64, last: u64, number: u32, out: &mut [u8]) -> Sink {
-    let named = put_span(sink, b"WORD ", b"WORDS ", b" TO ", first, last, out);
-    put_line_end(named, b" REFUSED ", number as u64, out)
+fn put_words<W: Write>(writer: &mut W, first: u64, last: u64, number: u32) -> Result<()> {
+    put_span(writer, b"WORD ", b"WORDS ", b" TO ", first, last)?;
+    put_line_end(writer, b" REFUSED ", number as u64)
 }
 
 // Puts what their refusal means, if that is asked for.
-fn put_words_meaning(
-    sink: Sink,
+fn put_words_meaning<W: Write>(
+    writer: &mut W,
     options: Options,
     first: u64,
     last: u64,
     number: u32,
-    out: &mut [u8],
-) -> Sink {
+) -> Result<()> {
     if !options.is_explained {
-        return sink;
+        return Ok(());
     }
-    let named = put_span(sink, b"word ", b"words ", b" to ", first, last, out);
-    put_meaning(named, number, b"\n", out)
+    put_span(writer, b"word ", b"words ", b" to ", first, last)?;
+    put_meaning(writer, number, b"\n")
 }
 
 // Tells the refused words that are not told yet, if there are any.
-pub(crate) fn tell_words(course: Course, options: Options, out: &mut [u8]) -> Course {
+pub(crate) fn tell_words<W: Write>(
+    course: Course,
+    options: Options,
+    writer: &mut W,
+) -> Result<Course> {
     let number = course.run_number;
     if number == 0 {
-        return course;
+        return Ok(course);
     }
-    let told = put_words(course.sink, course.run_first, course.run_last, number, out);
-    let sink = put_words_meaning(
-        told,
-        options,
-        course.run_first,
-        course.run_last,
-        number,
-        out,
-    );
+    put_words(writer, course.run_first, course.run_last, number)?;
+    put_words_meaning(writer, options, course.run_first, course.run_last, number)?;
     let mut next = course;
     next.run_number = 0;
-    next.sink = sink;
-    next
+    Ok(next)
 }
 
 // Puts the line of a run of characters that is no word.
-fn put_line(sink: Sink, mark: Found, out: &mut [u8]) -> Sink {
-    let named = put_after(sink, b"LINE ", mark.line, out);
-    let refused = put_after(named, b" REFUSED ", mark.number as u64, out);
-    put_line_end(refused, b" ", mark.place, out)
+fn put_line<W: Write>(writer: &mut W, mark: Found) -> Result<()> {
+    put_after(writer, b"LINE ", mark.line)?;
+    put_after(writer, b" REFUSED ", mark.number as u64)?;
+    put_line_end(writer, b" ", mark.place)
 }
 
 // Puts what its refusal means, if that is asked for.
-fn put_line_meaning(sink: Sink, options: Options, mark: Found, word: u64, out: &mut [u8]) -> Sink {
+fn put_line_meaning<W: Write>(
+    writer: &mut W,
+    options: Options,
+    mark: Found,
+    word: u64,
+) -> Result<()> {
     if !options.is_explained {
-        return sink;
+        return Ok(());
     }
-    let named = put_after(sink, b"line ", mark.line, out);
-    let placed = put_after(named, b", place ", mark.place, out);
-    let meant = put_meaning(
-        placed,
-        mark.number,
-        b": a word is eight hexadecimal digits",
-        out,
-    );
-    put_line_end(meant, b"; it stands as word ", word, out)
+    put_after(writer, b"line ", mark.line)?;
+    put_after(writer, b", place ", mark.place)?;
+    put_meaning(writer, mark.number, b": a word is eight hexadecimal digits")?;
+    put_line_end(writer, b"; it stands as word ", word)
 }
 
 // Tells a run of characters that is no word.
-fn tell_line(course: Course, options: Options, mark: Found, word: u64, out: &mut [u8]) -> Course {
-    let before = tell_words(course, options, out);
-    let told = put_line(before.sink, mark, out);
-    let sink = put_line_meaning(told, options, mark, word, out);
-    let mut next = before;
-    next.sink = sink;
-    next
+fn tell_line<W: Write>(
+    course: Course,
+    options: Options,
+    mark: Found,
+    word: u64,
+    writer: &mut W,
+) -> Result<Course> {
+    let before = tell_words(course, options, writer)?;
+    put_line(writer, mark)?;
+    put_line_meaning(writer, options, mark, word)?;
+    Ok(before)
 }
 
 // Counts a word as the last of those that are to be told, or as the first.
-fn tell_later(course: Course, options: Options, number: u32, word: u64, out: &mut [u8]) -> Course {
+fn tell_later<W: Write>(
+    course: Course,
+    options: Options,
+    number: u32,
+    word: u64,
+    writer: &mut W,
+) -> Result<Course> {
     if (course.run_number == number) & (one_more(course.run_last) == word) {
         let mut longer = course;
         longer.run_last = word;
-        return longer;
+        return Ok(longer);
     }
-    let mut next = tell_words(course, options, out);
+    let mut next = tell_words(course, options, writer)?;
     next.run_number = number;
     next.run_first = word;
     next.run_last = word;
-    next
+    Ok(next)
 }
 
 // Tells a word that is refused.
-fn tell_word(
+fn tell_word<W: Write>(
     course: Course,
     options: Options,
     mark: Found,
     number: u32,
     word: u64,
-    out: &mut [u8],
-) -> Course {
+    writer: &mut W,
+) -> Result<Course> {
     if number == 0 {
-        return course;
+        return Ok(course);
     }
     let mut counted = course;
     counted.refused_words = one_more(course.refused_words);
     if mark.number == 0 {
-        return tell_later(counted, options, number, word, out);
+        return tell_later(counted, options, number, word, writer);
     }
-    tell_line(counted, options, mark, word, out)
+    tell_line(counted, options, mark, word, writer)
 }
 
 // Tells a page, if one ended.
-pub(crate) fn tell_page(
+pub(crate) fn tell_page<W: Write>(
     course: Course,
     options: Options,
     page: PocsagPage,
     lent: &[u32],
     text: &mut [u8],
-    out: &mut [u8],
-) -> Course {
+    writer: &mut W,
+) -> Result<Course> {
     if page.is_ended == 0 {
-        return course;
+        return Ok(course);
     }
-    let before = tell_words(course, options, out);
-    let sink = put_ended(before.sink, page, options, lent, text, out);
+    let before = tell_words(course, options, writer)?;
+    put_ended(writer, page, options, lent, text)?;
     let mut next = before;
-    next.sink = sink;
     next.pages = one_more(before.pages);
     if page.number != 0 {
         next.refused_pages = one_more(before.refused_pages);
     }
-    next
+    Ok(next)
 }
 
 // So many more, as far as 64 bits can count.
@@ -179,23 +185,21 @@ fn one_less(n: u64) -> u64 {
 }
 
 // Tells what was heard up to a word.
-fn tell_heard(
+fn tell_heard<W: Write>(
     course: Course,
     options: Options,
     mark: Found,
     heard: PocsagHeard,
     lent: &[u32],
     text: &mut [u8],
-    out: &mut [u8],
-) -> Course {
-    let reader = heard.reader;
-    let page = heard.page;
+    writer: &mut W,
+) -> Result<Course> {
     let words = so_many_more(course.words, heard.taken);
     let mut taken = course;
-    taken.reader = reader;
+    taken.reader = heard.reader;
     taken.words = words;
-    let paged = tell_page(taken, options, page, lent, text, out);
-    tell_word(paged, options, mark, heard.number, one_less(words), out)
+    let paged = tell_page(taken, options, heard.page, lent, text, writer)?;
+    tell_word(paged, options, mark, heard.number, one_less(words), writer)
 }
 
 // Hears the words from a place on, up to the first that has something to tell.
@@ -208,62 +212,59 @@ fn hear_from(reader: PocsagReader, words: &[u32], at: usize, lent: &mut [u32]) -
 
 // Hears words, and tells what there is to tell. Where they are the one that stands for a run of characters that is no word,
 // the run is told and not the word.
-pub(crate) fn hear_words(
+pub(crate) fn hear_words<W: Write>(
     course: Course,
     options: Options,
     mark: Found,
     words: &[u32],
     lent: &mut [u32],
     text: &mut [u8],
-    out: &mut [u8],
-) -> Course {
+    writer: &mut W,
+) -> Result<Course> {
     let mut state = course;
     let mut at = 0;
     while at < words.len() {
         let heard = hear_from(state.reader, words, at, lent);
-        state = tell_heard(state, options, mark, heard, lent, text, out);
+        state = tell_heard(state, options, mark, heard, lent, text, writer)?;
         at += heard.taken;
     }
-    state
+    Ok(state)
 }
 
 // Tells the bytes that are left where an input ends and make no word.
-pub(crate) fn tell_bytes(
+pub(crate) fn tell_bytes<W: Write>(
     course: Course,
     options: Options,
     token: Token,
     number: u32,
-    out: &mut [u8],
-) -> Course {
-    let before = tell_words(course, options, out);
+    writer: &mut W,
+) -> Result<Course> {
+    let mut next = tell_words(course, options, writer)?;
     let first = token.at;
     let last = one_less(token.place);
-    let told = put_bytes(before.sink, first, last, number, out);
-    let sink = put_bytes_meaning(told, options, first, last, number, out);
-    let mut next = before;
-    next.sink = sink;
+    put_bytes(writer, first, last, number)?;
+    put_bytes_meaning(writer, options, first, last, number)?;
     next.left = token.count;
-    next
+    Ok(next)
 }
 
 // Puts the line of bytes that make no word.
-fn put_bytes(sink: Sink, first: u64, last: u64, number: u32, out: &mut [u8]) -> Sink {
-    let named = put_span(sink, b"BYTE ", b"BYTES ", b" TO ", first, last, out);
-    put_line_end(named, b" REFUSED ", number as u64, out)
+fn put_bytes<W: Write>(writer: &mut W, first: u64, last: u64, number: u32) -> Result<()> {
+    put_span(writer, b"BYTE ", b"BYTES ", b" TO ", first, last)?;
+    put_line_end(writer, b" REFUSED ", number as u64)
 }
 
 // Puts what their refusal means, if that is asked for.
-fn put_bytes_meaning(
-    sink: Sink,
+fn put_bytes_meaning<W: Write>(
+    writer: &mut W,
     options: Options,
     first: u64,
     last: u64,
     number: u32,
-    out: &mut [u8],
-) -> Sink {
+) -> Result<()> {
     if !options.is_explained {
-        return sink;
+        return Ok(());
     }
-    let named = put_span(sink, b"byte ", b"bytes ", b" to ", first, last, out);
-    put_meaning(named, number, b": a word is four bytes\n", out)
+    put_span(writer, b"byte ", b"bytes ", b" to ", first, last)?;
+    put_meaning(writer, number, b": a word is four bytes\n")
 }
