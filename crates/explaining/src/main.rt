@@ -4,7 +4,12 @@
 // there were and how many were refused: `./list --explain` makes the summary of that.
 #![tactic(auto)]
 
-ghost use Rattle.std.specs.Prelude.{◌≤◌, ◌<◌, length};
+ghost use Rattle.std.specs.Prelude.{◌≡◌, ◌≤◌, ◌<◌, length, take, eqb, IfOk, OnOk};
+ghost use Rattle.std.specs.Fmt.{decimal};
+ghost use Rattle.std.specs.Io.KnownBytes.{Appends};
+ghost use Rattle.capcode.specs.Advice.{advice_of};
+ghost use Rattle.capcode.specs.Reads.{read_of};
+ghost use Rattle.explaining.specs.Remarks.{caret, letter_shown, sentence_of, is_refused, remark, entry, kept};
 
 use anyhow::{Context, Result, bail};
 use capcode::ReadAnswer;
@@ -44,7 +49,9 @@ struct Asked {
 }
 
 // Writes a part of the listing, or says why not.
-fn write<W: Write>(text: &[u8], writer: &mut W) -> Result<()> {
+fn write<W: Write>(text: &[u8], writer: &mut W) -> Result<()>
+    ensures { OnOk result (Appends (W.contents writer.old) (W.contents writer.new) text.now) }
+{
     writer.write_all(text).context("standard output")
 }
 
@@ -54,21 +61,48 @@ fn one_more(n: u64) -> u64 {
 }
 
 // Writes so many bytes of a row, or all where it has no more.
-fn write_first<W: Write>(row: &[u8], count: usize, writer: &mut W) -> Result<()> {
+fn write_first<W: Write>(row: &[u8], count: usize, writer: &mut W) -> Result<()>
+    ensures { OnOk result (Appends (W.contents writer.old) (W.contents writer.new) (take count row.now)) }
+{
     if count < row.len() {
         return write(&row[..count], writer);
     }
     write(row, writer)
 }
 
+// Writes a number in decimal digits.
+fn write_number<W: Write>(n: u64, writer: &mut W) -> Result<()>
+    ensures { OnOk result (Appends (W.contents writer.old) (W.contents writer.new) (decimal n)) }
+{
+    write!(writer, "{n}").context("standard output")
+}
+
+// Writes a text for the summary, or says why not.
+fn keep<S: Write>(text: &[u8], summary: &mut S) -> Result<()>
+    ensures { OnOk result (Appends (S.contents summary.old) (S.contents summary.new) text.now) }
+{
+    summary.write_all(text).context("the summary")
+}
+
+// Writes a number for the summary.
+fn keep_number<S: Write>(n: u64, summary: &mut S) -> Result<()>
+    ensures { OnOk result (Appends (S.contents summary.old) (S.contents summary.new) (decimal n)) }
+{
+    write!(summary, "{n}").context("the summary")
+}
+
 // Writes the caret under a place of the line above.
-fn write_caret<W: Write>(place: u8, writer: &mut W) -> Result<()> {
+fn write_caret<W: Write>(place: u8, writer: &mut W) -> Result<()>
+    ensures { OnOk result (Appends (W.contents writer.old) (W.contents writer.new) (caret place)) }
+{
     write_first(b"               ", place as usize, writer)?;
     write(b"^ ", writer)
 }
 
 // Writes the letter that is to be written, if there is one.
-fn write_letter<W: Write>(letter: u8, writer: &mut W) -> Result<()> {
+fn write_letter<W: Write>(letter: u8, writer: &mut W) -> Result<()>
+    ensures { OnOk result (Appends (W.contents writer.old) (W.contents writer.new) (letter_shown letter)) }
+{
     if letter == 0 {
         return Ok(());
     }
@@ -76,19 +110,27 @@ fn write_letter<W: Write>(letter: u8, writer: &mut W) -> Result<()> {
 }
 
 // Writes the line number, and the sentence that says what is wrong with a text.
-fn write_remark<W: Write>(text: &[u8], line: u64, writer: &mut W) -> Result<()> {
+fn write_remark<W: Write>(text: &[u8], line: u64, writer: &mut W) -> Result<()>
+    ensures { OnOk result (Appends (W.contents writer.old) (W.contents writer.new) (sentence_of line (advice_of (eqb line 1) text.now))) }
+{
     let advice = capcode::advise(text, line == 1);
     let sentence = refusal::in_words(advice.row);
-    write!(writer, "line {line}: ").context("standard output")?;
+    write(b"line ", writer)?;
+    write_number(line, writer)?;
+    write(b": ", writer)?;
     write_first(&sentence.bytes, sentence.length, writer)?;
     write_letter(advice.letter, writer)?;
     write(b"\n", writer)
 }
 
 // Writes an accepted CAPCODE and its line number for the summary.
-fn write_accepted<S: Write>(text: &[u8], line: u64, summary: &mut S) -> Result<()> {
-    summary.write_all(text).context("the summary")?;
-    writeln!(summary, " {line}").context("the summary")
+fn write_accepted<S: Write>(text: &[u8], line: u64, summary: &mut S) -> Result<()>
+    ensures { OnOk result (Appends (S.contents summary.old) (S.contents summary.new) (entry text.now line)) }
+{
+    keep(text, summary)?;
+    keep(b" ", summary)?;
+    keep_number(line, summary)?;
+    keep(b"\n", summary)
 }
 
 // Says what is wrong with the text of a line, if anything is, and whether anything is.
@@ -97,7 +139,11 @@ fn explain_line<W: Write, S: Write>(
     line: u64,
     writer: &mut W,
     summary: &mut S,
-) -> Result<bool> {
+) -> Result<bool>
+    ensures refused { IfOk result (λ r. r ≡ is_refused (read_of text.now)) }
+    ensures said { OnOk result (Appends (W.contents writer.old) (W.contents writer.new) (remark text.now line)) }
+    ensures kept { OnOk result (Appends (S.contents summary.old) (S.contents summary.new) (kept text.now line)) }
+{
     match capcode::read(text) {
         ReadAnswer::Whole(_, _) => {
             write_accepted(text, line, summary)?;
@@ -122,7 +168,11 @@ fn explain_first<W: Write, S: Write>(
     number: u64,
     writer: &mut W,
     summary: &mut S,
-) -> Result<bool> {
+) -> Result<bool>
+    ensures refused { IfOk result (λ r. r ≡ is_refused (read_of (take count line.now))) }
+    ensures said { OnOk result (Appends (W.contents writer.old) (W.contents writer.new) (remark (take count line.now) number)) }
+    ensures kept { OnOk result (Appends (S.contents summary.old) (S.contents summary.new) (kept (take count line.now) number)) }
+{
     if count < line.len() {
         return explain_line(&line[..count], number, writer, summary);
     }
@@ -251,9 +301,11 @@ fn explain_close<W: Write, S: Write>(
 
 // Writes for the summary how many lines there were, and how many were refused.
 fn write_totals<S: Write>(state: Explained, summary: &mut S) -> Result<()> {
-    let lines = state.lines;
-    let refused = state.refused;
-    writeln!(summary, "lines {lines} refused {refused}").context("the summary")?;
+    keep(b"lines ", summary)?;
+    keep_number(state.lines, summary)?;
+    keep(b" refused ", summary)?;
+    keep_number(state.refused, summary)?;
+    keep(b"\n", summary)?;
     summary.flush().context("the summary")
 }
 
