@@ -1,6 +1,8 @@
 // What is told of words: the pages that end, and the words that are refused. Words that are refused with the same number,
 // one after the other, are told in one line, which is put before anything else that is told after them.
-ghost use Rattle.std.specs.Prelude.{◌+◌, ◌≤◌, ◌<◌, length};
+ghost use Rattle.std.specs.Prelude.{◌+◌, ◌≤◌, ◌<◌, length, OnOk};
+ghost use Rattle.std.specs.Io.KnownBytes.{Appends};
+ghost use Rattle.pocsag_listing.specs.Said.{span, meaning, words_line, words_meaning, characters_line, characters_meaning, bytes_line, bytes_meaning};
 
 use crate::pages::put_ended;
 use crate::writing::{put, put_after, put_line_end, put_sentence};
@@ -18,7 +20,9 @@ fn put_span<W: Write>(
     to: &[u8],
     first: u64,
     last: u64,
-) -> Result<()> {
+) -> Result<()>
+    ensures { OnOk result (Appends (W.contents writer.old) (W.contents writer.new) (span one.now several.now to.now first last)) }
+{
     if first == last {
         return put_after(writer, one, first);
     }
@@ -27,14 +31,18 @@ fn put_span<W: Write>(
 }
 
 // Puts what a refusal means after what it is of, and how it is mended.
-fn put_meaning<W: Write>(writer: &mut W, number: u32, hint: &[u8]) -> Result<()> {
+fn put_meaning<W: Write>(writer: &mut W, number: u32, hint: &[u8]) -> Result<()>
+    ensures { OnOk result (Appends (W.contents writer.old) (W.contents writer.new) (meaning number hint.now)) }
+{
     put(writer, b": ")?;
     put_sentence(writer, number)?;
     put(writer, hint)
 }
 
 // Puts the line of refused words.
-fn put_words<W: Write>(writer: &mut W, first: u64, last: u64, number: u32) -> Result<()> {
+fn put_words<W: Write>(writer: &mut W, first: u64, last: u64, number: u32) -> Result<()>
+    ensures { OnOk result (Appends (W.contents writer.old) (W.contents writer.new) (words_line first last number)) }
+{
     put_span(writer, b"WORD ", b"WORDS ", b" TO ", first, last)?;
     put_line_end(writer, b" REFUSED ", number as u64)
 }
@@ -46,7 +54,9 @@ fn put_words_meaning<W: Write>(
     first: u64,
     last: u64,
     number: u32,
-) -> Result<()> {
+) -> Result<()>
+    ensures { OnOk result (Appends (W.contents writer.old) (W.contents writer.new) (words_meaning options.is_explained first last number)) }
+{
     if !options.is_explained {
         return Ok(());
     }
@@ -72,7 +82,9 @@ pub(crate) fn tell_words<W: Write>(
 }
 
 // Puts the line of a run of characters that is no word.
-fn put_line<W: Write>(writer: &mut W, mark: Found) -> Result<()> {
+fn put_line<W: Write>(writer: &mut W, mark: Found) -> Result<()>
+    ensures { OnOk result (Appends (W.contents writer.old) (W.contents writer.new) (characters_line mark)) }
+{
     put_after(writer, b"LINE ", mark.line)?;
     put_after(writer, b" REFUSED ", mark.number as u64)?;
     put_line_end(writer, b" ", mark.place)
@@ -84,7 +96,9 @@ fn put_line_meaning<W: Write>(
     options: Options,
     mark: Found,
     word: u64,
-) -> Result<()> {
+) -> Result<()>
+    ensures { OnOk result (Appends (W.contents writer.old) (W.contents writer.new) (characters_meaning options.is_explained mark word)) }
+{
     if !options.is_explained {
         return Ok(());
     }
@@ -249,7 +263,9 @@ pub(crate) fn tell_bytes<W: Write>(
 }
 
 // Puts the line of bytes that make no word.
-fn put_bytes<W: Write>(writer: &mut W, first: u64, last: u64, number: u32) -> Result<()> {
+fn put_bytes<W: Write>(writer: &mut W, first: u64, last: u64, number: u32) -> Result<()>
+    ensures { OnOk result (Appends (W.contents writer.old) (W.contents writer.new) (bytes_line first last number)) }
+{
     put_span(writer, b"BYTE ", b"BYTES ", b" TO ", first, last)?;
     put_line_end(writer, b" REFUSED ", number as u64)
 }
@@ -261,7 +277,9 @@ fn put_bytes_meaning<W: Write>(
     first: u64,
     last: u64,
     number: u32,
-) -> Result<()> {
+) -> Result<()>
+    ensures { OnOk result (Appends (W.contents writer.old) (W.contents writer.new) (bytes_meaning options.is_explained first last number)) }
+{
     if !options.is_explained {
         return Ok(());
     }

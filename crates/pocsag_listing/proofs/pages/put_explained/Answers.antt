@@ -1,0 +1,9 @@
+-- `put_explained` meets its contract.
+use Rattle.std.proofs.KnownBytes.{Appends-trans}
+use Rattle.pocsag_listing.proofs.Written.{written_then}
+use Rattle.pocsag_listing.proofs.pages.put_explained.Goals as goal
+
+pub returns : goal.returns
+returns g c =
+    let whole = written_then c.put_begun.result _ _ _ _ _ (Appends-trans _ _ _ _ _ c.in_ok-put_place.ensures c.in_ok-put_meaning.ensures) c.put_begun.ensures in
+    rw c.read_text-read.ensures.told at (rw c.read_text-read.ensures.buffer at whole)
