@@ -18,7 +18,6 @@ use std::alloc::Global;
 use std::env;
 use std::fs::File;
 use std::io::{BufWriter, Read, Write, sink};
-use std::process::ExitCode;
 
 // How many bytes are read at a time.
 const PORTION: usize = 4096;
@@ -39,13 +38,6 @@ struct Explained {
 struct Turned {
     state: Explained,
     goes_on: bool,
-}
-
-// What the program is asked for: the file that the summary is made of, if one is named, and whether all arguments are known.
-#[derive(Drop)]
-struct Asked {
-    summary: Option<String>,
-    is_known: bool,
 }
 
 // Writes a part of the listing, or says why not.
@@ -377,37 +369,28 @@ fn explain<R: Read, W: Write, S: Write>(
     write_totals(state, summary)
 }
 
-// What is asked for with one argument more.
-fn with_argument(alloc: Global, asked: Asked, text: &str) -> Result<Asked> {
-    let mut next = asked;
+// The file for the summary, if one argument more names it. Other arguments are passed over.
+fn with_argument(alloc: Global, summary: Option<String>, text: &str) -> Result<Option<String>> {
     match text.strip_prefix("--summary=") {
-        Some(name) => next.summary = Some(String::from_str(alloc, name)?),
-        None => next.is_known = false,
+        Some(name) => Ok(Some(String::from_str(alloc, name)?)),
+        None => Ok(summary),
     }
-    Ok(next)
 }
 
-// What the arguments after the program's name ask for.
-fn ask(rt: &HostRuntime) -> Result<Asked> {
-    let mut asked = Asked {
-        summary: None,
-        is_known: true,
-    };
+// The file for the summary, if the arguments after the program's name name one.
+fn ask(rt: &HostRuntime) -> Result<Option<String>> {
+    let mut summary = None;
     for text in env::args(rt)?.skip(1) {
-        asked = with_argument(rt.alloc(), asked, &text)?;
+        summary = with_argument(rt.alloc(), summary, &text)?;
     }
-    Ok(asked)
+    Ok(summary)
 }
 
-fn main(rt: HostRuntime) -> Result<ExitCode> {
+fn main(rt: HostRuntime) -> Result<()> {
     let asked = ask(&rt)?;
-    if !asked.is_known {
-        eprintln!(rt; "usage: explaining [--summary=FILE]")?;
-        return Ok(ExitCode::from(2));
-    }
     let mut reader = rt.stdin();
     let mut writer = BufWriter::new(rt.alloc(), rt.stdout())?;
-    match asked.summary {
+    match asked {
         Some(name) => {
             let file = File::create(&rt, name.as_str()).context("the summary")?;
             let mut summary = BufWriter::new(rt.alloc(), file)?;
@@ -415,5 +398,5 @@ fn main(rt: HostRuntime) -> Result<ExitCode> {
         }
         None => explain(rt.alloc(), &mut reader, &mut writer, &mut sink())?,
     }
-    Ok(ExitCode::SUCCESS)
+    Ok(())
 }

@@ -10,7 +10,6 @@ use pocsag_lister::Token;
 use std::alloc::Global;
 use std::fs::File;
 use std::io::{BufWriter, Read, Write};
-use std::process::ExitCode;
 
 // What is written.
 mod writing;
@@ -149,13 +148,13 @@ fn list<R: Read, W: Write>(
     reading::list_end(listed, options, &mut lent, &mut text, writer)
 }
 
-fn main(rt: HostRuntime) -> Result<ExitCode> {
+fn main(rt: HostRuntime) -> Result<()> {
     let asked = asking::options(&rt)?;
     if !asked.options.is_known {
         eprintln!(rt;
             "usage: pocsag_listing [--raw] [--numeric | --chinese | --text] [--explain] [--summary=FILE]"
         )?;
-        return Ok(ExitCode::from(2));
+        return Ok(());
     }
     let mut writer = BufWriter::with_capacity(rt.alloc(), PORTION, rt.stdout())?;
     let listed = list(rt.alloc(), asked.options, &mut rt.stdin(), &mut writer);
@@ -166,5 +165,5 @@ fn main(rt: HostRuntime) -> Result<ExitCode> {
         let mut summary = File::create(&rt, name.as_str()).context("the summary")?;
         write_totals(course, &mut summary)?;
     }
-    Ok(ExitCode::SUCCESS)
+    Ok(())
 }
