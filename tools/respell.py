@@ -176,8 +176,6 @@ def main():
             f.seek(0)
             f.truncate()
             f.write(text)
-    with open("/tmp/respelled.txt", "w", encoding="utf-8") as f:
-        f.writelines(f"{a} {b}\n" for a, b in sorted(new.items()))
 
 
 if __name__ == "__main__":
