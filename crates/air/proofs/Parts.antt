@@ -14,8 +14,8 @@ use Rattle.laws.proofs.Tests.{decided, not_both, each_of_five}
 use Rattle.refusal.specs.Told.{number_told}
 use Rattle.fragment.specs.Fragments.{most_characters, is_size, text_in}
 use Rattle.fragment.proofs.Laws.{Good, accepted, heading_told_lem, size_limits}
-use Rattle.fragment.specs.declared.FragmentRead.{FragmentRead}
-use Rattle.fragment.specs.FlatAnswers.{as_fragment}
+use Rattle.fragment.specs.declared.FragmentHeading.{FragmentHeading}
+use Rattle.fragment.specs.FlatAnswers.{as_heading}
 use Rattle.fragment.specs.Cutting.{marked, sendable, fragment_number, fragments_for, fragment_at}
 use Rattle.fragment.proofs.CutCounts.{count, some_fragment}
 use Rattle.fragment.proofs.CutLaws.{Cuttable, at_place, first_number_lem, heading_with, good, text_so_far, text_step, text_ends, sum_so_far, sum_step, sum_ends}
@@ -118,16 +118,16 @@ module _ (m : Message) (cuts : is_cut m ≡ true) where
     part_good = (accepted (part m place)).0 (ap number_told (good cuttable place within))
 
     -- the fragment says what its place says
-    says : heading_in (part m place) ≡ as_fragment (heading_with m.marks m.largest m.text place (length (text_in (part m place))))
-    says = ap as_fragment (sym (heading_told_lem (part m place) part_good) ∙ good cuttable place within)
+    says : heading_in (part m place) ≡ as_heading (heading_with m.marks m.largest m.text place (length (text_in (part m place))))
+    says = ap as_heading (sym (heading_told_lem (part m place) part_good) ∙ good cuttable place within)
 
     -- the fragment's N is the message's
     pub says_message : (heading_in (part m place)).message_number ≡ m.marks.message_number
-    says_message = ap (λ (h : FragmentRead). h.message_number) says
+    says_message = ap (λ (h : FragmentHeading). h.message_number) says
 
     -- the fragment's F is that of its place
     pub says_number : (heading_in (part m place)).fragment_number ≡ fragment_number place
-    says_number = ap (λ (h : FragmentRead). h.fragment_number) says
+    says_number = ap (λ (h : FragmentHeading). h.fragment_number) says
 
     -- the fragment at 0 is a first one, and no other is
     pub says_first : is_first (heading_in (part m place)) ≡ eqb place 0
@@ -136,7 +136,7 @@ module _ (m : Message) (cuts : is_cut m ≡ true) where
     -- more follows where the fragment is not the last
     pub says_more : goes_on (heading_in (part m place)) ≡ not (eqb (place + 1) (count_of m))
     says_more =
-        rw (ap (λ (h : FragmentRead). h.continued) says)
+        rw (ap (λ (h : FragmentHeading). h.continued) says)
         (⊎_elim
         (λ last. let is = eqb-true (place + 1) (count_of m) last in rw (last, eq-eqb (count_of m - 1 - place) 0 (omega arith)))
         (λ before. let isnt = eqb-false (place + 1) (count_of m) before in rw (before, ne_eqb (count_of m - 1 - place) 0 (λ e. isnt (omega arith))))

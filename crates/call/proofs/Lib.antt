@@ -1,4 +1,5 @@
 pub mod Came
+pub mod Chains
 pub mod Examples
 pub mod Invariants
 pub mod Laws

@@ -5,12 +5,11 @@ use mathlib.Core.List.{List, [], ◌∷◌}
 use mathlib.Core.Logic.{⊎_elim}
 use mathlib.Core.Path.{◌≡◌, refl, sym, ap, ◌∙◌}
 use native.Mathlib.Nat.{pow-succ', div-one, mod-eq_of_lt}
-use native.Mathlib.Numerals.{add-one}
 use native.Mathlib.Omega.{arith}
 use borrow.Author.Tests.{eqb-true, eqb-false, ne_eqb, lt-leb, lt-ltb, ltb-true, ltb-false}
 use lib.Dec.{leb, ltb, eqb}
 use lib.ListN.{length, get_or, take, drop, set, replicate, drop_of_length-le, length-set, length-replicate, get_or-eq_default}
-use lib.Seq.{drop-cons, get_or-set_same, get_or-set_other}
+use lib.Seq.{get_or-set_same, get_or-set_other}
 use Rattle.laws.specs.Choice.{pick, bit_of}
 use Rattle.laws.specs.Lists.{put, any_of}
 use Rattle.laws.proofs.Bits.{bit_le, lowest, higher}
@@ -54,18 +53,6 @@ module _ (m : Message) where
   given_length (c ∷ row) memory = offered_length c (given_to row m memory) ∙ given_length row memory
 
   module _ (row : List Call) (i : ℕ) (memory : List ℕ) where
-    -- a word offered from a call on: to those after it, then to it
-    pub given_from : i < length row → given_to (drop i row) m memory ≡ offered (get_or row i blank) m (given_to (drop (i + 1) row) m memory)
-    unfolding given_to
-    given_from within = rw (add-one, drop-cons row i blank within)
-
-    -- the calls that a word completes from a call on: itself, and those after it
-    pub finished_from : i < length row
-        → finished (drop i row) m memory
-        ≡ bit_of (completes (get_or row i blank) m (given_to (drop (i + 1) row) m memory)) + 2 * finished (drop (i + 1) row) m memory
-    unfolding finished
-    finished_from within = rw (add-one, drop-cons row i blank within)
-
     -- at the end it is offered to none
     pub given_end : length row ≤ i → given_to (drop i row) m memory ≡ memory
     unfolding given_to

@@ -4,12 +4,10 @@ use mathlib.Core.Bool.{Bool, true, false, not, ◌&&◌, ◌||◌, or-true}
 use mathlib.Core.List.{List, [], ◌∷◌}
 use mathlib.Core.Logic.{◌↔◌, ◌⊎◌, inl, inr, ⊎_elim}
 use mathlib.Core.Path.{◌≡◌, refl, sym, ap, ◌∙◌}
-use native.Mathlib.Numerals.{add-one}
 use native.Mathlib.Omega.{arith}
 use borrow.Author.Tests.{eq-eqb, eqb-true, le-leb, leb-true, lt-ltb, ltb-true, not-true}
 use lib.Dec.{leb, ltb, eqb}
 use lib.ListN.{length, get_or, drop, drop_of_length-le}
-use lib.Seq.{drop-cons}
 use Rattle.laws.specs.Choice.{bit_of}
 use Rattle.laws.proofs.Searches.{first_passes, found_by, is_found, found_passes, none_passes, is_none, none_at}
 use Rattle.laws.proofs.Tests.{decided, not_both, first_of, second_of, either_of, other_of}
@@ -236,13 +234,6 @@ module _ (row : List Call) (good : sound row ≡ true) where
 -- ---- call by call
 
 module _ (row : List Call) (i : ℕ) where
-  -- whether the row from a place on is sound: the call there is within its limits, no later one is of its key, and the later ones are sound
-  pub sound_from : i < length row
-      → let c = get_or row i blank in
-      sound (drop i row) ≡ (in_limits c && not (holds c.phase c.vector (drop (i + 1) row)) && sound (drop (i + 1) row))
-  unfolding sound
-  sound_from within = rw (add-one i, drop-cons row i blank within)
-
   -- at the end nothing is left to ask
   pub sound_end : length row ≤ i → sound (drop i row) ≡ true
   unfolding sound

@@ -13,8 +13,7 @@ use lib.Seq.{take_all}
 use Rattle.laws.specs.Lists.{place_in, up_from}
 use Rattle.laws.proofs.Lists.{up_length, up_at}
 use Rattle.laws.proofs.Rows.{place_found}
-use Rattle.laws.proofs.Searches.{found_by, first_most}
-use Rattle.laws.proofs.Tests.{decided}
+use Rattle.laws.proofs.Searches.{found_by}
 use Rattle.call.specs.declared.Call.{Call}
 use Rattle.call.specs.Calls.{has_vector, is_long, fits, numbers, numbers_of, in_limits}
 use Rattle.call.specs.Words.{position}
@@ -100,23 +99,6 @@ module _ (c : Call) where
       (((in_limits_lem c).0 good).of_span has)
 
   module _ (word : ℕ) where
-    -- the position of a word number in a call without its vector is 0
-    pub position_none : has_vector c ≡ false → position c word ≡ 0
-    unfolding place_in
-    position_none none = rw none
-
-    -- the position of a word number in a call without words is 0
-    pub position_empty : c.words ≡ 0 → position c word ≡ 0
-    unfolding place_in
-    position_empty empty =
-        ⊎_elim
-        (λ has.
-        let many = numbers_length has in
-        let most = first_most (eqb word) (numbers_of c) in
-        omega arith)
-        position_none
-        (decided (has_vector c))
-
     -- of a short address it is the place in the span
     pub position_short : has_vector c ≡ true → is_long c ≡ false → position c word ≡ place_in (up_from c.start c.words) word
     position_short has short = rw (has, short)

@@ -1,5 +1,5 @@
 -- The records of calls (document 01, "Calls in a frame"; its table, 2), in a row of any length.
-use Rattle.std.specs.Prelude.{ℕ, suc, ◌+◌, ◌-◌, Bool, true, false, not, ◌&&◌, ◌||◌, List, [], ◌∷◌, leb, ltb, eqb, length, take, replicate}
+use Rattle.std.specs.Prelude.{ℕ, suc, ◌+◌, ◌-◌, Bool, true, false, not, ◌&&◌, ◌||◌, List, [], ◌∷◌, leb, ltb, eqb, length, take, replicate, Option, Some, None}
 use Rattle.laws.specs.Choice.{pick, bit_of}
 use Rattle.laws.specs.Lists.{first_that, up_from}
 use Rattle.packet.specs.Names.{last_word_id}
@@ -88,3 +88,13 @@ holds phase vector row = ltb (find phase vector row) (length row)
 unfoldable pub sound : List Call → Bool
 sound [] = true
 sound (c ∷ row) = in_limits c && not (holds c.phase c.vector row) && sound row
+
+-- ---- what a search answers
+
+-- a value where a test holds, else none
+abbrev pub if_so : {A : Type 0} → Bool → A → Option A
+if_so so a = pick so (Some a) None
+
+-- a place among so many, or none if it is past them
+abbrev pub found : ℕ → ℕ → Option ℕ
+found place count = if_so (ltb place count) place

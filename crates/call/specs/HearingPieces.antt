@@ -1,19 +1,18 @@
--- What records and lent memory are after a packet, in the pieces in which the code makes them.
-use Rattle.std.specs.Prelude.{ℕ, List, [], Bool, not, ◌&&◌, ◌||◌, eqb, get_or, replicate}
+-- What a packet does to the records and the lent memory, in the pieces in which the code does it.
+use Rattle.std.specs.Prelude.{ℕ, List, [], ◌∷◌, not, ◌&&◌, eqb, get_or, replicate}
 use Rattle.laws.specs.Choice.{pick}
 use Rattle.laws.specs.Lists.{put}
-use Rattle.refusal.specs.declared.Refusal.TheVariants as refusals
-use Rattle.refusal.specs.Told.{told, number_of, number_told}
+use Rattle.refusal.specs.Told.{number_told}
 use Rattle.packet.specs.declared.heard.Message.{Message}
 use Rattle.packet.specs.declared.vectors.Vector.{Vector}
 use Rattle.call.specs.declared.Call.{Call}
 use Rattle.call.specs.declared.Calls.{Calls}
-use Rattle.call.specs.declared.CallHearing.{CallHearing}
 use Rattle.call.specs.Calls.{blank, opens, has_vector}
 use Rattle.call.specs.Words.{lacking, place_of, given_to}
 use Rattle.call.specs.Steps.{vector_fits, with_vector, next_area, changed, removed}
-use Rattle.call.specs.Answers.{is_short, word_told, as_heard}
-use Rattle.call.specs.declared.hearing.Turn.{Turn}
+use Rattle.call.specs.Answers.{is_short, word_told}
+use Rattle.call.specs.declared.hearing.Heard.{Heard}
+use Rattle.call.specs.declared.hearing.Heard.TheVariants as heards
 
 module _ (s : Calls) (memory : List ℕ) (place : ℕ) (v : Vector) where
   -- the call at the place
@@ -37,23 +36,7 @@ module _ (s : Calls) (memory : List ℕ) (place : ℕ) (v : Vector) where
 abbrev pub word_memory : Calls → List ℕ → Message → List ℕ
 word_memory s memory m = pick (eqb (number_told (word_told s memory m)) 0) (given_to (opens s) m memory) memory
 
--- ---- a packet's turn in numbers
-
--- a refusal, with a place
-abbrev pub refusing : ℕ → ℕ → Turn
-refusing number place = record { answer = as_heard (told number []); place = place; call = blank }
-
--- whether a turn changes a record: 9 closes a call, a vector that is taken gives a call its span
-abbrev pub changes : Turn → Bool
-changes t = eqb t.answer.number (number_of refusals.Size) || eqb t.answer.is_vector 1
-
--- the records after it
-abbrev pub records_after : Calls → Turn → Calls
-records_after s t =
-    pick (eqb t.answer.number (number_of refusals.Size)) (removed s t.place)
-    (pick (eqb t.answer.is_vector 1) (changed s t.place t.call)
-    s)
-
--- the answer, with them
-abbrev pub hearing_of : Calls → Turn → CallHearing
-hearing_of s t = record { answer = t.answer; calls = records_after s t }
+-- the values of a packet that is taken
+abbrev pub heard_values : Heard → List ℕ
+heard_values (heards.Vector call kind check completed) = 1 ∷ call ∷ kind ∷ check ∷ completed ∷ []
+heard_values (heards.Word completed) = 0 ∷ 0 ∷ 0 ∷ 0 ∷ completed ∷ []

@@ -1,10 +1,14 @@
--- The question to one call, in the piece in which the code asks it.
-use Rattle.std.specs.Prelude.{ℕ, List}
+-- The question that a message word asks of the calls, in the piece in which the code asks it.
+use Rattle.std.specs.Prelude.{ℕ, not, ◌&&◌, List, []}
+use Rattle.refusal.specs.declared.Refusal.TheVariants as refusals
+use Rattle.refusal.specs.Told.{Told, given, ask}
 use Rattle.packet.specs.declared.heard.Message.{Message}
 use Rattle.call.specs.declared.Call.{Call}
-use Rattle.call.specs.Words.{holds_word, lacks}
-use Rattle.call.specs.declared.memory.Asked.{Asked}
+use Rattle.call.specs.Words.{is_held, is_lacked}
 
--- whether a call's span holds a word, and whether the call lacks it
-abbrev pub offer_of : Call → Message → List ℕ → Asked
-offer_of c m memory = record { held = holds_word c m; lacked = lacks c m memory }
+-- 14 where each call that holds the word has it, 17 where none holds it
+abbrev pub asked : List Call → Message → List ℕ → Told
+asked row m memory =
+    ask (is_held row m && not (is_lacked row m memory)) refusals.OutOfTurn
+    (ask (not (is_held row m)) refusals.NoCall
+    (given []))

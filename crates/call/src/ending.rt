@@ -1,10 +1,13 @@
 // The end of a frame (document 01, "Calls in a frame"; S8.8.2): the calls that were incomplete, and the records with no
 // call open, as they also are at first.
 ghost use Rattle.std.specs.Prelude.{◌≡◌};
+ghost use Rattle.refusal.specs.Told.{number_by, number_told};
 ghost use Rattle.call.specs.Calls.{most_calls, fresh, opens};
 ghost use Rattle.call.specs.Steps.{listed, incomplete_in};
 ghost use Rattle.call.specs.Answers.{end_of, ended_with, ended_in, as_end};
 
+use crate::opening::add;
+use crate::searching::sound;
 use crate::{BLANK, Calls, FrameEnd, MEMORY_WORDS, MOST_CALLS};
 use refusal::Refusal;
 
@@ -12,59 +15,53 @@ use refusal::Refusal;
 pub fn fresh() -> Calls
     ensures { result ≡ fresh most_calls }
 {
-    let calls = [BLANK; MOST_CALLS];
     Calls {
         size: 0,
-        calls: calls,
+        calls: [BLANK; MOST_CALLS],
     }
 }
 
-// The open calls that are incomplete, in the order opened. They are stored where they are found, in a row that becomes the
-// answer's: a function that was handed the list for each call would copy it each time.
-fn incomplete(calls: Calls, memory: &[u32]) -> Calls
-    ensures { result ≡ listed most_calls (incomplete_in (opens calls) memory.now) }
+// Lists the open calls that are incomplete, in the order opened. The list is the answer's own, which is then not copied.
+fn incomplete(calls: &Calls, memory: &[u32], list: &mut Calls)
+    requires { list.old ≡ fresh most_calls }
+    ensures { list.new ≡ listed most_calls (incomplete_in (opens calls.now) memory.now) }
 {
-    let row = calls.calls;
-    let count = crate::searching::count(calls);
-    let mut found = [BLANK; MOST_CALLS];
-    let mut size: usize = 0;
-    let mut i: usize = 0;
-    while i < count {
-        let call = row[i];
-        if !crate::memory::is_complete(call, memory) {
-            found[size] = call;
-            size += 1;
+    for call in calls.in_use() {
+        if !call.is_complete(memory) {
+            add(list, *call);
         }
-        i += 1;
     }
-    Calls {
-        size: size,
-        calls: found,
+}
+
+// 2 and 1 of 01's table.
+fn may_end(calls: &Calls, memory: &[u32]) -> Result<(), Refusal>
+    ensures { number_by result ≡ number_told (end_of calls.now memory.now) }
+{
+    if !sound(calls) {
+        return Err(Refusal::State);
     }
+    if memory.len() < MEMORY_WORDS {
+        return Err(Refusal::Room);
+    }
+    Ok(())
 }
 
 // The end of a frame: the calls that were incomplete, and the records with no call open.
+// A struct and not a Result: the C interface hands the records back beside the answer, after a refusal too.
 pub fn end_frame(calls: Calls, memory: &[u32]) -> FrameEnd
     ensures { result ≡ as_end (end_of calls memory.now) (ended_with calls memory.now) (ended_in calls memory.now) }
 {
-    let none = fresh();
-    if !crate::searching::sound(calls) {
-        return FrameEnd {
-            number: Refusal::State.number(),
-            incomplete: none,
-            calls: calls,
-        };
-    }
-    if memory.len() < MEMORY_WORDS {
-        return FrameEnd {
-            number: Refusal::Room.number(),
-            incomplete: none,
-            calls: calls,
-        };
-    }
-    FrameEnd {
+    let mut end = FrameEnd {
         number: 0,
-        incomplete: incomplete(calls, memory),
-        calls: none,
+        incomplete: fresh(),
+        calls,
+    };
+    match may_end(&calls, memory) {
+        Ok(()) => {
+            incomplete(&calls, memory, &mut end.incomplete);
+            end.calls = fresh();
+        }
+        Err(refusal) => end.number = refusal.number(),
     }
+    end
 }

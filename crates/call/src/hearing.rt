@@ -1,91 +1,111 @@
 // A vector packet gives a call its span, and a message packet gives calls a word (document 01, "Calls in a frame"; S8.7.3
 // to S8.7.7, S8.8.2). A bad span closes its call; the calls after it move one place down, so that the open calls stay in
 // the order opened.
-ghost use Rattle.std.specs.Prelude.{◌≡◌, ◌+◌, ◌^◌, ◌≤◌, ◌<◌, true, length, get_or, replicate, ltb};
-ghost use Rattle.laws.specs.Choice.{pick, bit_of};
+ghost use Rattle.std.specs.Prelude.{◌≡◌, ◌+◌, ◌^◌, ◌≤◌, ◌<◌, true, length, get_or, replicate};
+ghost use Rattle.laws.specs.Choice.{pick};
 ghost use Rattle.laws.specs.Lists.{put};
+ghost use Rattle.refusal.specs.Told.{told_by};
 ghost use Rattle.packet.specs.Vectors.{is_vector, vector_of};
-ghost use Rattle.call.specs.Calls.{most_calls, blank, opens, brings_words, find};
+ghost use Rattle.call.specs.Calls.{most_calls, blank, opens, brings_words, find, found};
 ghost use Rattle.call.specs.Words.{lacking};
-ghost use Rattle.call.specs.Steps.{vector_fits, with_vector, next_area, changed, removed, without};
-ghost use Rattle.call.specs.Answers.{vector_told, word_told, hear_of, heard_in, memory_after, as_hearing};
-ghost use Rattle.call.specs.HearingPieces.{vector_calls, vector_memory, word_memory, refusing, changes, records_after, hearing_of};
+ghost use Rattle.call.specs.Steps.{vector_fits, with_vector, next_area, removed, without};
+ghost use Rattle.call.specs.Answers.{vector_told, word_told, hear_of, heard_in, memory_after, as_heard, as_hearing};
+ghost use Rattle.call.specs.HearingPieces.{vector_calls, vector_memory, word_memory, heard_values};
 
+use crate::memory::{ask, give, place};
+use crate::searching::{Key, find, sound};
+use crate::span::brings_words;
 use crate::{BLANK, Call, CallHeard, CallHearing, Calls, LACKING, MEMORY_WORDS, MOST_CALLS};
-use packet::{Message, Packet, Vector};
+use packet::{Message, Packet, Readable, Vector};
 use refusal::Refusal;
 
-// What a packet makes of the calls, in numbers, so that one function alone makes the records anew: the answer; and where
-// the answer is 9 the place of the call that is closed, where it is a vector's the place of its call and the record then.
-#[derive(Clone, Copy)]
-struct Turn {
-    answer: CallHeard,
-    place: usize,
-    call: Call,
+// What a packet is that is taken: the vector of a call, with the call's place, the vector's kind and K, and the calls that
+// it completes; or a message word, and the calls that it completes.
+#[derive(Clone, Copy, Debug, PartialEq, Eq)]
+enum Heard {
+    Vector {
+        call: usize,
+        kind: u32,
+        check: u32,
+        completed: u32,
+    },
+    Word {
+        completed: u32,
+    },
 }
 
-// A packet that is refused, with the place of the call that it closes, if it closes one.
-fn unheard(number: u32, place: usize) -> Turn
-    ensures { result ≡ refusing number place }
-{
-    Turn {
-        answer: CallHeard {
-            number: number,
-            is_vector: 0,
-            call: 0,
-            kind: 0,
-            check: 0,
-            completed: 0,
-        },
-        place: place,
-        call: BLANK,
+// The answer of which nothing is told.
+const NOTHING: CallHeard = CallHeard {
+    number: 0,
+    is_vector: 0,
+    call: 0,
+    kind: 0,
+    check: 0,
+    completed: 0,
+};
+
+impl From<Result<Heard, Refusal>> for CallHeard {
+    ghost from_gives = { λ heard answer. answer ≡ as_heard (told_by heard_values heard) };
+
+    fn from(heard: Result<Heard, Refusal>) -> CallHeard {
+        match heard {
+            Ok(
+                Heard::Vector {
+                    call,
+                    kind,
+                    check,
+                    completed,
+                },
+            ) => CallHeard {
+                is_vector: 1,
+                call,
+                kind,
+                check,
+                completed,
+                ..NOTHING
+            },
+            Ok(Heard::Word { completed }) => CallHeard {
+                completed,
+                ..NOTHING
+            },
+            Err(refusal) => CallHeard {
+                number: refusal.number(),
+                ..NOTHING
+            },
+        }
     }
 }
 
 // The area for the words of a call that gets its vector: how many calls have theirs.
-fn next_area(calls: Calls) -> u32
-    ensures { result ≡ next_area (opens calls) }
+fn next_area(calls: &Calls) -> u32
+    ensures { result ≡ next_area (opens calls.now) }
 {
-    let row = calls.calls;
-    let mut i = crate::searching::count(calls);
-    let mut area: u32 = 0;
-    while i > 0 {
-        i -= 1;
-        let call = row[i];
-        area = area + (call.has_vector != 0) as u32;
-    }
-    area
+    calls
+        .in_use()
+        .iter()
+        .filter(|call| call.has_vector())
+        .count() as u32
 }
 
 // Whether a vector brings no words, or a span that is one for its call.
-fn vector_fits(call: Call, vector: Vector) -> bool
-    ensures { result ≡ vector_fits call vector }
+fn vector_fits(call: &Call, vector: &Vector) -> bool
+    ensures { result ≡ vector_fits call.now vector.now }
 {
-    !crate::span::brings_words(vector.kind)
-        | crate::span::fits(
-            call.long_address != 0,
-            call.vector,
-            vector.span.start,
-            vector.span.words,
-        )
+    !brings_words(vector.kind) | call.fits(vector.span.start, vector.span.words)
 }
 
 // A call whose vector has come, its words in an area.
-fn with_vector(call: Call, vector: Vector, area: u32) -> Call
-    ensures { result ≡ with_vector call vector area }
+fn with_vector(call: Call, vector: &Vector, area: u32) -> Call
+    ensures { result ≡ with_vector call vector.now area }
 {
     Call {
-        phase: call.phase,
-        vector: call.vector,
-        address: call.address,
-        priority: call.priority,
-        long_address: call.long_address,
         has_vector: 1,
         kind: vector.kind,
         check: vector.span.check,
         start: vector.span.start,
         words: vector.span.words,
-        area: area,
+        area,
+        ..call
     }
 }
 
@@ -94,37 +114,25 @@ fn clear(memory: &mut [u32], place: usize, words: usize)
     requires { place + words ≤ length memory.old }
     ensures { memory.new ≡ put memory.old place (replicate words lacking) }
 {
-    let mut i: usize = 0;
-    while i < words {
-        memory[place + i] = LACKING;
-        i += 1;
-    }
+    memory[place..place + words].fill(LACKING);
 }
 
-// The records with an open call closed.
-fn removed(calls: Calls, place: usize) -> Calls
-    requires { place < length (opens calls) }
-    ensures { result ≡ removed calls place }
-{
-    let row = calls.calls;
-    let count = crate::searching::count(calls);
-    Calls {
-        size: count - 1,
-        calls: without(row, place),
-    }
-}
-
-// The records with one of them changed.
-fn changed(calls: Calls, place: usize, call: Call) -> Calls
+// The row without the record at a place: those after it move one place down.
+fn without(row: &mut [Call; MOST_CALLS], place: usize)
     requires { place < most_calls }
-    ensures { result ≡ changed calls place call }
+    ensures { row.new ≡ without place row.old }
 {
-    let mut row = calls.calls;
-    row[place] = call;
-    Calls {
-        size: calls.size,
-        calls: row,
-    }
+    row.copy_within(place + 1.., place);
+    row[MOST_CALLS - 1] = BLANK;
+}
+
+// An open call closed.
+fn close(calls: &mut Calls, place: usize)
+    requires { place < length (opens calls.old) }
+    ensures { calls.new ≡ removed calls.old place }
+{
+    calls.size = calls.count() - 1;
+    without(&mut calls.calls, place);
 }
 
 // The call that a vector completes: its own, where it brings no words.
@@ -132,7 +140,7 @@ fn completed_by(kind: u32, place: usize) -> u32
     requires { place < most_calls }
     ensures { result ≡ pick (brings_words kind) 0 (2 ^ place) }
 {
-    if crate::span::brings_words(kind) {
+    if brings_words(kind) {
         return 0;
     }
     1 << place
@@ -140,154 +148,100 @@ fn completed_by(kind: u32, place: usize) -> u32
 
 // A vector for the call at a place. Of 01's table a second vector, for a call that has one, is 14, whatever its span; a bad
 // span, for a call still without its vector, is 9; and last comes 1. Else the call has its span and none of its words.
-fn take_vector(calls: Calls, memory: &mut [u32], packet: Packet, place: usize) -> Turn
+fn take_vector(
+    calls: &mut Calls,
+    memory: &mut [u32],
+    packet: Packet,
+    at: usize,
+) -> Result<Heard, Refusal>
     requires bits_value { is_vector packet.bits ≡ true }
-    requires place_in_bounds { place < length (opens calls) }
-    ensures told { hearing_of calls result
-        ≡ as_hearing
-        (vector_told calls memory.old place (get_or (opens calls) place blank) (vector_of packet.bits))
-        (vector_calls calls memory.old place (vector_of packet.bits)) }
-    ensures placed { result.place + bit_of (changes result) ≤ length (opens calls) }
-    ensures memory { memory.new ≡ vector_memory calls memory.old place (vector_of packet.bits) }
+    requires place_in_bounds { at < length (opens calls.old) }
+    ensures told { told_by heard_values result
+        ≡ vector_told calls.old memory.old at (get_or (opens calls.old) at blank) (vector_of packet.bits) }
+    ensures calls { calls.new ≡ vector_calls calls.old memory.old at (vector_of packet.bits) }
+    ensures memory { memory.new ≡ vector_memory calls.old memory.old at (vector_of packet.bits) }
 {
-    let row = calls.calls;
-    let call = row[place];
-    if call.has_vector != 0 {
-        return unheard(Refusal::OutOfTurn.number(), 0);
+    let call = calls.calls[at];
+    if call.has_vector() {
+        return Err(Refusal::OutOfTurn);
     }
-    let read = packet::read_vector(packet);
-    let vector = read.fields;
-    if !vector_fits(call, vector) {
-        return unheard(Refusal::Size.number(), place);
+    let vector = Vector::of_bits(packet.bits);
+    if !vector_fits(&call, &vector) {
+        close(calls, at);
+        return Err(Refusal::Size);
     }
     if memory.len() < MEMORY_WORDS {
-        return unheard(Refusal::Room.number(), 0);
+        return Err(Refusal::Room);
     }
-    let given = with_vector(call, vector, next_area(calls));
-    clear(memory, crate::memory::place(given), given.words as usize);
-    Turn {
-        answer: CallHeard {
-            number: 0,
-            is_vector: 1,
-            call: place,
-            kind: given.kind,
-            check: given.check,
-            completed: completed_by(given.kind, place),
-        },
-        place: place,
-        call: given,
-    }
+    let given = with_vector(call, &vector, next_area(calls));
+    clear(memory, place(given), given.words as usize);
+    calls.calls[at] = given;
+    Ok(Heard::Vector {
+        call: at,
+        kind: given.kind,
+        check: given.check,
+        completed: completed_by(given.kind, at),
+    })
 }
 
 // A message word: 17, 14 and 1 of 01's table, or the word given to the calls that lack it.
-fn take_word(calls: Calls, memory: &mut [u32], message: Message) -> Turn
-    ensures told { hearing_of calls result ≡ as_hearing (word_told calls memory.old message) calls }
-    ensures placed { result.place + bit_of (changes result) ≤ length (opens calls) }
-    ensures memory { memory.new ≡ word_memory calls memory.old message }
+fn take_word(calls: &Calls, memory: &mut [u32], message: &Message) -> Result<Heard, Refusal>
+    ensures told { told_by heard_values result ≡ word_told calls.now memory.old message.now }
+    ensures memory { memory.new ≡ word_memory calls.now memory.old message.now }
 {
-    let asked = crate::memory::ask(calls, message, memory);
-    if !asked.held {
-        return unheard(Refusal::NoCall.number(), 0);
-    }
-    if !asked.lacked {
-        return unheard(Refusal::OutOfTurn.number(), 0);
-    }
+    ask(calls, message, memory)?;
     if memory.len() < MEMORY_WORDS {
-        return unheard(Refusal::Room.number(), 0);
+        return Err(Refusal::Room);
     }
-    Turn {
-        answer: CallHeard {
-            number: 0,
-            is_vector: 0,
-            call: 0,
-            kind: 0,
-            check: 0,
-            completed: crate::memory::give(calls, message, memory),
-        },
-        place: 0,
-        call: BLANK,
-    }
+    let completed = give(calls, message, memory);
+    Ok(Heard::Word { completed })
 }
 
-// The place among the open calls of the one whose vector a packet is, whichever spans hold its word number; the number of
-// open calls where it is none's.
-fn vector_place(calls: Calls, message: Message) -> usize
-    ensures { result ≡ find message.phase message.word (opens calls) }
+// The place among the open calls of the one whose vector a packet is, whichever spans hold its word number; none if it is
+// no call's.
+fn vector_place(calls: &Calls, message: &Message) -> Option<usize>
+    ensures { result ≡ found (find message.now.phase message.now.word (opens calls.now)) (length (opens calls.now)) }
 {
-    crate::searching::find(calls, message.phase, message.word)
+    let key = Key {
+        phase: message.phase,
+        vector: message.word,
+    };
+    find(calls, key)
 }
 
-// What a vector or message packet makes of the calls, and the words in the lent memory. Vector places are looked at
-// before spans.
-fn turn_of(calls: Calls, memory: &mut [u32], packet: Packet) -> Turn
-    ensures told { hearing_of calls result
-        ≡ as_hearing (hear_of calls memory.old packet.bits) (heard_in calls memory.old packet.bits) }
-    ensures placed { result.place + bit_of (changes result) ≤ length (opens calls) }
-    ensures memory { memory.new ≡ memory_after calls memory.old packet.bits }
+// A vector or message packet among the records, and the words in the lent memory. Vector places are looked at before
+// spans.
+fn hear_in(calls: &mut Calls, memory: &mut [u32], packet: Packet) -> Result<Heard, Refusal>
+    ensures told { told_by heard_values result ≡ hear_of calls.old memory.old packet.bits }
+    ensures calls { calls.new ≡ heard_in calls.old memory.old packet.bits }
+    ensures memory { memory.new ≡ memory_after calls.old memory.old packet.bits }
 {
-    if !crate::searching::sound(calls) {
-        return unheard(Refusal::State.number(), 0);
+    if !sound(calls) {
+        return Err(Refusal::State);
     }
     let id = packet.bits >> 24;
-    if !((Packet::FIRST_VECTOR <= id) & (id <= Packet::LAST_WORD)) {
-        return unheard(Refusal::Packet.number(), 0);
+    if !(Packet::FIRST_VECTOR..=Packet::LAST_WORD).contains(&id) {
+        return Err(Refusal::Packet);
     }
     let message = packet::message_of(packet.bits);
     if message.damaged != 0 {
-        return unheard(Refusal::Damaged.number(), 0);
+        return Err(Refusal::Damaged);
     }
-    let place = vector_place(calls, message);
-    if place < crate::searching::count(calls) {
-        return take_vector(calls, memory, packet, place);
+    match vector_place(calls, &message) {
+        Some(at) => take_vector(calls, memory, packet, at),
+        None => take_word(calls, memory, &message),
     }
-    take_word(calls, memory, message)
-}
-
-// The records after a packet.
-fn records_after(calls: Calls, turn: Turn) -> Calls
-    requires { turn.place + bit_of (changes turn) ≤ length (opens calls) }
-    ensures { result ≡ records_after calls turn }
-{
-    let answer = turn.answer;
-    if answer.number == Refusal::Size.number() {
-        return removed(calls, turn.place);
-    }
-    if answer.is_vector == 1 {
-        let call = turn.call;
-        return changed(calls, turn.place, call);
-    }
-    calls
 }
 
 // A vector or message packet: the answer, the records then, and the words in the lent memory.
-pub fn hear(calls: Calls, memory: &mut [u32], packet: Packet) -> CallHearing
+// A struct and not a Result: the C interface hands the records back beside the answer, after a refusal too.
+pub fn hear(mut calls: Calls, memory: &mut [u32], packet: Packet) -> CallHearing
     ensures told { result ≡ as_hearing (hear_of calls memory.old packet.bits) (heard_in calls memory.old packet.bits) }
     ensures memory { memory.new ≡ memory_after calls memory.old packet.bits }
 {
-    let turn = turn_of(calls, memory, packet);
-    let answer = turn.answer;
+    let answer = hear_in(&mut calls, memory, packet);
     CallHearing {
-        answer: answer,
-        calls: records_after(calls, turn),
+        answer: CallHeard::from(answer),
+        calls,
     }
-}
-
-// The row without the record at a place: those after it move one place down. It stays as it is where there is no such
-// place.
-pub(crate) fn without(row: [Call; MOST_CALLS], place: usize) -> [Call; MOST_CALLS]
-    ensures { result ≡ pick (ltb place most_calls) (without place row) row }
-{
-    if place >= MOST_CALLS {
-        return row;
-    }
-    let mut after = row;
-    let mut i = place;
-    while i < MOST_CALLS - 1 {
-        let from = i + 1;
-        let call = row[from];
-        after[i] = call;
-        i += 1;
-    }
-    after[MOST_CALLS - 1] = BLANK;
-    after
 }

@@ -7,6 +7,9 @@
 // run a call has the words that came for it).
 #![tactic(auto)]
 
+ghost use Rattle.std.specs.Prelude.{◌≡◌};
+ghost use Rattle.call.specs.Calls.{has_vector, is_long};
+
 // Whether a span fits its call, and which word numbers are a call's.
 mod span;
 
@@ -43,15 +46,18 @@ pub const MEMORY_WORDS: usize = 680;
 // S8.7.2: the phases are 0 to 3, for A to D.
 pub const LAST_PHASE: u32 = 3;
 
-// What the lent memory holds for a word that has not come: a number of more than 21 bits.
+// What the lent memory holds for a word that has not come: a number of more than 21 bits. The memory is C's, a row of numbers.
 pub const LACKING: u32 = 0x20_0000;
+
+// Flags and kinds of the structs below are numbers, a refusal is a number beside the fields, and the records are a row with its size
+// beside it: the C interface hands them out as they are, and the memory is fixed.
 
 // One call. Its phase and the word number of its vector, which are its key; its address number, and whether that came
 // as a priority address or is a long one. Once its vector has come `has_vector` is not 0, and then: the vector's kind
 // and K, the word number b where the message words begin (a long call's second), how many words there are (0 where
 // the vector brings none), and which area of the lent memory holds them.
 #[repr(C)]
-#[derive(Clone, Copy)]
+#[derive(Clone, Copy, Debug, PartialEq, Eq)]
 pub struct Call {
     pub phase: u32,
     pub vector: u32,
@@ -64,6 +70,22 @@ pub struct Call {
     pub start: u32,
     pub words: u32,
     pub area: u32,
+}
+
+impl Call {
+    // Whether its vector has come.
+    pub(crate) fn has_vector(&self) -> bool
+        ensures { result ≡ has_vector self.now }
+    {
+        self.has_vector != 0
+    }
+
+    // Whether its address is a long one.
+    pub(crate) fn is_long(&self) -> bool
+        ensures { result ≡ is_long self.now }
+    {
+        self.long_address != 0
+    }
 }
 
 // A record that holds no call.
@@ -83,7 +105,7 @@ pub const BLANK: Call = Call {
 
 // The records. The first `size` of them are the open calls, in the order opened; a size of 8 or more says that all are.
 #[repr(C)]
-#[derive(Clone, Copy)]
+#[derive(Clone, Copy, Debug, PartialEq, Eq)]
 pub struct Calls {
     pub size: usize,
     pub calls: [Call; MOST_CALLS],
@@ -92,7 +114,7 @@ pub struct Calls {
 // What is told of an address packet: 01's number; `opened`, 1 where it opened a call, with the call's place among the
 // open ones (a tone-only address opens none); and what the packet says. What is not told is 0.
 #[repr(C)]
-#[derive(Clone, Copy)]
+#[derive(Clone, Copy, Debug, PartialEq, Eq)]
 pub struct CallOpened {
     pub number: u32,
     pub opened: u32,
@@ -102,7 +124,7 @@ pub struct CallOpened {
 
 // The answer to an address packet, and the records then.
 #[repr(C)]
-#[derive(Clone, Copy)]
+#[derive(Clone, Copy, Debug, PartialEq, Eq)]
 pub struct CallOpening {
     pub answer: CallOpened,
     pub calls: Calls,
@@ -112,7 +134,7 @@ pub struct CallOpening {
 // call's place among the open ones, the vector's kind and its K; and `completed`, the calls that it completed: bit i
 // for the call at place i, so that the lowest bit is the one opened first. What is not told is 0.
 #[repr(C)]
-#[derive(Clone, Copy)]
+#[derive(Clone, Copy, Debug, PartialEq, Eq)]
 pub struct CallHeard {
     pub number: u32,
     pub is_vector: u32,
@@ -124,7 +146,7 @@ pub struct CallHeard {
 
 // The answer to a vector or message packet, and the records then.
 #[repr(C)]
-#[derive(Clone, Copy)]
+#[derive(Clone, Copy, Debug, PartialEq, Eq)]
 pub struct CallHearing {
     pub answer: CallHeard,
     pub calls: Calls,
@@ -132,7 +154,7 @@ pub struct CallHearing {
 
 // The answer to an end of frame: 01's number, the calls that were incomplete, in the order opened, and the records then.
 #[repr(C)]
-#[derive(Clone, Copy)]
+#[derive(Clone, Copy, Debug, PartialEq, Eq)]
 pub struct FrameEnd {
     pub number: u32,
     pub incomplete: Calls,

@@ -1,15 +1,14 @@
 -- What a person is told of a text, line by line of the definitions.
+use Rattle.std.specs.Prelude.{Option, Result, Ok, Err}
 use Prim.Native.Char.{code}
-use Prim.Native.Nat.{ℕ, ◌+◌, ◌-◌, ◌≤◌, ◌<◌}
+use Prim.Native.Nat.{ℕ, ◌+◌, ◌-◌, ◌≤◌}
 use mathlib.Core.Bool.{Bool, true, false, not, ◌&&◌, ◌||◌, false≢true}
 use mathlib.Core.List.{List, [], ◌∷◌}
 use mathlib.Core.Logic.{◌↔◌, ◌⊎◌, inl, inr}
-use mathlib.Core.Path.{◌≡◌, refl, sym, ◌∙◌}
+use mathlib.Core.Path.{◌≡◌, refl, sym, ap, ◌∙◌}
 use native.Mathlib.Omega.{arith}
-use borrow.Author.Tests.{lt-ltb, le-ltb, ne_eqb}
 use lib.Dec.{ltb, eqb}
-use lib.ListN.{length, take, drop, get_or, length-drop}
-use lib.Seq.{take_all}
+use lib.ListN.{length, take, drop, get_or}
 use Rattle.laws.specs.Choice.{pick}
 use Rattle.laws.specs.Lists.{all}
 use Rattle.laws.proofs.Searches.{first_most}
@@ -17,53 +16,28 @@ use Rattle.refusal.specs.declared.Refusal.{Refusal}
 use Rattle.refusal.specs.declared.Refusal.TheVariants.{Text, «Type», Range, Offset, Packet}
 use Rattle.refusal.specs.Told.{Told, number_of, given, ask, number_told}
 use Rattle.refusal.specs.Sentences.{sentences}
-use Rattle.refusal.proofs.Laws.{number_positive}
+use Rattle.refusal.proofs.Laws.{number_positive, of_number}
 use Rattle.refusal.proofs.SentenceLaws.{has_sentence, refusal_said}
-use Rattle.capcode.specs.declared.Advice.{Advice}
 use Rattle.capcode.specs.declared.Capcode.{Capcode}
-use Rattle.capcode.specs.declared.reading.Form.{Form}
 use Rattle.capcode.specs.Ranges.{accepted}
 use Rattle.capcode.specs.Assigned.{standard, framed, all_phase, offset_of, phase_of, base_of, fields_fit, asked}
-use Rattle.capcode.specs.Reads.{is_digit, letter_goes_on, form_of, before_letter, fault_at, read_by, read_of}
-use Rattle.capcode.specs.Advice.{say, head_digits, short_advice, many_advice, is_marked, is_blank, is_said, blank_advice}
-use Rattle.capcode.specs.Advice.{capital_of, letter_advice, other_advice, wrong_advice, advice_by, advice_of}
+use Rattle.capcode.specs.Reads.{is_digit, form_of, before_letter, fault_at, read_by, read_of}
+use Rattle.std.specs.Option.{unwrap_or}
+use Rattle.capcode.specs.declared.Advice.{Advice}
+use Rattle.capcode.specs.Advice.{Advised, told_advice, say, head_digits, short_advice, many_advice, is_marked, is_blank, is_said, blank_advice}
+use Rattle.capcode.specs.Advice.{capital_of, goes_on_as, letter_advice, other_advice, wrong_advice, advice_by, advice_of}
 
 -- no more digits stand at the start of a text than it has bytes
 pub head_within : (text : List ℕ) → head_digits text ≤ length text
 head_within text = first_most (λ byte. not (is_digit byte)) text
 
-module _ (text : List ℕ) (some : length text ≡ 0 → ⊥) (letter : head_digits text ≡ length text → ⊥) where
-  -- fewer than seven digits after the letter
-  pub few_of_seven : length text - head_digits text < 8 → say 42 ≡ short_advice text
-  few_of_seven few = rw (ne_eqb _ _ some, ne_eqb _ _ letter, lt-ltb (length text) (head_digits text + 8) (omega (arith, head_within text)))
-
-  -- seven digits or more
-  pub few_of_ten : 8 ≤ length text - head_digits text → say 43 ≡ short_advice text
-  few_of_ten many = rw (ne_eqb _ _ some, ne_eqb _ _ letter, le-ltb (length text) (head_digits text + 8) (omega (arith, head_within text)))
-
-module _ (text : List ℕ) (place : ℕ) where
-  -- a digit too many where seven were enough: before place 11, or at most ten places after the letter
-  pub many_early : place < 11 → say 44 ≡ many_advice text place
-  many_early early = rw (lt-ltb place (head_digits text + 11) (omega arith))
-
-  pub many_of_seven : 11 ≤ place → place - 11 < head_digits text → say 44 ≡ many_advice text place
-  many_of_seven late near = rw (lt-ltb place (head_digits text + 11) (omega arith))
-
-  -- the eleventh digit
-  pub many_of_ten : 11 ≤ place → head_digits text ≤ place - 11 → say 45 ≡ many_advice text place
-  many_of_ten late far = rw (le-ltb place (head_digits text + 11) (omega arith))
-
--- the bytes from a place to the end of a text, taken by their number, are what follows the place
-pub to_end : (text : List ℕ) (place : ℕ) → take (length text - place) (drop place text) ≡ drop place text
-to_end text place = take_all (length text - place) (drop place text) (omega (arith, length-drop place text))
-
 -- ---- a text that is refused gets a sentence, and no other
 
 -- advice that has a sentence
-record Says (advice : Advice) : Type 0 where
+record Says (advice : Advised) : Type 0 where
   pub has : has_sentence advice.row ≡ true
 
-pick_says : (test : Bool) (a b : Advice) → Says a → Says b → Says (pick test a b)
+pick_says : (test : Bool) (a b : Advised) → Says a → Says b → Says (pick test a b)
 pick_says true a b first second = first
 pick_says false a b first second = second
 
@@ -85,7 +59,7 @@ unfolding sentences
 blank_says true = record { has = refl }
 blank_says false = record { has = refl }
 
-letter-says : (small zero known : Bool) (letter : ℕ)
+letter-says : (small zero known : Bool) (letter : Option ℕ)
     → Says (pick small (record { row = 49; letter = letter }) (pick zero (say 50) (pick known (say 51) (say 52))))
 unfolding sentences
 letter-says true zero known letter = record { has = refl }
@@ -116,7 +90,7 @@ wrong_says first text place =
 
     letter : Says (letter_advice text place byte)
     letter =
-        letter-says (letter_goes_on place (capital_of byte) && before_letter text place)
+        letter-says (goes_on_as place (capital_of byte) && before_letter text place)
         ((eqb byte (code "O") || eqb byte (code "o")) && not (before_letter text place))
         ((standard byte || framed byte) && before_letter text place)
         (capital_of byte)
@@ -160,9 +134,69 @@ of_capcode n m same (inr refused) = (
 pub said_exactly : (first : Bool) (text : List ℕ) → (has_sentence (advice_of first text).row ≡ true) ↔ (number_told (read_of text) ≡ 0 → ⊥)
 said_exactly first text = by_form (form_of text)
   where
-    by_form : (form : Form) → (has_sentence (advice_by first text form).row ≡ true) ↔ (number_told (read_by text form) ≡ 0 → ⊥)
-    by_form (Form.Says c) =
+    by_form : (form : Result Capcode ℕ) → (has_sentence (advice_by first text form).row ≡ true) ↔ (number_told (read_by text form) ≡ 0 → ⊥)
+    by_form (Ok c) =
         let alike = alike_asked c (given (phase_of c ∷ base_of c ∷ [])) (given (c.letter ∷ c.frame ∷ c.collapse ∷ c.address ∷ phase_of c ∷ base_of c ∷ []))
         (record { number = refl; one = inl refl }) in
         of_capcode _ _ alike.number alike.one
-    by_form (Form.Wrong place) = (λ says none. omega (arith, number_positive (fault_at text place)), λ some. (wrong_says first text place).has)
+    by_form (Err place) = (λ says none. omega (arith, number_positive (fault_at text place)), λ some. (wrong_says first text place).has)
+
+-- ---- one telling, one advice
+
+-- the advice of a row and a letter
+abbrev advice_at : Advised → Advice
+advice_at told =
+    pick (eqb told.row 0) Advice.Fine
+    (pick (ltb told.row 40) (Advice.Refused (of_number told.row))
+    (get_or
+    (Advice.EmptyLine ∷ Advice.NoLetter ∷ Advice.TooFewOfSeven ∷ Advice.TooFewOfTen ∷ Advice.TooManyOfSeven ∷ Advice.TooManyOfTen
+    ∷ Advice.ByteOrderMark ∷ Advice.BlankAtTheEnd ∷ Advice.Blank ∷ Advice.LowerCase (unwrap_or told.letter 0) ∷ Advice.LetterO
+    ∷ Advice.DigitsBefore ∷ Advice.Character ∷ [])
+    (told.row - 40)
+    Advice.Fine))
+
+refusal_back : (r : Refusal) → advice_at (told_advice (Advice.Refused r)) ≡ Advice.Refused r
+refusal_back Refusal.Room = refl
+refusal_back Refusal.State = refl
+refusal_back Refusal.Text = refl
+refusal_back Refusal.«Type» = refl
+refusal_back Refusal.Range = refl
+refusal_back Refusal.Offset = refl
+refusal_back Refusal.Packet = refl
+refusal_back Refusal.Address = refl
+refusal_back Refusal.Size = refl
+refusal_back Refusal.Damaged = refl
+refusal_back Refusal.Checksum = refl
+refusal_back Refusal.Full = refl
+refusal_back Refusal.NoChain = refl
+refusal_back Refusal.OutOfTurn = refl
+refusal_back Refusal.TooLong = refl
+refusal_back Refusal.Signature = refl
+refusal_back Refusal.NoCall = refl
+refusal_back Refusal.Character = refl
+refusal_back Refusal.DigitBeforeLetter = refl
+refusal_back Refusal.LeadingFour = refl
+refusal_back Refusal.DigitAfterLetter = refl
+refusal_back Refusal.BeyondRepair = refl
+refusal_back Refusal.NoSync = refl
+
+advice_back : (advice : Advice) → advice_at (told_advice advice) ≡ advice
+advice_back Advice.Fine = refl
+advice_back (Advice.Refused r) = refusal_back r
+advice_back Advice.EmptyLine = refl
+advice_back Advice.NoLetter = refl
+advice_back Advice.TooFewOfSeven = refl
+advice_back Advice.TooFewOfTen = refl
+advice_back Advice.TooManyOfSeven = refl
+advice_back Advice.TooManyOfTen = refl
+advice_back Advice.ByteOrderMark = refl
+advice_back Advice.BlankAtTheEnd = refl
+advice_back Advice.Blank = refl
+advice_back (Advice.LowerCase capital) = refl
+advice_back Advice.LetterO = refl
+advice_back Advice.DigitsBefore = refl
+advice_back Advice.Character = refl
+
+-- two advices told alike are the same
+pub advice_tells : (a b : Advice) → told_advice a ≡ told_advice b → a ≡ b
+advice_tells a b e = sym (advice_back a) ∙ ap advice_at e ∙ advice_back b

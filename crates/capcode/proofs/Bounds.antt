@@ -1,4 +1,5 @@
 -- An address of a class lies in that class's row.
+use Rattle.std.specs.Prelude.{Result, Ok, Err}
 use Prim.Native.Nat.{ℕ, ◌-◌, ◌^◌, ◌≤◌, ◌<◌}
 use mathlib.Core.Bool.{Bool, true, false, and-eq-true_iff}
 use mathlib.Core.Path.{◌≡◌, refl, ap, sym, ◌∙◌}
@@ -12,8 +13,8 @@ use Rattle.capcode.specs.declared.Class.{Class}
 use Rattle.capcode.specs.declared.Class.TheVariants.{Short, InformationService, Network, Operator, Set12}
 use Rattle.capcode.specs.declared.Class.TheVariants.{Set13, Set14, Set23Country, Set23InformationService}
 use Rattle.capcode.specs.declared.ranges.Row.{Row}
-use Rattle.capcode.specs.declared.Classed.{Classed}
 use Rattle.capcode.specs.Ranges.{rows, holds, class_in, class_of, class_number, found, accepted}
+use Rattle.refusal.specs.declared.Refusal.{Refusal}
 
 -- the row of a class
 abbrev pub row_of : Class → Row
@@ -32,18 +33,18 @@ own_rows : Every Own rows
 unfolding rows
 own_rows = (refl, (refl, (refl, (refl, (refl, (refl, (refl, (refl, (refl, tt)))))))))
 
-in_one : {a b : Class} → Classed.In a ≡ Classed.In b → a ≡ b
+in_one : {a b : Class} → ◌≡◌ {A = Result Class Refusal} (Ok a) (Ok b) → a ≡ b
 in_one e = cc
 
 -- one row of the table: it holds the address, or the rest has it
-at_row : (r : Row) (rest : Classed) (address : ℕ) (class : Class) (b : Bool) → holds r address ≡ b → Own r
-    → pick b (Classed.In r.class) rest ≡ Classed.In class
-    → (rest ≡ Classed.In class → holds (row_of class) address ≡ true) → holds (row_of class) address ≡ true
+at_row : (r : Row) (rest : Result Class Refusal) (address : ℕ) (class : Class) (b : Bool) → holds r address ≡ b → Own r
+    → pick b (Ok r.class) rest ≡ Ok class
+    → (rest ≡ Ok class → holds (row_of class) address ≡ true) → holds (row_of class) address ≡ true
 at_row r rest address class true h own e later = ap (λ (x : Row). holds x address) (sym (ap row_of (in_one e)) ∙ own) ∙ h
 at_row r rest address class false h own e later = later e
 
 -- an address found in a table lies in the row of its class
-in-row-by : (rs : List Row) (address : ℕ) (class : Class) → Every Own rs → class_in rs address ≡ Classed.In class → holds (row_of class) address ≡ true
+in-row-by : (rs : List Row) (address : ℕ) (class : Class) → Every Own rs → class_in rs address ≡ Ok class → holds (row_of class) address ≡ true
 unfolding class_in
 in-row-by [] address class own e = let no : ◌≡◌ {A = ℕ} 0 1 = cc in absurd (omega arith)
 in-row-by (r ∷ rs) address class own e = at_row r (class_in rs address) address class (holds r address) refl own.0 e (in-row-by rs address class own.1)
@@ -55,7 +56,7 @@ row_bounds r address h =
     (leb-true r.from address both.0, leb-true address r.to both.1)
 
 -- an address of a class lies between the ends of that class's row
-pub class_bounds : (address : ℕ) (class : Class) → class_of address ≡ Classed.In class → ((row_of class).from ≤ address) × (address ≤ (row_of class).to)
+pub class_bounds : (address : ℕ) (class : Class) → class_of address ≡ Ok class → ((row_of class).from ≤ address) × (address ≤ (row_of class).to)
 unfolding class_of
 class_bounds address class e = row_bounds (row_of class) address (in-row-by rows address class own_rows e)
 
@@ -72,12 +73,12 @@ row_below Set14 = omega arith
 row_below Set23Country = omega arith
 row_below Set23InformationService = omega arith
 
-found_below : (answer : Classed) (address : ℕ) → class_of address ≡ answer → found answer ≡ true → address < 2 ^ 32
-found_below (Classed.In class) address e f =
+found_below : (answer : Result Class Refusal) (address : ℕ) → class_of address ≡ answer → found answer ≡ true → address < 2 ^ 32
+found_below (Ok class) address e f =
     let high = (class_bounds address class e).1 in
     let end = row_below class in
     omega arith
-found_below (Classed.Refused r) address e f = let no : ◌≡◌ {A = ℕ} 0 1 = cc in absurd (omega arith)
+found_below (Err r) address e f = let no : ◌≡◌ {A = ℕ} 0 1 = cc in absurd (omega arith)
 
 -- an accepted address has 32 bits
 pub accepted_below : (address : ℕ) → accepted address ≡ true → address < 2 ^ 32

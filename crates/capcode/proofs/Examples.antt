@@ -2,6 +2,7 @@
 use Prim.Native.Char.{code}
 use Prim.Native.Nat.{ℕ}
 use Prim.Native.String.{String}
+use Rattle.std.specs.Prelude.{Option, Some, None}
 use mathlib.Core.Bool.{Bool, true, false}
 use mathlib.Core.Path.{◌≡◌, refl}
 use mathlib.Core.List.{List, [], ◌∷◌, map}
@@ -55,41 +56,41 @@ unfolding table form_of follow step_of all fault_at asked class_of class_in rows
 examples = refl
 
 -- texts, each with the row of the sentence that a person is told, and the letter to write after it; the last says whether it is the first line of a file
-unfoldable pub advised : List (String × ℕ × ℕ × Bool)
+unfoldable pub advised : List (String × ℕ × Option ℕ × Bool)
 advised =
     -- nothing is refused, and the sentences of 4, 5 and 6
-    ("E0001234", 0, 0, false)
-    ∷ ("I0001234", 4, 0, false)
-    ∷ ("A1933313", 5, 0, false)
-    ∷ ("D0000002", 6, 0, false)
+    ("E0001234", 0, None, false)
+    ∷ ("I0001234", 4, None, false)
+    ∷ ("A1933313", 5, None, false)
+    ∷ ("D0000002", 6, None, false)
     -- a digit before the letter
-    ∷ ("1284Y0001234", 19, 0, false)
-    ∷ ("4A0001234", 20, 0, false)
+    ∷ ("1284Y0001234", 19, None, false)
+    ∷ ("4A0001234", 20, None, false)
     -- texts that stop too soon
-    ∷ ("", 40, 0, false)
-    ∷ ("077", 41, 0, false)
-    ∷ ("E1234", 42, 0, false)
-    ∷ ("A2101249", 43, 0, false)
+    ∷ ("", 40, None, false)
+    ∷ ("077", 41, None, false)
+    ∷ ("E1234", 42, None, false)
+    ∷ ("A2101249", 43, None, false)
     -- a digit too many
-    ∷ ("A0000001234", 44, 0, false)
-    ∷ ("0774YA0021012490", 52, 0, false)
-    ∷ ("0774Y00021012490", 45, 0, false)
+    ∷ ("A0000001234", 44, None, false)
+    ∷ ("0774YA0021012490", 52, None, false)
+    ∷ ("0774Y00021012490", 45, None, false)
     -- blanks
-    ∷ ("E0001234  ", 47, 0, false)
-    ∷ ("E0001234 x", 48, 0, false)
-    ∷ ("E1234 ", 48, 0, false)
+    ∷ ("E0001234  ", 47, None, false)
+    ∷ ("E0001234 x", 48, None, false)
+    ∷ ("E1234 ", 48, None, false)
     -- letters: small ones, an O, and one after the wrong digits
-    ∷ ("e0001234", 49, code "E", false)
-    ∷ ("077e0001234", 52, 0, false)
-    ∷ ("E00O1234", 50, 0, false)
-    ∷ ("00A0001234", 51, 0, false)
-    ∷ ("EE001234", 52, 0, false)
+    ∷ ("e0001234", 49, Some (code "E"), false)
+    ∷ ("077e0001234", 52, None, false)
+    ∷ ("E00O1234", 50, None, false)
+    ∷ ("00A0001234", 51, None, false)
+    ∷ ("EE001234", 52, None, false)
     ∷ []
 
 -- the definitions give these
 pub advice_examples :
-    map {A = String × ℕ × ℕ × Bool} {B = ℕ × ℕ} (λ row. ((advice_of row.3 (bytes_of row.0)).row, (advice_of row.3 (bytes_of row.0)).letter)) advised
-    ≡ map {A = String × ℕ × ℕ × Bool} {B = ℕ × ℕ} (λ row. (row.1, row.2)) advised
+    map {A = String × ℕ × Option ℕ × Bool} {B = ℕ × Option ℕ} (λ row. ((advice_of row.3 (bytes_of row.0)).row, (advice_of row.3 (bytes_of row.0)).letter)) advised
+    ≡ map {A = String × ℕ × Option ℕ × Bool} {B = ℕ × Option ℕ} (λ row. (row.1, row.2)) advised
 unfolding advised form_of follow step_of all first_that fault_at wrong_advice asked class_of class_in rows
 advice_examples = refl
 

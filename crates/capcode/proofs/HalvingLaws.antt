@@ -1,4 +1,5 @@
 -- Halving a table of rows that ascend and are disjoint finds what walking it from the top finds (document 02, item 4).
+use Rattle.std.specs.Prelude.{Result, Ok, Err}
 use Prim.Native.Nat.{ℕ, zero, suc, ◌≤◌, ◌<◌}
 use mathlib.Core.Bool.{Bool, true, false, ◌&&◌, and-eq-true_iff}
 use mathlib.Core.Path.{◌≡◌, refl, ap, sym, ◌∙◌}
@@ -13,9 +14,10 @@ use Rattle.refusal.specs.declared.Refusal.TheVariants.{Range}
 use Rattle.capcode.specs.declared.Class.TheVariants.{Short, InformationService, Network, Operator, Set12}
 use Rattle.capcode.specs.declared.Class.TheVariants.{Set23InformationService}
 use Rattle.capcode.specs.declared.ranges.Row.{Row}
-use Rattle.capcode.specs.declared.Classed.{Classed}
 use Rattle.capcode.specs.Ranges.{rows, holds, class_in, class_of}
 use Rattle.capcode.specs.Halving.{ascend_from, ascending, half, look_at, halved_in}
+use Rattle.capcode.specs.declared.Class.{Class}
+use Rattle.refusal.specs.declared.Refusal.{Refusal}
 
 -- what rows that ascend say of the first of them and of the others
 ascend_parts : (least : ℕ) (r : Row) (rs : List Row) → ascend_from least (r ∷ rs) ≡ true
@@ -61,7 +63,7 @@ module _ (address : ℕ) where
   row_before r since after = rw (le-leb r.from address since, lt-leb address r.to after)
 
   -- rows that all begin after an address have no class for it
-  none_after : (least : ℕ) (rs : List Row) → ascend_from least rs ≡ true → address < least → class_in rs address ≡ Classed.Refused Range
+  none_after : (least : ℕ) (rs : List Row) → ascend_from least rs ≡ true → address < least → class_in rs address ≡ Err Range
   unfolding class_in
   none_after least [] e before = refl
   none_after least (r ∷ rs) e before =
@@ -78,7 +80,7 @@ module _ (address : ℕ) where
         rw (row_after middle before) (sym (none_after (suc middle.to) upper parts.2 (omega arith)))
     sought_below least (r ∷ lower) e before =
         ap
-        (pick (holds r address) (Classed.In r.class))
+        (pick (holds r address) (Ok r.class))
         (sought_below (suc r.to) lower (ascend_parts least r (lower ++ middle ∷ upper) e).2 before)
 
     -- one at a row's first or later has the class that this row and those above give it
@@ -93,14 +95,14 @@ module _ (address : ℕ) where
 
     -- and then the row's own end decides between it and those above
     here_or_above : (until : Bool) → leb address middle.to ≡ until → middle.from ≤ address
-        → pick until (Classed.In middle.class) (class_in upper address) ≡ class_in (middle ∷ upper) address
+        → pick until (Ok middle.class) (class_in upper address) ≡ class_in (middle ∷ upper) address
     unfolding class_in
     here_or_above true e since = rw (le-leb middle.from address since, e)
     here_or_above false e since = rw (row_before middle since (leb-false address middle.to e))
 
     -- by whether the address comes before the row
     look_by : (least : ℕ) (lower : List Row) (before : Bool) → ascend_from least (lower ++ middle ∷ upper) ≡ true → ltb address middle.from ≡ before
-        → pick before (class_in lower address) (pick (leb address middle.to) (Classed.In middle.class) (class_in upper address))
+        → pick before (class_in lower address) (pick (leb address middle.to) (Ok middle.class) (class_in upper address))
         ≡ class_in (lower ++ middle ∷ upper) address
     look_by least lower true e b = sought_below least lower e (ltb-true address middle.from b)
     look_by least lower false e b =
@@ -125,7 +127,7 @@ halves (suc halvings) least (r ∷ rs) address e =
     let cut : r ∷ rs ≡ lower ++ middle ∷ upper = split_at (r ∷ rs) place r (omega arith) in
     let ascends : ascend_from least (lower ++ middle ∷ upper) ≡ true = rw (sym cut) e in
     ap
-    (λ (below : Classed). look_at middle address below (halved_in halvings upper address))
+    (λ (below : Result Class Refusal). look_at middle address below (halved_in halvings upper address))
     (halves halvings least lower address (lower_ascend least lower middle upper ascends))
     ∙ ap
     (look_at middle address (class_in lower address))
@@ -150,15 +152,15 @@ halved_twice address = halving_finds 2 rows address rows_ascend
 
 -- what halving gives the ends of the table and of its middle row, the first address of its second row, and addresses of no row
 pub halving_worked :
-    map {A = ℕ} {B = Classed} (halved_in 2 rows) (1 ∷ 2009088 ∷ 2101249 ∷ 1075843072 ∷ 4291000000 ∷ 0 ∷ 1933313 ∷ 4291000001 ∷ [])
-    ≡ Classed.In Short
-    ∷ Classed.In InformationService
-    ∷ Classed.In Set12
-    ∷ Classed.In Set12
-    ∷ Classed.In Set23InformationService
-    ∷ Classed.Refused Range
-    ∷ Classed.Refused Range
-    ∷ Classed.Refused Range
+    map {A = ℕ} {B = Result Class Refusal} (halved_in 2 rows) (1 ∷ 2009088 ∷ 2101249 ∷ 1075843072 ∷ 4291000000 ∷ 0 ∷ 1933313 ∷ 4291000001 ∷ [])
+    ≡ Ok Short
+    ∷ Ok InformationService
+    ∷ Ok Set12
+    ∷ Ok Set12
+    ∷ Ok Set23InformationService
+    ∷ Err Range
+    ∷ Err Range
+    ∷ Err Range
     ∷ []
 unfolding halved_in class_in rows
 halving_worked = refl
@@ -175,7 +177,7 @@ nested =
     ∷ []
 
 -- the premise of `halving_finds` is needed: where rows do not ascend, or are not disjoint, halving may find another class or none
-pub ascent_needed : (halved_in 1 descending 2 ≡ Classed.Refused Range) × (class_in descending 2 ≡ Classed.In Network)
-    × (halved_in 1 nested 4 ≡ Classed.In Network) × (class_in nested 4 ≡ Classed.In Short)
+pub ascent_needed : (halved_in 1 descending 2 ≡ Err Range) × (class_in descending 2 ≡ Ok Network)
+    × (halved_in 1 nested 4 ≡ Ok Network) × (class_in nested 4 ≡ Ok Short)
 unfolding halved_in class_in descending nested
 ascent_needed = (refl, refl, refl, refl)

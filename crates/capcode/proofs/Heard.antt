@@ -1,4 +1,5 @@
 -- A text in the form is the text of the CAPCODE that it says.
+use Rattle.std.specs.Prelude.{Option, Some, None, Ok, Err}
 use Prim.Native.Nat.{ℕ, suc, ◌+◌, ◌-◌, ◌*◌, ◌/◌, ◌%◌, ◌≤◌}
 use mathlib.Core.Bool.{Bool, true, false, not}
 use mathlib.Core.Path.{◌≡◌, refl, sym, ap, ◌∙◌, subst}
@@ -12,8 +13,6 @@ use borrow.Author.Tests.{eqb-false, eq-eqb, ne_eqb, not-true}
 use Rattle.laws.specs.Choice.{pick}
 use Rattle.capcode.specs.declared.Capcode.{Capcode}
 use Rattle.capcode.specs.declared.reading.Reading.{Reading}
-use Rattle.capcode.specs.declared.reading.Step.{Step}
-use Rattle.capcode.specs.declared.reading.Form.{Form}
 use Rattle.capcode.specs.Text.{digits, text_of, Sayable}
 use Rattle.capcode.specs.Reads.{letter_goes_on, step_of, Course, going, stopped, onward, follow, blank, is_whole, said_by, end_of, form_of}
 use Rattle.capcode.specs.Underway.{Sound}
@@ -52,13 +51,13 @@ bytes_by s t byte (by_address digit some goes_on_lem same) =
     (sym (append_assoc (digits s.before s.number) (s.letter ∷ digits s.after s.address) (byte ∷ [])))
 
 -- a reading that comes to the end of a text has taken it
-heard_by : (text : List ℕ) (byte i j : ℕ) (s t : Reading) (next : Step) → step_of s byte ≡ next → Sound s → follow (onward i next) text ≡ going j t
+heard_by : (text : List ℕ) (byte i j : ℕ) (s t : Reading) (next : Option Reading) → step_of s byte ≡ next → Sound s → follow (onward i next) text ≡ going j t
     → ((u : Reading) → Sound u → follow (going (suc i) u) text ≡ going j t → Sound t × (bytes t ≡ bytes u ++ text))
     → Sound t × (bytes t ≡ bytes s ++ byte ∷ text)
-heard_by text byte i j s t (Step.On u) step sound e rest =
+heard_by text byte i j s t (Some u) step sound e rest =
     let r = rest u (sound_step s u byte sound step) e in
     (r.0, r.1 ∙ ap (λ (b : List ℕ). b ++ text) (bytes_by s u byte (stepped s u byte step)) ∙ append_snoc (bytes s) byte text)
-heard_by text byte i j s t Step.Stop step sound e rest = absurd (let no : ◌≡◌ {A = ℕ} 0 1 = cc (sym (follow_stopped i text) ∙ e) in omega arith)
+heard_by text byte i j s t None step sound e rest = absurd (let no : ◌≡◌ {A = ℕ} 0 1 = cc (sym (follow_stopped i text) ∙ e) in omega arith)
 
 pub heard : (text : List ℕ) (i j : ℕ) (s t : Reading) → Sound s → follow (going i s) text ≡ going j t → Sound t × (bytes t ≡ bytes s ++ text)
 unfolding follow
@@ -75,11 +74,11 @@ record Ending (course : Course) (c : Capcode) : Type 0 where
   pub whole : is_whole reading ≡ true
   pub says : said_by reading ≡ c
 
-ending_by : (place : ℕ) (c d : Capcode) (whole : Bool) → pick whole (Form.Says d) (Form.Wrong place) ≡ Form.Says c → (whole ≡ true) × (d ≡ c)
+ending_by : (place : ℕ) (c d : Capcode) (whole : Bool) → pick whole (Ok d) (Err place) ≡ Ok c → (whole ≡ true) × (d ≡ c)
 ending_by place c d true e = (refl, cc)
 ending_by place c d false e = absurd (let no : ◌≡◌ {A = ℕ} 0 1 = cc in omega arith)
 
-ending : (course : Course) (c : Capcode) → end_of course ≡ Form.Says c → Ending course c
+ending : (course : Course) (c : Capcode) → end_of course ≡ Ok c → Ending course c
 ending (going place s) c e =
     let r = ending_by place c (said_by s) (is_whole s) e in
     record { place = place; reading = s; here = refl; whole = r.0; says = r.1 }
@@ -108,7 +107,7 @@ said s sound whole =
     )
 
 -- a text in the form is the text of what it says, which is sayable
-pub printed_of_read : (text : List ℕ) (c : Capcode) → form_of text ≡ Form.Says c → (text_of c ≡ text) × Sayable c
+pub printed_of_read : (text : List ℕ) (c : Capcode) → form_of text ≡ Ok c → (text_of c ≡ text) × Sayable c
 unfolding form_of digits
 printed_of_read text c e =
     let end = ending (follow (going 0 blank) text) c e in

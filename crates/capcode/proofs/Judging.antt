@@ -1,20 +1,19 @@
 -- The questions asked of every CAPCODE, by the answers to their tests.
 use Prim.Native.Nat.{ℕ, ◌≤◌}
 use mathlib.Core.Bool.{Bool, true, false, not, ◌||◌}
-use mathlib.Core.Path.{◌≡◌, sym, ap, ◌∙◌}
-use mathlib.Core.List.{List, []}
+use mathlib.Core.Path.{◌≡◌, sym}
+use mathlib.Core.List.{List}
 use native.Mathlib.Omega.{arith}
-use lib.Dec.{leb, ltb}
-use borrow.Author.Tests.{leb-true, ltb-false, not-false}
+use lib.Dec.{ltb}
+use borrow.Author.Tests.{leb-true, not-false}
 use Rattle.refusal.specs.declared.Refusal.{Refusal}
 use Rattle.refusal.specs.declared.Refusal.TheVariants.{Text, «Type», Range, Offset, Packet}
 use Rattle.refusal.specs.Told.{Told, refused, given, ask}
 use Rattle.refusal.proofs.Laws.{given_not_refused, passed_given}
 use Rattle.capcode.specs.Ranges.{accepted}
 use Rattle.capcode.specs.declared.Capcode.{Capcode}
-use Rattle.capcode.specs.declared.assigning.Judged.{Judged}
-use Rattle.capcode.specs.Assigned.{Fine, standard, framed, all_phase, offset_of, fields_fit, asked, told_judged}
-use Rattle.laws.proofs.Tests.{first_of, second_of, other_of}
+use Rattle.capcode.specs.Assigned.{Fine, standard, framed, all_phase, offset_of, fields_fit, asked}
+use Rattle.laws.proofs.Tests.{first_of}
 
 -- the answer, with each test's value in its place
 pub asked_by : (text type range offset packet : Bool) (c : Capcode) (rest : Told)
@@ -59,30 +58,6 @@ refused_asked c values other r e =
 -- of a fine CAPCODE the answer is what follows the questions
 pub fine_asked : (c : Capcode) (rest : Told) → Fine c → rest ≡ asked c rest
 fine_asked c rest f = asked_by false false false false false c rest f.text f.type f.range f.offset f.packet
-
--- a judgement, and what is known of it in the arm of a match
-pub judged_tells : (c : Capcode) (j k : Judged) → ((rest : Told) → told_judged j rest ≡ asked c rest) → j ≡ k → (rest : Told) → told_judged k rest ≡ asked c rest
-judged_tells c j k tells e rest = ap (λ (x : Judged). told_judged x rest) (sym e) ∙ tells rest
-
--- a CAPCODE judged fine is fine
-pub judged_fine : (c : Capcode) → ((rest : Told) → rest ≡ asked c rest) → Fine c
-judged_fine c tells = (given_fine c (given []) [] (sym (tells (given [])))).0
-
--- a letter A to L is 65 or more
-pub standard_from : (letter : ℕ) → standard letter ≡ true → 65 ≤ letter
-standard_from letter e = leb-true 65 letter (first_of _ _ e)
-
--- a CAPCODE that is fine and whose letter is not A to L has a letter U to Z, which is 85 or more
-pub framed_from : (c : Capcode) → Fine c → standard c.letter ≡ false → 85 ≤ c.letter
-framed_from c f e = leb-true 85 c.letter (first_of _ _ (other_of _ _ (not-false _ f.text) e))
-
--- a CAPCODE that is fine and whose letter is not A to L has a frame of 127 at most
-pub framed_upto : (c : Capcode) → Fine c → standard c.letter ≡ false → c.frame ≤ 127
-framed_upto c f e = leb-true c.frame 127 (rw e at (second_of (leb c.collapse 5) _ (not-false _ f.packet)))
-
--- the offset of a CAPCODE that is fine can be taken off its address
-pub offset_within : (c : Capcode) → Fine c → offset_of c.letter ≤ c.address
-offset_within c f = ltb-false _ _ f.offset
 
 -- the collapse of a CAPCODE that is fine is one digit
 pub fine_collapse : (c : Capcode) → Fine c → c.collapse ≤ 9

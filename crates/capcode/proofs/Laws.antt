@@ -1,4 +1,5 @@
 -- What the definitions promise: a text is in the form exactly if it is the text of a CAPCODE, an answer's telling is its own.
+use Rattle.std.specs.Prelude.{Result, Ok, Err}
 use Prim.Native.Nat.{ℕ, ◌^◌, ◌≤◌, ◌<◌}
 use mathlib.Core.Bool.{Bool, true, false, ◌&&◌}
 use mathlib.Core.Path.{◌≡◌, refl, sym, ap, ◌∙◌}
@@ -12,10 +13,10 @@ use Rattle.laws.proofs.Tests.{first_of, second_of, other_of, neither}
 use Rattle.refusal.specs.Told.{Told}
 use Rattle.refusal.proofs.Laws.{told_values, given_not_told, given_not_refused, refused_tells, refused_at_tells, placed_not_refused}
 use Rattle.capcode.proofs.Bounds.{accepted_below}
+use Rattle.refusal.specs.declared.Refusal.{Refusal}
+use Rattle.capcode.specs.declared.Assignment.{Assignment}
+use Rattle.capcode.specs.declared.Fault.{Fault}
 use Rattle.capcode.specs.declared.Capcode.{Capcode}
-use Rattle.capcode.specs.declared.AssignAnswer.{AssignAnswer}
-use Rattle.capcode.specs.declared.ReadAnswer.{ReadAnswer}
-use Rattle.capcode.specs.declared.reading.Form.{Form}
 use Rattle.capcode.specs.Assigned.{Fine, standard, framed, any_phase, fields_fit, phase_of, base_of, told_assign}
 use Rattle.capcode.specs.Text.{head_width, width_of, text_of, Sayable}
 use Rattle.capcode.specs.Reads.{form_of, told_read}
@@ -31,11 +32,11 @@ fine_sayable c fine =
 
 -- a text is in the form exactly if it is the text of a CAPCODE that a text could have
 pub form_exactly : (text : List ℕ) (c : Capcode)
-    → (form_of text ≡ Form.Says c → (text_of c ≡ text) × Sayable c) × ((text_of c ≡ text) × Sayable c → form_of text ≡ Form.Says c)
+    → (form_of text ≡ Ok c → (text_of c ≡ text) × Sayable c) × ((text_of c ≡ text) × Sayable c → form_of text ≡ Ok c)
 form_exactly text c = (printed_of_read text c, λ both. ap form_of (sym both.0) ∙ read_of_printed c both.1)
 
 -- two different texts never say the same CAPCODE
-pub one_text : (text other : List ℕ) (c : Capcode) → form_of text ≡ Form.Says c → form_of other ≡ Form.Says c → text ≡ other
+pub one_text : (text other : List ℕ) (c : Capcode) → form_of text ≡ Ok c → form_of other ≡ Ok c → text ≡ other
 one_text text other c e f = sym (printed_of_read text c e).0 ∙ (printed_of_read other c f).0
 
 -- a choice between two numbers is at most what both are
@@ -57,7 +58,7 @@ text_upto c sayable =
     omega (arith, length_text c (collapse_digit c sayable))
 
 -- a text that says a CAPCODE has fifteen bytes at most
-pub said_length : (text : List ℕ) (c : Capcode) → form_of text ≡ Form.Says c → length text ≤ 15
+pub said_length : (text : List ℕ) (c : Capcode) → form_of text ≡ Ok c → length text ≤ 15
 said_length text c e =
     let said = printed_of_read text c e in
     omega (arith, ap length said.0, text_upto c said.1)
@@ -67,32 +68,35 @@ abbrev value_at : Told → ℕ → ℕ
 value_at t n = get_or (told_values t) n 0
 
 -- one telling, one answer to `assign`
-pub assign_tells : (a b : AssignAnswer) → told_assign a ≡ told_assign b → a ≡ b
-assign_tells (AssignAnswer.Assigned a) (AssignAnswer.Assigned b) e =
-    ap (λ (t : Told). AssignAnswer.Assigned (record { phase = value_at t 0; frame = value_at t 1 })) e
-assign_tells (AssignAnswer.Assigned a) (AssignAnswer.Refused r) e = absurd (given_not_refused _ r e)
-assign_tells (AssignAnswer.Refused r) (AssignAnswer.Assigned b) e = absurd (given_not_refused _ r (sym e))
-assign_tells (AssignAnswer.Refused r) (AssignAnswer.Refused q) e = ap AssignAnswer.Refused (refused_tells r q e)
+pub assign_tells : (a b : Result Assignment Refusal) → told_assign a ≡ told_assign b → a ≡ b
+assign_tells (Ok a) (Ok b) e =
+    ap (λ (t : Told). Ok (record { phase = value_at t 0; frame = value_at t 1 })) e
+assign_tells (Ok a) (Err r) e = absurd (given_not_refused _ r e)
+assign_tells (Err r) (Ok b) e = absurd (given_not_refused _ r (sym e))
+assign_tells (Err r) (Err q) e = ap Err (refused_tells r q e)
 
 -- one telling, one answer to `read`
-pub read_tells : (a b : ReadAnswer) → told_read a ≡ told_read b → a ≡ b
-read_tells (ReadAnswer.Whole c a) (ReadAnswer.Whole d b) e =
-    ap (λ (t : Told). ReadAnswer.Whole (record {
-      letter = value_at t 0;
-      frame = value_at t 1;
-      collapse = value_at t 2;
-      address = value_at t 3;
-    }) (record { phase = value_at t 4; frame = value_at t 5 })) e
-read_tells (ReadAnswer.Whole c a) (ReadAnswer.Wrong r n) e = absurd (given_not_told _ _ r e)
-read_tells (ReadAnswer.Whole c a) (ReadAnswer.Refused r) e = absurd (given_not_refused _ r e)
-read_tells (ReadAnswer.Wrong r n) (ReadAnswer.Whole d b) e = absurd (given_not_told _ _ r (sym e))
-read_tells (ReadAnswer.Wrong r n) (ReadAnswer.Wrong q m) e =
+pub read_tells : (a b : Result (Capcode × Assignment) Fault) → told_read a ≡ told_read b → a ≡ b
+read_tells (Ok (c, a)) (Ok (d, b)) e =
+    ap (λ (t : Told). Ok (
+      record {
+        letter = value_at t 0;
+        frame = value_at t 1;
+        collapse = value_at t 2;
+        address = value_at t 3;
+      },
+      record { phase = value_at t 4; frame = value_at t 5 },
+    )) e
+read_tells (Ok (c, a)) (Err (Fault.Wrong r n)) e = absurd (given_not_told _ _ r e)
+read_tells (Ok (c, a)) (Err (Fault.Refused r)) e = absurd (given_not_refused _ r e)
+read_tells (Err (Fault.Wrong r n)) (Ok (d, b)) e = absurd (given_not_told _ _ r (sym e))
+read_tells (Err (Fault.Wrong r n)) (Err (Fault.Wrong q m)) e =
     let same = refused_at_tells r q n m e in
     rw (same.0, same.1)
-read_tells (ReadAnswer.Wrong r n) (ReadAnswer.Refused q) e = absurd (placed_not_refused r q n e)
-read_tells (ReadAnswer.Refused r) (ReadAnswer.Whole d b) e = absurd (given_not_refused _ r (sym e))
-read_tells (ReadAnswer.Refused r) (ReadAnswer.Wrong q m) e = absurd (placed_not_refused q r m (sym e))
-read_tells (ReadAnswer.Refused r) (ReadAnswer.Refused q) e = ap ReadAnswer.Refused (refused_tells r q e)
+read_tells (Err (Fault.Wrong r n)) (Err (Fault.Refused q)) e = absurd (placed_not_refused r q n e)
+read_tells (Err (Fault.Refused r)) (Ok (d, b)) e = absurd (given_not_refused _ r (sym e))
+read_tells (Err (Fault.Refused r)) (Err (Fault.Wrong q m)) e = absurd (placed_not_refused q r m (sym e))
+read_tells (Err (Fault.Refused r)) (Err (Fault.Refused q)) e = ap (λ (x : Refusal). Err (Fault.Refused x)) (refused_tells r q e)
 
 -- the base frame of letters A to L is one of the 128 of a cycle, and so is the frame of the others where no field is too large
 base_by : (c : Capcode) (by-rule : Bool) → standard c.letter ≡ by-rule → fields_fit c ≡ true → base_of c ≤ 127

@@ -1,5 +1,6 @@
 pub mod AdviceLaws
 pub mod Bounds
+pub mod Chains
 pub mod Course
 pub mod Examples
 pub mod Faults

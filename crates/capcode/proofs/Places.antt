@@ -1,4 +1,5 @@
 -- Where a text goes wrong: the first place at which no text in the form could go on.
+use Rattle.std.specs.Prelude.{Option, Some, None, Result, Ok, Err}
 use Prim.Native.Char.{code}
 use Prim.Native.Nat.{ℕ, zero, suc, ◌+◌, ◌-◌, ◌*◌, ◌%◌, ◌≤◌, ◌<◌}
 use mathlib.Core.Bool.{Bool, true, false, ◌&&◌, ◌||◌}
@@ -17,8 +18,6 @@ use Rattle.refusal.specs.declared.Refusal.TheVariants.{LeadingFour}
 use Rattle.refusal.specs.Told.{refused_at}
 use Rattle.capcode.specs.declared.Capcode.{Capcode}
 use Rattle.capcode.specs.declared.reading.Reading.{Reading}
-use Rattle.capcode.specs.declared.reading.Step.{Step}
-use Rattle.capcode.specs.declared.reading.Form.{Form}
 use Rattle.capcode.specs.Reads.{is_digit, head_goes_on, letter_goes_on, address_goes_on, with_head, with_letter}
 use Rattle.capcode.specs.Reads.{with_address, address_digit, step_of, Course, going, stopped, onward, follow}
 use Rattle.capcode.specs.Reads.{blank, is_whole, said_by, end_of, form_of, fault_at, read_by, read_of}
@@ -34,13 +33,13 @@ use Rattle.capcode.proofs.Laws.{text_upto}
 
 -- some bytes end the reading in the form
 abbrev Completes : Reading → Type 0
-Completes s = (rest : List ℕ) × (c : Capcode) × ((i : ℕ) → end_of (follow (going i s) rest) ≡ Form.Says c)
+Completes s = (rest : List ℕ) × (c : Capcode) × ((i : ℕ) → end_of (follow (going i s) rest) ≡ Ok c)
 
 whole_completes : (s : Reading) → is_whole s ≡ true → Completes s
 unfolding follow
 whole_completes s whole = ([], said_by s, λ i. rw whole)
 
-step_completes : (s t : Reading) (byte : ℕ) → step_of s byte ≡ Step.On t → Completes t → Completes s
+step_completes : (s t : Reading) (byte : ℕ) → step_of s byte ≡ Some t → Completes t → Completes s
 unfolding follow
 step_completes s t byte step rest = (byte ∷ rest.0, rest.1, λ i. rw step (rest.2 (suc i)))
 
@@ -141,7 +140,7 @@ sound_completes s false e sound = complete_after s s.after (eqb-false s.letter 0
 
 -- a text that could go on: some bytes after it make it a text in the form
 abbrev pub CouldGoOn : List ℕ → Type 0
-CouldGoOn text = (rest : List ℕ) × (c : Capcode) × (form_of (text ++ rest) ≡ Form.Says c)
+CouldGoOn text = (rest : List ℕ) × (c : Capcode) × (form_of (text ++ rest) ≡ Ok c)
 
 -- a text whose reading is under way could go on
 going_could : (text : List ℕ) (i : ℕ) (s : Reading) → follow (going 0 blank) text ≡ going i s → CouldGoOn text
@@ -151,7 +150,7 @@ going_could text i s e =
     (k.0, k.1, rw (follow_append, e) (k.2 i))
 
 -- one whose reading has stopped is wrong at that place, whatever follows
-stopped_could_not : (text : List ℕ) (place : ℕ) → follow (going 0 blank) text ≡ stopped place → (rest : List ℕ) → form_of (text ++ rest) ≡ Form.Wrong place
+stopped_could_not : (text : List ℕ) (place : ℕ) → follow (going 0 blank) text ≡ stopped place → (rest : List ℕ) → form_of (text ++ rest) ≡ Err place
 unfolding form_of
 stopped_could_not text place e rest = rw (follow_append, e, follow_stopped)
 
@@ -161,11 +160,11 @@ unfolding follow
 going_end [] j i s t e = let same : j ≡ i = cc in omega arith
 going_end (byte ∷ text) j i s t e = by_step (step_of s byte) e (λ u. going_end text (suc j) i u t)
   where
-    by_step : (step : Step) → follow (onward j step) text ≡ going i t
+    by_step : (step : Option Reading) → follow (onward j step) text ≡ going i t
         → ((u : Reading) → follow (going (suc j) u) text ≡ going i t → i ≡ suc j + length text)
         → i ≡ j + suc (length text)
-    by_step (Step.On u) f later = omega (arith, later u f)
-    by_step Step.Stop f later = absurd (let no : ◌≡◌ {A = ℕ} 0 1 = cc (sym (follow_stopped j text) ∙ f) in omega arith)
+    by_step (Some u) f later = omega (arith, later u f)
+    by_step None f later = absurd (let no : ◌≡◌ {A = ℕ} 0 1 = cc (sym (follow_stopped j text) ∙ f) in omega arith)
 
 -- a reading that stops at a place: up to there it was under way, and with the byte there it stops
 record Stopping (j : ℕ) (s : Reading) (text : List ℕ) (place : ℕ) : Type 0 where
@@ -181,20 +180,20 @@ unfolding follow
 stopping [] j place s e = absurd (let no : ◌≡◌ {A = ℕ} 0 1 = cc in omega arith)
 stopping (byte ∷ text) j place s e = by_step (step_of s byte) refl e (λ u. stopping text (suc j) place u)
   where
-    by_step : (step : Step) → step_of s byte ≡ step → follow (onward j step) text ≡ stopped place
+    by_step : (step : Option Reading) → step_of s byte ≡ step → follow (onward j step) text ≡ stopped place
         → ((u : Reading) → follow (going (suc j) u) text ≡ stopped place → Stopping (suc j) u text place)
         → Stopping j s (byte ∷ text) place
-    by_step (Step.On u) h f later =
+    by_step (Some u) h f later =
         let r = later u f in
         record {
           past = suc r.past;
           at = omega (arith, r.at);
           within = omega (arith, r.within);
           reading = r.reading;
-          before = ap (λ (next : Step). follow (onward j next) (take r.past text)) h ∙ r.before;
-          there = ap (λ (next : Step). follow (onward j next) (take (suc r.past) text)) h ∙ r.there;
+          before = ap (λ (next : Option Reading). follow (onward j next) (take r.past text)) h ∙ r.before;
+          there = ap (λ (next : Option Reading). follow (onward j next) (take (suc r.past) text)) h ∙ r.there;
         }
-    by_step Step.Stop h f later =
+    by_step None h f later =
         let here : j ≡ place = cc (sym (follow_stopped j text) ∙ f) in
         record { past = 0; at = omega arith; within = omega arith; reading = s; before = ap (λ (n : ℕ). going n s) here; there = rw h (ap stopped here) }
 
@@ -203,15 +202,15 @@ stopping (byte ∷ text) j place s e = by_step (step_of s byte) refl e (λ u. st
 pub record FirstWrong (text : List ℕ) (place : ℕ) : Type 0 where
   pub within : place ≤ length text
   pub before : CouldGoOn (take place text)
-  pub there : place < length text → (rest : List ℕ) → form_of (take (suc place) text ++ rest) ≡ Form.Wrong place
+  pub there : place < length text → (rest : List ℕ) → form_of (take (suc place) text ++ rest) ≡ Err place
 
 -- a text that is wrong is wrong at that place
-pub first_wrong : (text : List ℕ) (place : ℕ) → form_of text ≡ Form.Wrong place → FirstWrong text place
+pub first_wrong : (text : List ℕ) (place : ℕ) → form_of text ≡ Err place → FirstWrong text place
 unfolding form_of
 first_wrong text place e = by_course (follow (going 0 blank) text) refl e
   where
     at_end : (i : ℕ) (s : Reading) (whole : Bool) → follow (going 0 blank) text ≡ going i s
-        → pick whole (Form.Says (said_by s)) (Form.Wrong i) ≡ Form.Wrong place → FirstWrong text place
+        → pick whole (Ok (said_by s)) (Err i) ≡ Err place → FirstWrong text place
     at_end i s true f g = absurd (let no : ◌≡◌ {A = ℕ} 0 1 = cc in omega arith)
     at_end i s false f g =
         let here : i ≡ place = cc in
@@ -219,7 +218,7 @@ first_wrong text place e = by_course (follow (going 0 blank) text) refl e
         let all : take place text ≡ text = rw end (take-length text) in
         record { within = omega arith; before = rw all (going_could text i s f); there = λ short. absurd (omega arith) }
 
-    by_course : (course : Course) → follow (going 0 blank) text ≡ course → end_of course ≡ Form.Wrong place → FirstWrong text place
+    by_course : (course : Course) → follow (going 0 blank) text ≡ course → end_of course ≡ Err place → FirstWrong text place
     by_course (going i s) f g = at_end i s (is_whole s) f g
     by_course (stopped i) f g =
         let here : i ≡ place = cc in
@@ -255,9 +254,9 @@ could_begins text could =
     (could.0, (could.1, said.0, said.1))
 
 -- a text that is wrong is no correct one
-wrong_not_correct : (text : List ℕ) (place : ℕ) → form_of text ≡ Form.Wrong place → Correct text → ⊥
+wrong_not_correct : (text : List ℕ) (place : ℕ) → form_of text ≡ Err place → Correct text → ⊥
 wrong_not_correct text place e correct =
-    let says : form_of text ≡ Form.Says correct.0 = ap form_of (sym correct.1) ∙ read_of_printed correct.0 correct.2 in
+    let says : form_of text ≡ Ok correct.0 = ap form_of (sym correct.1) ∙ read_of_printed correct.0 correct.2 in
     let no : ◌≡◌ {A = ℕ} 0 1 = cc in
     absurd (omega arith)
 
@@ -272,7 +271,7 @@ past_not_begins text place n first within past begins =
     wrong_not_correct (take n text ++ begins.0) place (ap form_of (sym parts) ∙ first.there (omega arith) rest) begins.1
 
 -- the place where a text is wrong is that of the sentence
-wrong_longest : (text : List ℕ) (place : ℕ) → form_of text ≡ Form.Wrong place → Longest text place
+wrong_longest : (text : List ℕ) (place : ℕ) → form_of text ≡ Err place → Longest text place
 wrong_longest text place e =
     let first = first_wrong text place e in
     record {
@@ -287,14 +286,14 @@ longest_one : (text : List ℕ) (n m : ℕ) → Longest text n → Longest text 
 longest_one text n m p q = omega (arith, q.longest n p.within p.begins, p.longest m q.within q.begins)
 
 -- a text is wrong at a place exactly if it is no correct one and the place is that of the sentence
-pub wrong_exactly : (text : List ℕ) (place : ℕ) → (form_of text ≡ Form.Wrong place) ↔ ((Correct text → ⊥) × Longest text place)
+pub wrong_exactly : (text : List ℕ) (place : ℕ) → (form_of text ≡ Err place) ↔ ((Correct text → ⊥) × Longest text place)
 wrong_exactly text place = (λ e. (wrong_not_correct text place e, wrong_longest text place e), by_form (form_of text) refl)
   where
-    by_form : (form : Form) → form_of text ≡ form → (Correct text → ⊥) × Longest text place → form ≡ Form.Wrong place
-    by_form (Form.Says c) e both =
+    by_form : (form : Result Capcode ℕ) → form_of text ≡ form → (Correct text → ⊥) × Longest text place → form ≡ Err place
+    by_form (Ok c) e both =
         let said = printed_of_read text c e in
         absurd (both.0 (c, said.0, said.1))
-    by_form (Form.Wrong n) e both = ap Form.Wrong (longest_one text n place (wrong_longest text n e) both.1)
+    by_form (Err n) e both = ap Err (longest_one text n place (wrong_longest text n e) both.1)
 
 -- a text that is no correct one is refused by the byte at that place, and the place is told
 pub refused_there : (text : List ℕ) (place : ℕ) → (Correct text → ⊥) → Longest text place → read_of text ≡ refused_at (fault_at text place) place
@@ -311,7 +310,7 @@ correct_longest text correct =
     }
 
 -- no place is over 15, since no correct text is longer
-pub place_upto : (text : List ℕ) (place : ℕ) → form_of text ≡ Form.Wrong place → place ≤ 15
+pub place_upto : (text : List ℕ) (place : ℕ) → form_of text ≡ Err place → place ≤ 15
 place_upto text place e =
     let longest = wrong_longest text place e in
     let begins = longest.begins in

@@ -1,4 +1,5 @@
 -- What holds of a reading under way holds at the start and stays so at each byte. The bounds follow.
+use Rattle.std.specs.Prelude.{Some}
 use Prim.Native.Nat.{ℕ, zero, suc, ◌+◌, ◌*◌, ◌/◌, ◌%◌, ◌^◌, ◌≤◌, ◌<◌}
 use mathlib.Core.Bool.{Bool, true, ◌&&◌, ◌||◌}
 use mathlib.Core.Path.{◌≡◌, refl, subst}
@@ -9,7 +10,6 @@ use native.Mathlib.Omega.{arith}
 use lib.Dec.{leb, eqb}
 use borrow.Author.Tests.{leb-true, eqb-true}
 use Rattle.capcode.specs.declared.reading.Reading.{Reading}
-use Rattle.capcode.specs.declared.reading.Step.{Step}
 use Rattle.capcode.specs.Reads.{head_goes_on, address_goes_on, Bounded, step_of, blank}
 use Rattle.capcode.specs.Underway.{Digits, Sound}
 use Rattle.capcode.proofs.Steps.{Stepped, by_head, by_letter, by_address, stepped, digit_small}
@@ -127,5 +127,5 @@ sound_by s t byte sound (by_address digit some goes_on_lem same) =
     })
 
 -- it holds after each byte with which the reading goes on
-pub sound_step : (s t : Reading) (byte : ℕ) → Sound s → step_of s byte ≡ Step.On t → Sound t
+pub sound_step : (s t : Reading) (byte : ℕ) → Sound s → step_of s byte ≡ Some t → Sound t
 sound_step s t byte sound e = sound_by s t byte sound (stepped s t byte e)

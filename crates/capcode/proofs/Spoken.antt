@@ -1,4 +1,5 @@
 -- The text of a sayable CAPCODE is read as that CAPCODE.
+use Rattle.std.specs.Prelude.{Option, Some, Ok}
 use Prim.Native.Nat.{ℕ, zero, suc, ◌+◌, ◌-◌, ◌*◌, ◌/◌, ◌%◌, ◌≤◌}
 use mathlib.Core.Bool.{Bool, true, false}
 use mathlib.Core.Path.{◌≡◌, refl, sym, ap, ◌∙◌}
@@ -9,8 +10,6 @@ use native.Mathlib.Omega.{arith}
 use borrow.Author.Tests.{leb-true, le-leb, lt-leb, ne_eqb}
 use Rattle.capcode.specs.declared.Capcode.{Capcode}
 use Rattle.capcode.specs.declared.reading.Reading.{Reading}
-use Rattle.capcode.specs.declared.reading.Step.{Step}
-use Rattle.capcode.specs.declared.reading.Form.{Form}
 use Rattle.capcode.specs.Text.{digits, width_of, head_of, text_of, Sayable}
 use Rattle.capcode.specs.Reads.{is_digit, head_goes_on, letter_goes_on, address_goes_on, with_letter, step_of, Course}
 use Rattle.capcode.specs.Reads.{going, takes, onward, follow, blank, end_of, form_of}
@@ -33,7 +32,7 @@ digit_byte digit small = rw (le-leb 48 (48 + digit) (omega arith), le-leb (48 + 
 module _ (goes_on : ℕ → ℕ → Bool) (at : ℕ → ℕ → Reading)
     (steps :
     (n number digit : ℕ) → digit ≤ 9 → goes_on (suc n) (number * 10 + digit) ≡ true
-    → step_of (at n number) (48 + digit) ≡ Step.On (at (suc n) (number * 10 + digit)))
+    → step_of (at n number) (48 + digit) ≡ Some (at (suc n) (number * 10 + digit)))
     (place : ℕ) where
   pub taken : (n number : ℕ) → Digits goes_on n number → follow (going place (at 0 0)) (digits n number) ≡ going (place + n) (at n number)
   unfolding digits follow
@@ -53,7 +52,7 @@ address_at s n number = record { before = s.before; number = s.number; letter = 
 
 -- a digit before the letter that goes on
 head_steps : (n number digit : ℕ) → digit ≤ 9 → head_goes_on (suc n) (number * 10 + digit) ≡ true
-    → step_of (head_at n number) (48 + digit) ≡ Step.On (head_at (suc n) (number * 10 + digit))
+    → step_of (head_at n number) (48 + digit) ≡ Some (head_at (suc n) (number * 10 + digit))
 head_steps n number digit small e =
     let back : 48 + digit - 48 ≡ digit = omega arith in
     sym (step_head (head_at n number) (48 + digit) (digit_byte digit small) refl) ∙ rw (back, add-one, e)
@@ -61,7 +60,7 @@ head_steps n number digit small e =
 -- and one after it
 address_steps : (s : Reading) → (s.letter ≡ 0 → ⊥) → (n number digit : ℕ) → digit ≤ 9
     → address_goes_on (suc n) (number * 10 + digit) ≡ true
-    → step_of (address_at s n number) (48 + digit) ≡ Step.On (address_at s (suc n) (number * 10 + digit))
+    → step_of (address_at s n number) (48 + digit) ≡ Some (address_at s (suc n) (number * 10 + digit))
 address_steps s some n number digit small e =
     let back : 48 + digit - 48 ≡ digit = omega arith in
     sym (step_address (address_at s n number) (48 + digit) (digit_byte digit small) some) ∙ rw (back, add-one, e)
@@ -75,7 +74,7 @@ letter_high _ letter (four f) =
     omega arith
 
 -- a letter that may follow is taken
-letter-step : (n number letter : ℕ) → letter_goes_on n letter ≡ true → step_of (head_at n number) letter ≡ Step.On (with_letter (head_at n number) letter)
+letter-step : (n number letter : ℕ) → letter_goes_on n letter ≡ true → step_of (head_at n number) letter ≡ Some (with_letter (head_at n number) letter)
 letter-step n number letter e =
     let high = letter_high n letter (lettered n letter e) in
     let other : is_digit letter ≡ false = rw (le-leb 48 letter (omega arith), lt-leb letter 57 (omega arith)) in
@@ -99,14 +98,14 @@ module _ (c : Capcode) (width number : ℕ) (head : Head c width number) (end : 
       ap (follow (going 0 blank)) head.written ∙ taken head_goes_on head_at head_steps 0 width number head.goes_on_lem in
       follow_append (going 0 blank) (head_of c) (c.letter ∷ rest)
       ∙ ap (λ (x : Course). follow x (c.letter ∷ rest)) first
-      ∙ ap (λ (x : Step). follow (onward (0 + width) x) rest) (letter-step width number c.letter head.letter)
+      ∙ ap (λ (x : Option Reading). follow (onward (0 + width) x) rest) (letter-step width number c.letter head.letter)
       ∙ taken address_goes_on (address_at there) (address_steps there some) (suc (0 + width)) (width_of c.address) c.address end.goes_on_lem
 
   -- it says the CAPCODE
-  pub spoken : form_of (text_of c) ≡ Form.Says c
+  pub spoken : form_of (text_of c) ≡ Ok c
   unfolding form_of
   spoken = ap end_of course ∙ rw (ne_eqb c.letter 0 some, end.whole, head.frame, head.collapse)
 
 -- a text of a sayable CAPCODE says it
-pub read_of_printed : (c : Capcode) → Sayable c → form_of (text_of c) ≡ Form.Says c
+pub read_of_printed : (c : Capcode) → Sayable c → form_of (text_of c) ≡ Ok c
 read_of_printed c sayable = spoken c _ _ (head_of_lem c sayable) (ended c.address sayable.address)

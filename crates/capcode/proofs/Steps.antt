@@ -1,4 +1,5 @@
 -- One byte of a reading, by what the byte is and whether the letter has come.
+use Rattle.std.specs.Prelude.{Some, None}
 use Prim.Native.Nat.{ℕ, ◌+◌, ◌-◌, ◌*◌, ◌≤◌}
 use mathlib.Core.Bool.{Bool, true, false}
 use mathlib.Core.Path.{◌≡◌, refl, ap, ◌∙◌}
@@ -6,7 +7,6 @@ use native.Mathlib.Omega.{arith}
 use lib.Dec.{leb, eqb}
 use borrow.Author.Tests.{eq-eqb, ne_eqb, eqb-true, eqb-false, leb-true}
 use Rattle.capcode.specs.declared.reading.Reading.{Reading}
-use Rattle.capcode.specs.declared.reading.Step.{Step}
 use Rattle.capcode.specs.Reads.{is_digit, head_goes_on, letter_goes_on, address_goes_on, go_on, with_head, with_letter}
 use Rattle.capcode.specs.Reads.{with_address, head_digit, the_letter, address_digit, step_of}
 use Rattle.laws.proofs.Tests.{first_of, second_of}
@@ -28,7 +28,7 @@ module _ (s : Reading) (byte : ℕ) where
   step_address digit some = rw (ne_eqb _ _ some, digit)
 
   -- no digit after the letter
-  pub step_stop : is_digit byte ≡ false → (s.letter ≡ 0 → ⊥) → Step.Stop ≡ step_of s byte
+  pub step_stop : is_digit byte ≡ false → (s.letter ≡ 0 → ⊥) → None ≡ step_of s byte
   unfolding step_of
   step_stop digit some = rw (ne_eqb _ _ some, digit)
 
@@ -41,7 +41,7 @@ pub digit_to : (byte : ℕ) → is_digit byte ≡ true → byte ≤ 57
 digit_to byte e = leb-true byte 57 (second_of (leb 48 byte) _ e)
 
 -- a reading that went on passed its test
-went_on : (test : Bool) (u t : Reading) → go_on test u ≡ Step.On t → (test ≡ true) × (u ≡ t)
+went_on : (test : Bool) (u t : Reading) → go_on test u ≡ Some t → (test ≡ true) × (u ≡ t)
 went_on true u t e = (refl, cc)
 went_on false u t e = absurd (let no : ◌≡◌ {A = ℕ} 0 1 = cc in omega arith)
 
@@ -54,7 +54,7 @@ pub data Stepped (s : Reading) (byte : ℕ) (t : Reading) : Type 0 where
       → address_goes_on (s.after + 1) (s.address * 10 + (byte - 48)) ≡ true → with_address s (byte - 48) ≡ t
       → Stepped s byte t
 
-stepped_by : (s t : Reading) (byte : ℕ) (digit none : Bool) → is_digit byte ≡ digit → eqb s.letter 0 ≡ none → step_of s byte ≡ Step.On t → Stepped s byte t
+stepped_by : (s t : Reading) (byte : ℕ) (digit none : Bool) → is_digit byte ≡ digit → eqb s.letter 0 ≡ none → step_of s byte ≡ Some t → Stepped s byte t
 stepped_by s t byte true true digit none e =
     let before = eqb-true s.letter 0 none in
     let went = went_on (head_goes_on (s.before + 1) (s.number * 10 + (byte - 48))) (with_head s (byte - 48)) t (step_head s byte digit before ∙ e) in
@@ -71,7 +71,7 @@ stepped_by s t byte false false digit none e =
     absurd (let no : ◌≡◌ {A = ℕ} 0 1 = cc (step_stop s byte digit (eqb-false s.letter 0 none) ∙ e) in omega arith)
 
 -- a reading goes on in one of these ways
-pub stepped : (s t : Reading) (byte : ℕ) → step_of s byte ≡ Step.On t → Stepped s byte t
+pub stepped : (s t : Reading) (byte : ℕ) → step_of s byte ≡ Some t → Stepped s byte t
 stepped s t byte = stepped_by s t byte _ _ refl refl
 
 -- each way to go on keeps the letter of a reading that has one
@@ -81,7 +81,7 @@ after_by s t byte some (by_letter none goes_on_lem same) zero = some none
 after_by s t byte some (by_address digit lettered goes_on_lem same) zero = some (ap (λ (u : Reading). u.letter) same ∙ zero)
 
 -- a reading after its letter stays there
-pub step_after : (s t : Reading) (byte : ℕ) → (s.letter ≡ 0 → ⊥) → step_of s byte ≡ Step.On t → t.letter ≡ 0 → ⊥
+pub step_after : (s t : Reading) (byte : ℕ) → (s.letter ≡ 0 → ⊥) → step_of s byte ≡ Some t → t.letter ≡ 0 → ⊥
 step_after s t byte some e = after_by s t byte some (stepped s t byte e)
 
 -- the number of a digit's byte

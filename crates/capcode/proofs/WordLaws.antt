@@ -1,4 +1,5 @@
 -- Words and addresses lead to each other: what document 01 promises of the way back.
+use Rattle.std.specs.Prelude.{Result, Ok, Err}
 use Prim.Native.Nat.{ℕ, ◌+◌, ◌-◌, ◌*◌, ◌/◌, ◌%◌, ◌≤◌, ◌<◌}
 use mathlib.Core.Bool.{Bool, true, false, and-eq-true_iff}
 use mathlib.Core.Path.{◌≡◌, refl, ap, sym, ◌∙◌, subst}
@@ -12,16 +13,15 @@ use Rattle.refusal.specs.declared.Refusal.TheVariants.{Range}
 use Rattle.refusal.specs.Told.{Told, told, refused, given}
 use Rattle.refusal.proofs.Laws.{given_not_refused, given_head, given_tells, refused_tells}
 use Rattle.capcode.specs.declared.Class.{Class}
+use Rattle.capcode.specs.declared.Words.{Words}
 use Rattle.capcode.specs.declared.Class.TheVariants.{Short, InformationService, Network, Operator, Set12}
 use Rattle.capcode.specs.declared.Class.TheVariants.{Set13, Set14, Set23Country, Set23InformationService}
-use Rattle.capcode.specs.declared.Classed.{Classed}
-use Rattle.capcode.specs.declared.Worded.{Worded}
-use Rattle.capcode.specs.declared.Addressed.{Addressed}
 use Rattle.capcode.specs.Ranges.{rows, class_in, class_of, found, accepted}
 use Rattle.capcode.proofs.Bounds.{row_of, class_bounds}
 use Rattle.capcode.specs.Words.{pair12, pair13, pair23, layout_of, words_as, words_by, words_of, same, gives}
-use Rattle.capcode.specs.Words.{from_word, from_pair, confirmed, address_of, told_worded, told_addressed}
+use Rattle.capcode.specs.Words.{from_word, from_pair, confirmed, address_of, listed, told_worded, told_addressed}
 use Rattle.capcode.proofs.Fits.{known_class}
+use Rattle.refusal.specs.declared.Refusal.{Refusal}
 
 -- a list is the same as itself
 same_self : (words : List ℕ) → same words words ≡ true
@@ -99,11 +99,11 @@ row_back Set23Country address low high = back23 address (omega arith)
 row_back Set23InformationService address low high = back23 address (omega arith)
 
 -- an address whose class is known leads to its words and back
-class_back : (found : Classed) (address : ℕ) (words : List ℕ) → class_of address ≡ found → words_by found address ≡ given words → leads_to words ≡ address
-class_back (Classed.In class) address words e w =
+class_back : (found : Result Class Refusal) (address : ℕ) (words : List ℕ) → class_of address ≡ found → words_by found address ≡ given words → leads_to words ≡ address
+class_back (Ok class) address words e w =
     let bounds = class_bounds address class e in
     ap leads_to (sym (given_tells (words_as (layout_of class) address) words w)) ∙ row_back class address bounds.0 bounds.1
-class_back (Classed.Refused r) address words e w = absurd (given_not_refused words r (sym w))
+class_back (Err r) address words e w = absurd (given_not_refused words r (sym w))
 
 -- the words of an accepted address lead back to it
 words_lead_back : (address : ℕ) (words : List ℕ) → words_of address ≡ given words → leads_to words ≡ address
@@ -134,9 +134,9 @@ no_words address words e w =
 pub words_accepted : (address : ℕ) (words : List ℕ) → words_of address ≡ given words → accepted address ≡ true
 words_accepted address words e = by_class (class_of address) refl
   where
-    by_class : (class : Classed) → class_of address ≡ class → found class ≡ true
-    by_class (Classed.In class) is = refl
-    by_class (Classed.Refused r) is = absurd (given_not_refused words r (sym (known_class address is ∙ e)))
+    by_class : (class : Result Class Refusal) → class_of address ≡ class → found class ≡ true
+    by_class (Ok class) is = refl
+    by_class (Err r) is = absurd (given_not_refused words r (sym (known_class address is ∙ e)))
 
 -- 01: "The way back answers the address for the words of an accepted address": for each accepted address the way back gives it
 pub there_and_back : (address : ℕ) (words : List ℕ) → words_of address ≡ given words → address_of words ≡ given (address ∷ [])
@@ -195,34 +195,32 @@ row_codewords Set14 address low high = (omega arith, (omega arith, tt))
 row_codewords Set23Country address low high = (omega arith, (omega arith, tt))
 row_codewords Set23InformationService address low high = (omega arith, (omega arith, tt))
 
-class_codewords : (found : Classed) (address : ℕ) (words : List ℕ) → class_of address ≡ found → words_by found address ≡ given words → Codewords words
-class_codewords (Classed.In class) address words e w =
+class_codewords : (found : Result Class Refusal) (address : ℕ) (words : List ℕ) → class_of address ≡ found → words_by found address ≡ given words → Codewords words
+class_codewords (Ok class) address words e w =
     let bounds = class_bounds address class e in
     subst Codewords (given_tells (words_as (layout_of class) address) words w) (row_codewords class address bounds.0 bounds.1)
-class_codewords (Classed.Refused r) address words e w = absurd (given_not_refused words r (sym w))
+class_codewords (Err r) address words e w = absurd (given_not_refused words r (sym w))
 
 -- the words of an accepted address are words that the decoder can be given
 pub words_sendable : (address : ℕ) (words : List ℕ) → words_of address ≡ given words → Codewords words
 words_sendable address words e = class_codewords (class_of address) address words refl (known_class address refl ∙ e)
 
 -- words are told as themselves alone
-pub worded_tells : (a b : Worded) → told_worded a ≡ told_worded b → a ≡ b
-worded_tells (Worded.One w) (Worded.One x) e = ap Worded.One (given_head w x e)
-worded_tells (Worded.One w) (Worded.Two x y) e = cc
-worded_tells (Worded.One w) (Worded.Refused r) e = absurd (given_not_refused (w ∷ []) r e)
-worded_tells (Worded.Two w v) (Worded.One x) e = cc
-worded_tells (Worded.Two w v) (Worded.Two x y) e = cc
-worded_tells (Worded.Two w v) (Worded.Refused r) e = absurd (given_not_refused (w ∷ v ∷ []) r e)
-worded_tells (Worded.Refused r) (Worded.One x) e = absurd (given_not_refused (x ∷ []) r (sym e))
-worded_tells (Worded.Refused r) (Worded.Two x y) e = absurd (given_not_refused (x ∷ y ∷ []) r (sym e))
-worded_tells (Worded.Refused r) (Worded.Refused s) e = ap Worded.Refused (refused_tells r s e)
+pub worded_tells : (a b : Result Words Refusal) → told_worded a ≡ told_worded b → a ≡ b
+worded_tells (Ok (Words.One w)) (Ok (Words.One x)) e = ap (λ (n : ℕ). Ok (Words.One n)) (given_head w x e)
+worded_tells (Ok (Words.One w)) (Ok (Words.Two x y)) e = cc
+worded_tells (Ok (Words.Two w v)) (Ok (Words.One x)) e = cc
+worded_tells (Ok (Words.Two w v)) (Ok (Words.Two x y)) e = cc
+worded_tells (Ok a) (Err r) e = absurd (given_not_refused (listed a) r e)
+worded_tells (Err r) (Ok b) e = absurd (given_not_refused (listed b) r (sym e))
+worded_tells (Err r) (Err s) e = ap Err (refused_tells r s e)
 
 -- an address is told as itself alone
-pub addressed_tells : (a b : Addressed) → told_addressed a ≡ told_addressed b → a ≡ b
-addressed_tells (Addressed.Address a) (Addressed.Address b) e = ap Addressed.Address (given_head a b e)
-addressed_tells (Addressed.Address a) (Addressed.Refused r) e = absurd (given_not_refused (a ∷ []) r e)
-addressed_tells (Addressed.Refused r) (Addressed.Address b) e = absurd (given_not_refused (b ∷ []) r (sym e))
-addressed_tells (Addressed.Refused r) (Addressed.Refused s) e = ap Addressed.Refused (refused_tells r s e)
+pub addressed_tells : (a b : Result ℕ Refusal) → told_addressed a ≡ told_addressed b → a ≡ b
+addressed_tells (Ok a) (Ok b) e = ap Ok (given_head a b e)
+addressed_tells (Ok a) (Err r) e = absurd (given_not_refused (a ∷ []) r e)
+addressed_tells (Err r) (Ok b) e = absurd (given_not_refused (b ∷ []) r (sym e))
+addressed_tells (Err r) (Err s) e = ap Err (refused_tells r s e)
 
 -- 01's marked cases 1 to 5, and the last and first addresses round them that are refused
 pub marked_words :

@@ -1,13 +1,13 @@
 -- What a CAPCODE's letter means, and the phase and base frame it assigns (document 01, "CAPCODE text"; S8.6.5, Table 25).
-use Rattle.std.specs.Prelude.{ℕ, ◌-◌, ◌/◌, ◌%◌, Bool, false, not, ◌&&◌, ◌||◌, ◌≡◌, [], ◌∷◌, leb, ltb, eqb}
+use Rattle.std.specs.Prelude.{ℕ, ◌-◌, ◌/◌, ◌%◌, Bool, false, not, ◌&&◌, ◌||◌, ◌≡◌, [], ◌∷◌, leb, ltb, eqb, Result, Ok, Err}
 use Prim.Native.Char.{code}
 use Rattle.laws.specs.Choice.{pick}
+use Rattle.refusal.specs.declared.Refusal.{Refusal}
 use Rattle.refusal.specs.declared.Refusal.TheVariants.{Text, «Type», Range, Offset, Packet}
-use Rattle.refusal.specs.Told.{Told, refused, given, ask}
+use Rattle.refusal.specs.Told.{Told, refused, given, ask, told_by}
 use Rattle.capcode.specs.Ranges.{accepted}
 use Rattle.capcode.specs.declared.Capcode.{Capcode}
-use Rattle.capcode.specs.declared.AssignAnswer.{AssignAnswer}
-use Rattle.capcode.specs.declared.assigning.Judged.{Judged}
+use Rattle.capcode.specs.declared.Assignment.{Assignment}
 
 -- A to L: phase and frame by the standard rules
 abbrev pub standard : ℕ → Bool
@@ -71,11 +71,10 @@ abbrev pub assigned : Capcode → Told
 assigned c = asked c (given (phase_of c ∷ base_of c ∷ []))
 
 -- how a judgement is told: `rest` where nothing is refused
-abbrev pub told_judged : Judged → Told → Told
-told_judged Judged.Fine rest = rest
-told_judged (Judged.Refused r) rest = refused r
+abbrev pub told_judged : {A : Type 0} → Result A Refusal → Told → Told
+told_judged (Ok fine) rest = rest
+told_judged (Err r) rest = refused r
 
 -- how an assignment is told
-abbrev pub told_assign : AssignAnswer → Told
-told_assign (AssignAnswer.Assigned a) = given (a.phase ∷ a.frame ∷ [])
-told_assign (AssignAnswer.Refused r) = refused r
+abbrev pub told_assign : Result Assignment Refusal → Told
+told_assign answer = told_by (λ a. a.phase ∷ a.frame ∷ []) answer

@@ -1,13 +1,13 @@
 -- The accepted ranges of addresses (document 01, "Ranges (Table 22)").
-use Rattle.std.specs.Prelude.{ℕ, Bool, true, false, ◌&&◌, List, [], ◌∷◌, leb}
+use Rattle.std.specs.Prelude.{ℕ, Bool, true, false, ◌&&◌, List, [], ◌∷◌, leb, Result, Ok, Err}
 use Rattle.laws.specs.Choice.{pick}
+use Rattle.refusal.specs.declared.Refusal.{Refusal}
 use Rattle.refusal.specs.declared.Refusal.TheVariants.{Range}
-use Rattle.refusal.specs.Told.{Told, refused, given}
+use Rattle.refusal.specs.Told.{Told, told_by}
 use Rattle.capcode.specs.declared.Class.{Class}
 use Rattle.capcode.specs.declared.Class.TheVariants.{Short, InformationService, Network, Operator, Set12}
 use Rattle.capcode.specs.declared.Class.TheVariants.{Set13, Set14, Set23Country, Set23InformationService}
 use Rattle.capcode.specs.declared.ranges.Row.{Row}
-use Rattle.capcode.specs.declared.Classed.{Classed}
 
 -- a row of the table: from, to and class
 abbrev row : ℕ → ℕ → Class → Row
@@ -32,18 +32,18 @@ abbrev pub holds : Row → ℕ → Bool
 holds r address = leb r.from address && leb address r.to
 
 -- the class of the row that holds an address; "everything else is refused", 5
-unfoldable pub class_in : List Row → ℕ → Classed
-class_in [] address = Classed.Refused Range
-class_in (r ∷ rs) address = pick (holds r address) (Classed.In r.class) (class_in rs address)
+unfoldable pub class_in : List Row → ℕ → Result Class Refusal
+class_in [] address = Err Range
+class_in (r ∷ rs) address = pick (holds r address) (Ok r.class) (class_in rs address)
 
 -- the class of an address
-unfoldable pub class_of : ℕ → Classed
+unfoldable pub class_of : ℕ → Result Class Refusal
 class_of address = class_in rows address
 
 -- some class was found
-abbrev pub found : Classed → Bool
-found (Classed.In class) = true
-found (Classed.Refused r) = false
+abbrev pub found : Result Class Refusal → Bool
+found (Ok class) = true
+found (Err r) = false
 
 -- an address of an accepted range
 abbrev pub accepted : ℕ → Bool
@@ -62,6 +62,5 @@ class_number Set23Country = 8
 class_number Set23InformationService = 9
 
 -- how a class is told
-abbrev pub told_classed : Classed → Told
-told_classed (Classed.In class) = given (class_number class ∷ [])
-told_classed (Classed.Refused r) = refused r
+abbrev pub told_classed : Result Class Refusal → Told
+told_classed answer = told_by (λ class. class_number class ∷ []) answer

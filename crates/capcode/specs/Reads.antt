@@ -1,5 +1,5 @@
 -- Reading a text as a CAPCODE, byte by byte (document 01, "CAPCODE text"). The reading stops at the first byte at which no correct text could go on.
-use Rattle.std.specs.Prelude.{ℕ, suc, ◌+◌, ◌-◌, ◌*◌, ◌/◌, ◌%◌, ◌^◌, ◌≤◌, ◌<◌, Bool, true, false, not, ◌&&◌, ◌||◌, List, [], ◌∷◌, leb, eqb, length, take, get_or}
+use Rattle.std.specs.Prelude.{ℕ, suc, ◌+◌, ◌-◌, ◌*◌, ◌/◌, ◌%◌, ◌^◌, ◌≤◌, ◌<◌, Bool, true, false, not, ◌&&◌, ◌||◌, List, [], ◌∷◌, leb, eqb, length, take, get_or, Option, Some, None, Result, Ok, Err}
 use Prim.Native.Char.{code}
 use Rattle.laws.specs.Choice.{pick}
 use Rattle.laws.specs.Lists.{all}
@@ -7,10 +7,9 @@ use Rattle.refusal.specs.declared.Refusal.{Refusal}
 use Rattle.refusal.specs.declared.Refusal.TheVariants.{Text, DigitBeforeLetter, LeadingFour, DigitAfterLetter}
 use Rattle.refusal.specs.Told.{Told, refused, refused_at, given}
 use Rattle.capcode.specs.declared.Capcode.{Capcode}
-use Rattle.capcode.specs.declared.ReadAnswer.{ReadAnswer}
+use Rattle.capcode.specs.declared.Assignment.{Assignment}
+use Rattle.capcode.specs.declared.Fault.{Fault}
 use Rattle.capcode.specs.declared.reading.Reading.{Reading}
-use Rattle.capcode.specs.declared.reading.Step.{Step}
-use Rattle.capcode.specs.declared.reading.Form.{Form}
 use Rattle.capcode.specs.Assigned.{standard, framed, asked, phase_of, base_of}
 use Rattle.capcode.specs.Text.{last_of_seven}
 
@@ -47,9 +46,9 @@ pub record Bounded (s : Reading) : Type 0 where
   pub address : s.address < 10 ^ 10
 
 -- a reading goes on with the next state, or stops
-abbrev pub go_on : Bool → Reading → Step
-go_on true s = Step.On s
-go_on false s = Step.Stop
+abbrev pub go_on : Bool → Reading → Option Reading
+go_on true s = Some s
+go_on false s = None
 
 -- a reading with one digit more before the letter
 abbrev pub with_head : Reading → ℕ → Reading
@@ -65,23 +64,23 @@ with_address s digit =
     record { before = s.before; number = s.number; letter = s.letter; after = s.after + 1; address = s.address * 10 + digit }
 
 -- a digit before the letter
-abbrev pub head_digit : Reading → ℕ → Step
+abbrev pub head_digit : Reading → ℕ → Option Reading
 head_digit s digit = go_on (head_goes_on (s.before + 1) (s.number * 10 + digit)) (with_head s digit)
 
 -- the letter
-abbrev pub the_letter : Reading → ℕ → Step
+abbrev pub the_letter : Reading → ℕ → Option Reading
 the_letter s byte = go_on (letter_goes_on s.before byte) (with_letter s byte)
 
 -- a digit after the letter
-abbrev pub address_digit : Reading → ℕ → Step
+abbrev pub address_digit : Reading → ℕ → Option Reading
 address_digit s digit = go_on (address_goes_on (s.after + 1) (s.address * 10 + digit)) (with_address s digit)
 
 -- one byte more
-unfoldable pub step_of : Reading → ℕ → Step
+unfoldable pub step_of : Reading → ℕ → Option Reading
 step_of s byte =
     pick (eqb s.letter 0)
     (pick (is_digit byte) (head_digit s (byte - code "0")) (the_letter s byte))
-    (pick (is_digit byte) (address_digit s (byte - code "0")) Step.Stop)
+    (pick (is_digit byte) (address_digit s (byte - code "0")) None)
 
 -- a reading under way and how many bytes it took, or the place at which it stopped
 pub data Course : Type 0 where
@@ -89,9 +88,9 @@ pub data Course : Type 0 where
   stopped : ℕ → Course
 
 -- where the next step leads
-abbrev pub onward : ℕ → Step → Course
-onward place (Step.On s) = going (suc place) s
-onward place Step.Stop = stopped place
+abbrev pub onward : ℕ → Option Reading → Course
+onward place (Some s) = going (suc place) s
+onward place None = stopped place
 
 -- a course takes one byte more; one that has stopped stays
 abbrev pub takes : Course → ℕ → Course
@@ -122,12 +121,12 @@ said_by s =
     }
 
 -- what a course that took the whole text says
-abbrev pub end_of : Course → Form
-end_of (going place s) = pick (is_whole s) (Form.Says (said_by s)) (Form.Wrong place)
-end_of (stopped place) = Form.Wrong place
+abbrev pub end_of : Course → Result Capcode ℕ
+end_of (going place s) = pick (is_whole s) (Ok (said_by s)) (Err place)
+end_of (stopped place) = Err place
 
 -- the form of a text: what it says, or where it goes wrong
-unfoldable pub form_of : List ℕ → Form
+unfoldable pub form_of : List ℕ → Result Capcode ℕ
 form_of text = end_of (follow (going 0 blank) text)
 
 -- what is answered for a text that says `c`: what is asked of every CAPCODE, then letter, frame, collapse, address, phase and base frame
@@ -149,17 +148,16 @@ fault_at text place =
     Text)))
 
 -- a text that says a CAPCODE is answered by that; one that does not is refused by the byte where it goes wrong, and the place is told
-abbrev pub read_by : List ℕ → Form → Told
-read_by text (Form.Says c) = read_as c
-read_by text (Form.Wrong place) = refused_at (fault_at text place) place
+abbrev pub read_by : List ℕ → Result Capcode ℕ → Told
+read_by text (Ok c) = read_as c
+read_by text (Err place) = refused_at (fault_at text place) place
 
 -- what a text is read as
 abbrev pub read_of : List ℕ → Told
 read_of text = read_by text (form_of text)
 
 -- how a reading is told
-abbrev pub told_read : ReadAnswer → Told
-told_read (ReadAnswer.Whole c a) =
-    given (c.letter ∷ c.frame ∷ c.collapse ∷ c.address ∷ a.phase ∷ a.frame ∷ [])
-told_read (ReadAnswer.Wrong r place) = refused_at r place
-told_read (ReadAnswer.Refused r) = refused r
+abbrev pub told_read : Result (Capcode × Assignment) Fault → Told
+told_read (Ok (c, a)) = given (c.letter ∷ c.frame ∷ c.collapse ∷ c.address ∷ a.phase ∷ a.frame ∷ [])
+told_read (Err (Fault.Wrong r place)) = refused_at r place
+told_read (Err (Fault.Refused r)) = refused r

@@ -1,16 +1,15 @@
 -- Addresses as words, and words as addresses (document 01, "Words (Table 24, hexadecimal)").
-use Rattle.std.specs.Prelude.{ℕ, ◌+◌, ◌-◌, ◌*◌, ◌/◌, ◌%◌, ◌^◌, ◌≤◌, ◌<◌, Bool, true, false, ◌&&◌, List, [], ◌∷◌, leb, eqb}
+use Rattle.std.specs.Prelude.{ℕ, ◌+◌, ◌-◌, ◌*◌, ◌/◌, ◌%◌, ◌^◌, ◌≤◌, ◌<◌, Bool, true, false, ◌&&◌, List, [], ◌∷◌, leb, eqb, Result}
 use Rattle.laws.specs.Choice.{pick}
+use Rattle.refusal.specs.declared.Refusal.{Refusal}
 use Rattle.refusal.specs.declared.Refusal.TheVariants.{Range}
-use Rattle.refusal.specs.Told.{Told, told, refused, given}
+use Rattle.refusal.specs.Told.{Told, told, refused, given, told_by}
 use Rattle.capcode.specs.declared.Class.{Class}
 use Rattle.capcode.specs.declared.Class.TheVariants.{Short, InformationService, Network, Operator, Set12}
 use Rattle.capcode.specs.declared.Class.TheVariants.{Set13, Set14, Set23Country, Set23InformationService}
-use Rattle.capcode.specs.declared.words.Layout.{Layout}
-use Rattle.capcode.specs.declared.words.Layout.TheVariants.{OneWord, Words12, Words13, Words23}
-use Rattle.capcode.specs.declared.Classed.{Classed}
-use Rattle.capcode.specs.declared.Worded.{Worded}
-use Rattle.capcode.specs.declared.Addressed.{Addressed}
+use Rattle.capcode.specs.declared.wording.Layout.{Layout}
+use Rattle.capcode.specs.declared.wording.Layout.TheVariants.{OneWord, Words12, Words13, Words23}
+use Rattle.capcode.specs.declared.Words.{Words}
 use Rattle.capcode.specs.Ranges.{class_of}
 
 -- 01: "one word, address + 8000"
@@ -60,9 +59,8 @@ FitsAs Words13 address = (0x1F9001 ≤ address) × (address < 2 ^ 32)
 FitsAs Words23 address = (0x1F8FFF ≤ address) × (address < 2 ^ 32)
 
 -- the words of an address whose class was looked up
-abbrev pub words_by : Classed → ℕ → Told
-words_by (Classed.In class) address = given (words_as (layout_of class) address)
-words_by (Classed.Refused r) address = refused r
+abbrev pub words_by : Result Class Refusal → ℕ → Told
+words_by found address = told_by (λ class. words_as (layout_of class) address) found
 
 -- the words of an address, or 5
 unfoldable pub words_of : ℕ → Told
@@ -103,25 +101,15 @@ address_of (word ∷ []) = confirmed (from_word word) (word ∷ [])
 address_of (first ∷ second ∷ []) = confirmed (from_pair first second) (first ∷ second ∷ [])
 address_of (first ∷ second ∷ third ∷ more) = refused Range
 
+-- one word or two as a list
+abbrev pub listed : Words → List ℕ
+listed (Words.One word) = word ∷ []
+listed (Words.Two first second) = first ∷ second ∷ []
+
 -- how words are told
-abbrev pub told_worded : Worded → Told
-told_worded (Worded.One word) = given (word ∷ [])
-told_worded (Worded.Two first second) = given (first ∷ second ∷ [])
-told_worded (Worded.Refused r) = refused r
+abbrev pub told_worded : Result Words Refusal → Told
+told_worded answer = told_by listed answer
 
 -- how an address is told
-abbrev pub told_addressed : Addressed → Told
-told_addressed (Addressed.Address address) = given (address ∷ [])
-told_addressed (Addressed.Refused r) = refused r
-
--- an answer that is the one word given
-abbrev pub is_one : Worded → ℕ → Bool
-is_one (Worded.One w) word = eqb w word
-is_one (Worded.Two a b) word = false
-is_one (Worded.Refused r) word = false
-
--- an answer that is the two words given
-abbrev pub is_pair : Worded → ℕ → ℕ → Bool
-is_pair (Worded.One w) first second = false
-is_pair (Worded.Two a b) first second = eqb a first && eqb b second
-is_pair (Worded.Refused r) first second = false
+abbrev pub told_addressed : Result ℕ Refusal → Told
+told_addressed answer = told_by (λ address. address ∷ []) answer

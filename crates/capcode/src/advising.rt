@@ -1,210 +1,176 @@
 // What a person is told of a text that is refused: which sentence of the table in `refusal` says where it goes wrong and how to
 // mend it.
-ghost use Rattle.std.specs.Prelude.{◌≡◌, not, ◌≤◌, ◌<◌, length, drop, get_or};
+ghost use Rattle.std.specs.Prelude.{◌≡◌, ◌≤◌, length};
 ghost use Rattle.laws.specs.Lists.{all};
 ghost use Rattle.refusal.specs.Told.{number_told};
 ghost use Rattle.capcode.specs.Assigned.{assigned};
 ghost use Rattle.capcode.specs.Reads.{form_of};
-ghost use Rattle.capcode.specs.Advice.{say, head_digits, short_advice, many_advice, is_marked, is_blank, is_said, blank_advice};
+ghost use Rattle.capcode.specs.Advice.{say, told_advice, head_digits, short_advice, many_advice, is_marked, is_blank, is_said, blank_advice};
 ghost use Rattle.capcode.specs.Advice.{capital_of, letter_advice, other_advice, wrong_advice, advice_of};
 
 use crate::assigning::{is_framed, is_standard};
-use crate::reading::{Form, fault_at, form_of, is_before_letter, is_digit, letter_goes_on};
-use crate::{Advice, AssignAnswer, Capcode};
-use refusal::Sentence;
-
-fn say(row: u32) -> Advice
-    ensures { result ≡ say row }
-{
-    Advice { row, letter: 0 }
-}
+use crate::reading::{Wrong, form_of, is_digit, letter_goes_on};
+use crate::{Advice, Capcode};
 
 // How many digits a text begins with.
 fn head_digits(text: &[u8]) -> usize
     ensures { result ≡ head_digits text.now }
 {
-    let mut i = 0;
-    while i < text.len() {
-        if !is_digit(text[i]) {
-            break;
-        }
-        i += 1;
-    }
-    i
+    text.iter()
+        .position(|byte| !is_digit(*byte))
+        .unwrap_or(text.len())
 }
 
 // What is told of a text that stops too soon.
+#[tactic(auto, using(crate::proofs::AdviceLaws::head_within))]
 fn advise_short(text: &[u8]) -> Advice
-    ensures { result ≡ short_advice text.now }
+    ensures { told_advice result ≡ short_advice text.now }
 {
     if text.len() == 0 {
-        return say(Sentence::EMPTY_LINE);
+        return Advice::EmptyLine;
     }
     let head = head_digits(text);
     if head == text.len() {
-        return say(Sentence::NO_LETTER);
+        return Advice::NoLetter;
     }
     if text.len() - head < 8 {
-        return say(Sentence::TOO_FEW_OF_SEVEN);
+        return Advice::TooFewOfSeven;
     }
-    say(Sentence::TOO_FEW_OF_TEN)
-}
-
-// What is told of a digit too many after the letter.
-fn advise_many(text: &[u8], place: usize) -> Advice
-    ensures { result ≡ many_advice text.now place }
-{
-    if place < 11 {
-        return say(Sentence::TOO_MANY_OF_SEVEN);
-    }
-    if place - 11 < head_digits(text) {
-        return say(Sentence::TOO_MANY_OF_SEVEN);
-    }
-    say(Sentence::TOO_MANY_OF_TEN)
-}
-
-// The byte at a place, 0 where there is none.
-fn byte_at(text: &[u8], place: usize) -> u8
-    ensures { result ≡ get_or text.now place 0 }
-{
-    if place < text.len() { text[place] } else { 0 }
+    Advice::TooFewOfTen
 }
 
 // Whether a text begins with a byte-order mark.
 fn is_marked(text: &[u8]) -> bool
     ensures { result ≡ is_marked text.now }
 {
-    let first = byte_at(text, 0);
-    let second = byte_at(text, 1);
-    let third = byte_at(text, 2);
-    (((first == 0xEF) & (second == 0xBB)) & (third == 0xBF))
-        | ((first == 0xFF) & (second == 0xFE))
-        | ((first == 0xFE) & (second == 0xFF))
+    text.starts_with(&[0xEF, 0xBB, 0xBF])
+        | text.starts_with(&[0xFF, 0xFE])
+        | text.starts_with(&[0xFE, 0xFF])
 }
 
 fn is_blank(byte: u8) -> bool
     ensures { result ≡ is_blank byte }
 {
-    (byte == b' ') | (byte == b'\t')
+    matches!(byte, b' ' | b'\t')
 }
 
 // Whether a text has nothing but blanks.
 fn has_blanks_only(text: &[u8]) -> bool
     ensures { result ≡ all is_blank text.now }
 {
-    let mut i = 0;
-    while i < text.len() {
-        if !is_blank(text[i]) {
-            return false;
-        }
-        i += 1;
-    }
-    true
+    text.iter().all(|byte| is_blank(*byte))
 }
 
 // Whether a text is in the form.
 fn is_said(text: &[u8]) -> bool
     ensures { result ≡ is_said (form_of text.now) }
 {
-    match form_of(text) {
-        Form::Says(_) => true,
-        Form::Wrong(_) => false,
-    }
+    form_of(text).is_ok()
 }
 
-// What is told of a blank.
-fn advise_blank(text: &[u8], place: usize) -> Advice
-    requires { place ≤ length text.now }
-    ensures { result ≡ blank_advice text.now place }
-{
-    let before = is_said(&text[..place]);
-    let after = has_blanks_only(&text[place..]);
-    if (before & after) & (text.len() < 16) {
-        return say(Sentence::BLANK_AT_THE_END);
-    }
-    say(Sentence::BLANK)
-}
-
-// The capital of a small letter, 0 for any other byte.
-fn capital_of(byte: u8) -> u8
+// The capital of a small letter.
+fn capital_of(byte: u8) -> Option<u8>
     ensures { result ≡ capital_of byte }
 {
     if (b'a' <= byte) & (byte <= b'z') {
-        return byte - 32;
+        return Some(byte - 32);
     }
-    0
+    None
 }
 
-// What is told of a byte that is neither a digit nor a blank.
-fn advise_letter(text: &[u8], place: usize, byte: u8) -> Advice
-    requires { (place ≤ length text.now) × (place ≤ 15) }
-    ensures { result ≡ letter_advice text.now place byte }
-{
-    let before = is_before_letter(text, place);
-    let capital = capital_of(byte);
-    if letter_goes_on(place as u32, capital) & before {
-        return Advice {
-            row: Sentence::LOWER_CASE,
-            letter: capital,
-        };
+impl Wrong<'_> {
+    // What is told of a digit too many after the letter.
+    fn advise_many(self) -> Advice
+        ensures { told_advice result ≡ many_advice self.entry.text.now self.entry.place }
+    {
+        if self.place < 11 {
+            return Advice::TooManyOfSeven;
+        }
+        if self.place - 11 < head_digits(self.text) {
+            return Advice::TooManyOfSeven;
+        }
+        Advice::TooManyOfTen
     }
-    if ((byte == b'O') | (byte == b'o')) & !before {
-        return say(Sentence::LETTER_O);
-    }
-    if (is_standard(byte) | is_framed(byte)) & before {
-        return say(Sentence::DIGITS_BEFORE);
-    }
-    say(Sentence::CHARACTER)
-}
 
-// What is told of a byte that is no digit.
-fn advise_other(text: &[u8], place: usize, byte: u8, first: bool) -> Advice
-    requires { (place ≤ length text.now) × (place ≤ 15) }
-    ensures { result ≡ other_advice first text.now place byte }
-{
-    if first & is_marked(text) {
-        return say(Sentence::BYTE_ORDER_MARK);
+    // What is told of a blank.
+    fn advise_blank(self) -> Advice
+        ensures { told_advice result ≡ blank_advice self.entry.text.now self.entry.place }
+    {
+        let before = is_said(&self.text[..self.place]);
+        let after = has_blanks_only(&self.text[self.place..]);
+        if (before & after) & (self.text.len() < 16) {
+            return Advice::BlankAtTheEnd;
+        }
+        Advice::Blank
     }
-    if is_blank(byte) {
-        return advise_blank(text, place);
-    }
-    advise_letter(text, place, byte)
-}
 
-// What is told of a text that goes wrong at a place.
-fn advise_wrong(text: &[u8], place: usize, first: bool) -> Advice
-    requires { (place ≤ length text.now) × (place ≤ 15) }
-    ensures { result ≡ wrong_advice first text.now place }
-{
-    if place == text.len() {
-        return advise_short(text);
+    // What is told of a byte that is neither a digit nor a blank.
+    fn advise_letter(self, byte: u8) -> Advice
+        ensures { told_advice result ≡ letter_advice self.entry.text.now self.entry.place byte }
+    {
+        let before = self.is_before_letter();
+        if let Some(capital) = capital_of(byte) {
+            if letter_goes_on(self.place as u32, capital) & before {
+                return Advice::LowerCase(capital);
+            }
+        }
+        if ((byte == b'O') | (byte == b'o')) & !before {
+            return Advice::LetterO;
+        }
+        if (is_standard(byte) | is_framed(byte)) & before {
+            return Advice::DigitsBefore;
+        }
+        Advice::Character
     }
-    let byte = text[place];
-    if !is_digit(byte) {
-        return advise_other(text, place, byte, first);
+
+    // What is told of a byte that is no digit.
+    fn advise_other(self, byte: u8, first: bool) -> Advice
+        ensures { told_advice result ≡ other_advice first self.entry.text.now self.entry.place byte }
+    {
+        if first & is_marked(self.text) {
+            return Advice::ByteOrderMark;
+        }
+        if is_blank(byte) {
+            return self.advise_blank();
+        }
+        self.advise_letter(byte)
     }
-    if is_before_letter(text, place) {
-        return say(fault_at(text, place).number());
+
+    // What is told of a text that goes wrong at a place.
+    #[tactic(auto, unfolding(crate::specs::Advice::wrong_advice))]
+    fn advise(self, first: bool) -> Advice
+        ensures { told_advice result ≡ wrong_advice first self.entry.text.now self.entry.place }
+    {
+        if self.place == self.text.len() {
+            return advise_short(self.text);
+        }
+        let byte = self.text[self.place];
+        if !is_digit(byte) {
+            return self.advise_other(byte, first);
+        }
+        if self.is_before_letter() {
+            return Advice::Refused(self.refusal());
+        }
+        self.advise_many()
     }
-    advise_many(text, place)
 }
 
 // What is told of a text in the form: the sentence of its refusal, or none.
 fn advise_said(c: Capcode) -> Advice
-    ensures { result ≡ say (number_told (assigned c)) }
+    ensures { told_advice result ≡ say (number_told (assigned c)) }
 {
     match crate::assigning::assign(c) {
-        AssignAnswer::Assigned(_) => say(0),
-        AssignAnswer::Refused(refusal) => say(refusal.number()),
+        Ok(_) => Advice::Fine,
+        Err(refusal) => Advice::Refused(refusal),
     }
 }
 
 // What a person is told of a text; `first` says that it is the first line of a file.
 pub fn advise(text: &[u8], first: bool) -> Advice
-    ensures { result ≡ advice_of first text.now }
+    ensures { told_advice result ≡ advice_of first text.now }
 {
     match form_of(text) {
-        Form::Says(c) => advise_said(c),
-        Form::Wrong(place) => advise_wrong(text, place, first),
+        Ok(c) => advise_said(c),
+        Err(place) => Wrong { text, place }.advise(first),
     }
 }

@@ -1,11 +1,11 @@
 // CAPCODEs, from value to text, as a label shows them (document 01, "CAPCODE text"; S8.6.2).
 ghost use Rattle.std.specs.Prelude.{◌≡◌, ◌+◌, ◌≤◌, length};
 ghost use Rattle.laws.specs.Lists.{put};
-ghost use Rattle.capcode.specs.Assigned.{Fine};
 ghost use Rattle.capcode.specs.Text.{digits, width_of, head_width, text_of};
 ghost use Rattle.capcode.specs.Printed.{print_of, buffer_after, told_print};
 
-use crate::{AssignAnswer, Capcode, LAST_OF_SEVEN, PrintAnswer};
+use crate::assigning::{FineCapcode, judge};
+use crate::{Capcode, LAST_OF_SEVEN};
 use refusal::Refusal;
 
 // The last `count` digits of a number, zeros written, at a place of a buffer that has room for them.
@@ -13,10 +13,8 @@ fn write_digits(out: &mut [u8], place: usize, count: usize, number: u64)
     requires { place + count ≤ length out.old }
     ensures { out.new ≡ put out.old place (digits count number) }
 {
-    let mut left = count;
     let mut rest = number;
-    while 0 < left {
-        left -= 1;
+    for left in (0..count).rev() {
         out[place + left] = b'0' + (rest % 10) as u8;
         rest /= 10;
     }
@@ -41,20 +39,6 @@ fn width_of(address: u64) -> usize
     if address <= LAST_OF_SEVEN { 7 } else { 10 }
 }
 
-// The text of a CAPCODE that was judged fine, at the start of a buffer that has room for it. Frame and
-// collapse are one number of which the last digits are written.
-fn write_text(c: Capcode, out: &mut [u8])
-    requires { Fine c × (head_width c + (1 + width_of c.address) ≤ length out.old) }
-    ensures { out.new ≡ put out.old 0 (text_of c) }
-{
-    let head = head_width(c);
-    let number = c.frame as u64 * 10 + c.collapse as u64;
-    write_digits(out, 0, head, number);
-    out[head] = c.letter;
-    let width = width_of(c.address);
-    write_digits(out, head + 1, width, c.address);
-}
-
 // How long the text of a CAPCODE is.
 fn text_length(c: Capcode) -> usize
     ensures { result ≡ head_width c + (1 + width_of c.address) }
@@ -62,28 +46,41 @@ fn text_length(c: Capcode) -> usize
     head_width(c) + (1 + width_of(c.address))
 }
 
-// A CAPCODE that was judged fine is printed if there is room.
-fn print_fine(c: Capcode, out: &mut [u8]) -> PrintAnswer
-    requires { Fine c }
-    ensures told { told_print result ≡ print_of c (length out.old) }
-    ensures buffer { out.new ≡ buffer_after c out.old }
-{
-    let needed = text_length(c);
-    if out.len() < needed {
-        return PrintAnswer::Refused(Refusal::Room);
+impl FineCapcode {
+    // Its text at the start of a buffer that has room for it. Frame and collapse are one number of which the last digits are
+    // written.
+    fn write_text(self, out: &mut [u8])
+        requires { head_width self.c + (1 + width_of self.c.address) ≤ length out.old }
+        ensures { out.new ≡ put out.old 0 (text_of self.c) }
+    {
+        let c = self.c;
+        let head = head_width(c);
+        let number = c.frame as u64 * 10 + c.collapse as u64;
+        write_digits(out, 0, head, number);
+        out[head] = c.letter;
+        let width = width_of(c.address);
+        write_digits(out, head + 1, width, c.address);
     }
-    write_text(c, out);
-    PrintAnswer::Length(needed)
+
+    // Prints it if there is room.
+    fn print(self, out: &mut [u8]) -> Result<usize, Refusal>
+        ensures told { told_print result ≡ print_of self.c (length out.old) }
+        ensures buffer { out.new ≡ buffer_after self.c out.old }
+    {
+        let needed = text_length(self.c);
+        if out.len() < needed {
+            return Err(Refusal::Room);
+        }
+        self.write_text(out);
+        Ok(needed)
+    }
 }
 
 // The text of a CAPCODE at the start of a lent buffer, and its length, or the first refusal. What is
 // refused leaves the buffer as it was.
-pub fn print(c: Capcode, out: &mut [u8]) -> PrintAnswer
+pub fn print(c: Capcode, out: &mut [u8]) -> Result<usize, Refusal>
     ensures told { told_print result ≡ print_of c (length out.old) }
     ensures buffer { out.new ≡ buffer_after c out.old }
 {
-    match crate::assigning::assign(c) {
-        AssignAnswer::Assigned(_) => print_fine(c, out),
-        AssignAnswer::Refused(r) => PrintAnswer::Refused(r),
-    }
+    judge(c)?.print(out)
 }

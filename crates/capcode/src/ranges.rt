@@ -2,7 +2,7 @@
 ghost use Rattle.std.specs.Prelude.{◌≡◌};
 ghost use Rattle.capcode.specs.Ranges.{holds, class_of};
 
-use crate::{Class, Classed};
+use crate::Class;
 use refusal::Refusal;
 
 // A range of addresses, both ends in it, and its class.
@@ -69,51 +69,45 @@ fn is_in_row(row: Row, address: u64) -> bool
     (row.from <= address) & (address <= row.to)
 }
 
-// The class that a row names.
-fn row_class(row: Row) -> Class
-    ensures { result ≡ row.class }
-{
-    row.class
-}
-
 // The class of an address: that of the row that holds it. The table is halved, and each half again; one or two rows are
-// then left. Every place in the table is a constant, so that the compiler makes comparisons of it: at a place that has to
-// be worked out it lays the whole table on the stack.
-pub fn class_of(address: u64) -> Classed
+// then left. Every place in the table is a constant, so that the compiler makes comparisons of it.
+// Written out, and no iterator over the rows: an iterator walks the table, and document 02, item 4 asks that it be halved.
+#[tactic(auto, unfolding(crate::specs::Ranges::rows, crate::specs::Ranges::class_in, crate::specs::Ranges::class_of))]
+pub fn class_of(address: u64) -> Result<Class, Refusal>
     ensures { result ≡ class_of address }
 {
     let rows = ROWS;
     if address < rows[4].from {
         if address < rows[1].from {
             if is_in_row(rows[0], address) {
-                return Classed::In(row_class(rows[0]));
+                return Ok(rows[0].class);
             }
-            return Classed::Refused(Refusal::Range);
+            return Err(Refusal::Range);
         }
         if address <= rows[1].to {
-            return Classed::In(row_class(rows[1]));
+            return Ok(rows[1].class);
         } else if is_in_row(rows[2], address) {
-            return Classed::In(row_class(rows[2]));
+            return Ok(rows[2].class);
         } else if is_in_row(rows[3], address) {
-            return Classed::In(row_class(rows[3]));
+            return Ok(rows[3].class);
         }
-        return Classed::Refused(Refusal::Range);
+        return Err(Refusal::Range);
     }
     if address <= rows[4].to {
-        return Classed::In(row_class(rows[4]));
+        return Ok(rows[4].class);
     }
     if address < rows[6].from {
         if is_in_row(rows[5], address) {
-            return Classed::In(row_class(rows[5]));
+            return Ok(rows[5].class);
         }
-        return Classed::Refused(Refusal::Range);
+        return Err(Refusal::Range);
     }
     if address <= rows[6].to {
-        return Classed::In(row_class(rows[6]));
+        return Ok(rows[6].class);
     } else if is_in_row(rows[7], address) {
-        return Classed::In(row_class(rows[7]));
+        return Ok(rows[7].class);
     } else if is_in_row(rows[8], address) {
-        return Classed::In(row_class(rows[8]));
+        return Ok(rows[8].class);
     }
-    Classed::Refused(Refusal::Range)
+    Err(Refusal::Range)
 }

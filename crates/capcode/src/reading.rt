@@ -5,11 +5,13 @@ ghost use Rattle.capcode.specs.Reads.{address_digit, step_of, going, follow, is_
 ghost use Rattle.capcode.specs.Reads.{before_letter, fault_at, read_of, told_read};
 ghost use Rattle.capcode.specs.Underway.{Sound};
 
-use crate::{AssignAnswer, Capcode, LAST_OF_SEVEN, ReadAnswer};
+use crate::{Assignment, Capcode, Fault, LAST_OF_SEVEN};
 use refusal::Refusal;
 
 // Where the reading of a text stands: how many digits came before the letter and their number, the letter
 // (0 while none came), how many digits came after it and their number.
+// The letter is a byte and no Option: the definition of the reading goes by the same numbers. The bounds are no ghost field, since
+// the definition builds a Reading where no bound holds yet: each of its records would have to bring a proof.
 #[derive(Clone, Copy)]
 pub struct Reading {
     pub before: u32,
@@ -19,25 +21,18 @@ pub struct Reading {
     pub address: u64,
 }
 
-// One byte more: the reading goes on, or no correct text goes on so.
+// A text that goes wrong at a place.
 #[derive(Clone, Copy)]
-pub enum Step {
-    On(Reading),
-    Stop,
-}
-
-// A text in the form and what it says, or the first place at which no correct text could go on: the
-// text's length where it only stops too soon.
-#[derive(Clone, Copy)]
-pub enum Form {
-    Says(Capcode),
-    Wrong(usize),
+pub(crate) struct Wrong<'a> {
+    pub(crate) text: &'a [u8],
+    pub(crate) place: usize,
+    pub ghost within: { (place ≤ length text.now) × (place ≤ 15) },
 }
 
 pub(crate) fn is_digit(byte: u8) -> bool
     ensures { result ≡ is_digit byte }
 {
-    (b'0' <= byte) & (byte <= b'9')
+    byte.is_ascii_digit()
 }
 
 // Whether some correct text begins with so many digits of this number.
@@ -77,14 +72,14 @@ fn address_goes_on(count: u32, number: u64) -> bool
 }
 
 // A digit before the letter.
-fn head_digit(s: Reading, digit: u8) -> Step
+fn head_digit(s: Reading, digit: u8) -> Option<Reading>
     requires { Bounded s }
     ensures { result ≡ head_digit s digit }
 {
     let count = s.before + 1;
     let number = s.number * 10 + digit as u32;
     if head_goes_on(count, number) {
-        Step::On(Reading {
+        Some(Reading {
             before: count,
             number,
             letter: 0,
@@ -92,16 +87,16 @@ fn head_digit(s: Reading, digit: u8) -> Step
             address: 0,
         })
     } else {
-        Step::Stop
+        None
     }
 }
 
 // The letter, or what stands in its place.
-fn the_letter(s: Reading, byte: u8) -> Step
+fn the_letter(s: Reading, byte: u8) -> Option<Reading>
     ensures { result ≡ the_letter s byte }
 {
     if letter_goes_on(s.before, byte) {
-        Step::On(Reading {
+        Some(Reading {
             before: s.before,
             number: s.number,
             letter: byte,
@@ -109,19 +104,19 @@ fn the_letter(s: Reading, byte: u8) -> Step
             address: 0,
         })
     } else {
-        Step::Stop
+        None
     }
 }
 
 // A digit after the letter.
-fn address_digit(s: Reading, digit: u8) -> Step
+fn address_digit(s: Reading, digit: u8) -> Option<Reading>
     requires { Bounded s }
     ensures { result ≡ address_digit s digit }
 {
     let count = s.after + 1;
     let number = s.address * 10 + digit as u64;
     if address_goes_on(count, number) {
-        Step::On(Reading {
+        Some(Reading {
             before: s.before,
             number: s.number,
             letter: s.letter,
@@ -129,12 +124,13 @@ fn address_digit(s: Reading, digit: u8) -> Step
             address: number,
         })
     } else {
-        Step::Stop
+        None
     }
 }
 
-// One byte more.
-fn step_of(s: Reading, byte: u8) -> Step
+// The reading after one byte more, or none if no correct text goes on so.
+#[tactic(auto, unfolding(crate::specs::Reads::step_of))]
+fn step_of(s: Reading, byte: u8) -> Option<Reading>
     requires { Bounded s }
     ensures { result ≡ step_of s byte }
 {
@@ -147,7 +143,7 @@ fn step_of(s: Reading, byte: u8) -> Step
     if s.letter == 0 {
         return the_letter(s, byte);
     }
-    Step::Stop
+    None
 }
 
 // Whether a text may end here.
@@ -171,53 +167,51 @@ fn said_collapse(s: Reading) -> u32
 }
 
 // The form of a text that was read to its end.
-fn form_at_end(s: Reading, end: usize) -> Form
+fn form_at_end(s: Reading, end: usize) -> Result<Capcode, usize>
     requires { Bounded s }
     ensures { result ≡ end_of (going end s) }
 {
     if is_whole(s) {
-        return Form::Says(Capcode {
+        return Ok(Capcode {
             letter: s.letter,
             frame: said_frame(s),
             collapse: said_collapse(s),
             address: s.address,
         });
     }
-    Form::Wrong(end)
+    Err(end)
 }
 
 // One byte more after the letter: a digit, or no correct text goes on so.
-fn step_after_letter(s: Reading, byte: u8) -> Step
+#[tactic(auto, unfolding(crate::specs::Reads::step_of))]
+fn step_after_letter(s: Reading, byte: u8) -> Option<Reading>
     requires { Bounded s × (s.letter ≡ 0 → ⊥) }
     ensures { result ≡ step_of s byte }
 {
     if is_digit(byte) {
         return address_digit(s, byte - b'0');
     }
-    Step::Stop
+    None
 }
 
 // What a text says of which the letter came before `from`, where the reading stands at `start`.
-fn form_after_letter(start: Reading, text: &[u8], from: usize) -> Form
-    requires { Sound start × (start.letter ≡ 0 → ⊥) }
+fn form_after_letter(start: Reading, text: &[u8], from: usize) -> Result<Capcode, usize>
+    requires { Sound start × (start.letter ≡ 0 → ⊥) × (from ≤ length text.now) }
     ensures { result ≡ end_of (follow (going from start) (drop from text.now)) }
 {
     let mut s = start;
-    let mut here = from;
-    while here < text.len() {
-        let one_later = here + 1;
-        let Step::On(next) = step_after_letter(s, text[here]) else {
-            return Form::Wrong(here);
+    for here in from..text.len() {
+        let Some(next) = step_after_letter(s, text[here]) else {
+            return Err(here);
         };
         s = next;
-        here = one_later;
     }
-    form_at_end(s, here)
+    form_at_end(s, text.len())
 }
 
-// What a text says, or the first place at which no correct text goes on as it does. The digits after the
-// letter have a loop of their own, since they are most of a text.
-pub(crate) fn form_of(text: &[u8]) -> Form
+// What a text says, or the first place at which no correct text goes on as it does: the text's length where it only stops
+// too soon. The digits after the letter have a loop of their own, since they are most of a text.
+pub(crate) fn form_of(text: &[u8]) -> Result<Capcode, usize>
     ensures { result ≡ form_of text.now }
 {
     let mut s = Reading {
@@ -227,76 +221,69 @@ pub(crate) fn form_of(text: &[u8]) -> Form
         after: 0,
         address: 0,
     };
+    // A `while` and no `for`: a `for` was tried, and an accepted line of the listing took 43 instructions more with it.
     let mut i = 0;
     while i < text.len() {
         if !(s.letter == 0) {
             break;
         }
-        let Step::On(next) = step_of(s, text[i]) else {
-            return Form::Wrong(i);
+        let Some(next) = step_of(s, text[i]) else {
+            return Err(i);
         };
         s = next;
         i += 1;
     }
     if s.letter == 0 {
-        return Form::Wrong(i);
+        return Err(i);
     }
     form_after_letter(s, text, i)
 }
 
 // What is answered for a text that says `c`.
-fn read_as(c: Capcode) -> ReadAnswer
+fn read_as(c: Capcode) -> Result<(Capcode, Assignment), Fault>
     ensures { told_read result ≡ read_as c }
 {
-    match crate::assigning::assign(c) {
-        AssignAnswer::Assigned(a) => ReadAnswer::Whole(c, a),
-        AssignAnswer::Refused(r) => ReadAnswer::Refused(r),
-    }
+    let a = crate::assigning::assign(c)?;
+    Ok((c, a))
 }
 
-// Whether a place is before the letter: only digits stand before it.
-pub(crate) fn is_before_letter(text: &[u8], place: usize) -> bool
-    requires { place ≤ length text.now }
-    ensures { result ≡ before_letter text.now place }
-{
-    let mut i = 0;
-    while i < place {
-        if !is_digit(text[i]) {
-            return false;
+impl Wrong<'_> {
+    // Whether the place is before the letter: only digits stand before it.
+    pub(crate) fn is_before_letter(self) -> bool
+        ensures { result ≡ before_letter self.entry.text.now self.entry.place }
+    {
+        self.text[..self.place].iter().all(|byte| is_digit(*byte))
+    }
+
+    // The refusal, by the byte that stands there, if one does.
+    #[tactic(auto, unfolding(crate::specs::Reads::fault_at))]
+    pub(crate) fn refusal(self) -> Refusal
+        ensures { result ≡ fault_at self.entry.text.now self.entry.place }
+    {
+        if self.place == self.text.len() {
+            return Refusal::DigitAfterLetter;
         }
-        i += 1;
+        let byte = self.text[self.place];
+        if !is_digit(byte) {
+            return Refusal::Text;
+        }
+        if (self.place == 0) & (byte == b'4') {
+            return Refusal::LeadingFour;
+        }
+        if self.is_before_letter() {
+            return Refusal::DigitBeforeLetter;
+        }
+        Refusal::DigitAfterLetter
     }
-    true
-}
-
-// The refusal of a text that goes wrong at a place, by the byte that stands there, if one does.
-pub(crate) fn fault_at(text: &[u8], place: usize) -> Refusal
-    requires { place ≤ length text.now }
-    ensures { result ≡ fault_at text.now place }
-{
-    if place == text.len() {
-        return Refusal::DigitAfterLetter;
-    }
-    let byte = text[place];
-    if !is_digit(byte) {
-        return Refusal::Text;
-    }
-    if (place == 0) & (byte == b'4') {
-        return Refusal::LeadingFour;
-    }
-    if is_before_letter(text, place) {
-        return Refusal::DigitBeforeLetter;
-    }
-    Refusal::DigitAfterLetter
 }
 
 // What a text says, with the phase and base frame that it assigns, or the first refusal, with the place where the text goes
 // wrong if it is not in the form.
-pub fn read(text: &[u8]) -> ReadAnswer
+pub fn read(text: &[u8]) -> Result<(Capcode, Assignment), Fault>
     ensures { told_read result ≡ read_of text.now }
 {
     match form_of(text) {
-        Form::Says(c) => read_as(c),
-        Form::Wrong(place) => ReadAnswer::Wrong(fault_at(text, place), place as u8),
+        Ok(c) => read_as(c),
+        Err(place) => Err(Fault::Wrong(Wrong { text, place }.refusal(), place as u8)),
     }
 }

@@ -15,7 +15,8 @@ use Rattle.refusal.specs.declared.Refusal.{Refusal}
 use Rattle.refusal.specs.declared.Refusal.TheVariants as refusals
 use Rattle.refusal.specs.Told.{Told, number_of, order, given, ask, number_told}
 use Rattle.refusal.proofs.Laws.{number_asked}
-use Rattle.capcode.specs.declared.Classed.{Classed}
+use Rattle.std.specs.Prelude.{Result, Ok, Err}
+use Rattle.capcode.specs.declared.Class.{Class}
 use Rattle.capcode.specs.Ranges.{class_of, found}
 use Rattle.capcode.specs.Words.{layout_of, words_as, words_of, address_of}
 use Rattle.capcode.proofs.Fits.{known_class}
@@ -24,7 +25,7 @@ use Rattle.frames.specs.Listening.{heard, count_of}
 use Rattle.frames.proofs.Laws.{counted}
 use Rattle.sums.specs.Words.{undamaged}
 use Rattle.fragment.specs.Fragments.{most_characters, is_size, checked}
-use Rattle.fragment.specs.declared.FragmentRead.{FragmentRead}
+use Rattle.fragment.specs.declared.FragmentHeading.{FragmentHeading}
 use Rattle.chain.specs.declared.Chain.{Chain}
 use Rattle.chain.specs.Chains.{is_address, is_message, blank, find, holds, sound}
 use Rattle.chain.specs.Steps.{heading_in, is_first, goes_on, grows, whole, losing, grown, sum_after, characters_after, chain_before, fate}
@@ -45,7 +46,7 @@ is_part_of (a ∷ row) [] = false
 is_part_of (a ∷ row) (place ∷ order) = pick (any_of (eqb a) place) (is_part_of row order) (is_part_of (a ∷ row) order)
 
 -- what becomes of a chain has the number of the first of 14, 15, 16 and 12 that is given
-of_chain_lem : (row : List Chain) (address : ℕ) (h : FragmentRead) (c : Chain) (late over on wrong : Bool)
+of_chain_lem : (row : List Chain) (address : ℕ) (h : FragmentHeading) (c : Chain) (late over on wrong : Bool)
     → number_told
     (told_of row address h (losing late refusals.OutOfTurn (losing over refusals.TooLong (pick on (grows c) (losing wrong refusals.Signature whole)))))
     ≡ pick late 14 (pick over 15 (pick (not on && wrong) 16 (pick (full row address h) 12 0)))
@@ -135,13 +136,13 @@ words_kept = (
   λ row none. others_refused row (λ address words. none address (words_accepted address row words) words),
 )
   where
-    by_class : (address : ℕ) (class : Classed) → class_of address ≡ class → found class ≡ true
+    by_class : (address : ℕ) (class : Result Class Refusal) → class_of address ≡ class → found class ≡ true
         → (row : List ℕ) × (words_of address ≡ given row) × (address_of row ≡ given (address ∷ []))
-    by_class address (Classed.In class) e is =
+    by_class address (Ok class) e is =
         let row = words_as (layout_of class) address in
         let words : words_of address ≡ given row = sym (known_class address e) in
         (row, words, there_and_back address row words)
-    by_class address (Classed.Refused r) e is = absurd (false≢true is)
+    by_class address (Err r) e is = absurd (false≢true is)
 
 -- ---- the frame rule
 

@@ -318,7 +318,6 @@ zero_needed = refl
 -- an address number over 31, and N over 63: the record would not be sound
 pub limits_needed :
     sound (row_after (fresh 1) 32 (heading_in one)) ∷ sound (row_after (fresh 1) 7 (record {
-      number = 0;
       continued = 1;
       fragment_number = 3;
       message_number = 64;

@@ -12,7 +12,7 @@ use Rattle.laws.proofs.Tests.{decided, not_both}
 use Rattle.refusal.specs.declared.Refusal.TheVariants.{OutOfTurn, TooLong, Signature}
 use Rattle.refusal.specs.Told.{number_of}
 use Rattle.fragment.specs.Fragments.{most_characters}
-use Rattle.fragment.specs.declared.FragmentRead.{FragmentRead}
+use Rattle.fragment.specs.declared.FragmentHeading.{FragmentHeading}
 use Rattle.chain.specs.declared.Chain.{Chain}
 use Rattle.chain.specs.Chains.{is_open}
 use Rattle.chain.specs.Steps.{heading_in, goes_on, Fate, lost, grows, whole, losing, next_number, sum_after, characters_after, grown, fate, record_after}
@@ -39,7 +39,7 @@ next_small f = ⊎_elim (λ less. let below = ltb-true f 2 less in rw less (omeg
 
 -- ---- the questions
 
-module _ (c : Chain) (h : FragmentRead) where
+module _ (c : Chain) (h : FragmentHeading) where
   -- what 01 asks of a fragment and its chain: F is the next, the text has room, and the total of a last one is right
   pub record Taken : Type 0 where
     pub turn : h.fragment_number ≡ c.next_fragment

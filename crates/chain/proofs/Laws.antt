@@ -19,7 +19,7 @@ use Rattle.refusal.specs.Told.{Told, told, refused, given, ask, number_told, val
 use Rattle.refusal.proofs.Laws.{passed, passed_test}
 use Rattle.fragment.specs.Fragments.{is_size, checked}
 use Rattle.fragment.proofs.Laws.{Good}
-use Rattle.fragment.specs.declared.FragmentRead.{FragmentRead}
+use Rattle.fragment.specs.declared.FragmentHeading.{FragmentHeading}
 use Rattle.chain.specs.declared.Chain.{Chain}
 use Rattle.chain.specs.Chains.{blank, is_open, is_address, is_of, find, sound}
 use Rattle.chain.specs.Steps.{heading_in, is_first, goes_on, record_after, cleared, slot_for, chain_before, fate_of, row_after, grown}
@@ -194,7 +194,7 @@ module _ (lent : ℕ) (row : List Chain) (address : ℕ) (words : List ℕ) wher
   pub accepted : (number_told (step_of lent row address words) ≡ 0) ↔ Accepted
   accepted = (there, back)
     where
-      h : FragmentRead
+      h : FragmentHeading
       h = heading_in words
 
       given-slot : (rest : Told) → number_told (ask (full row address h) refusals.Full rest) ≡ 0 → slot_for row address h < length row
@@ -231,7 +231,7 @@ module _ (lent : ℕ) (row : List Chain) (address : ℕ) (words : List ℕ) wher
   refused_stays some early =
       chains_by (λ r. r ≡ row) (λ a. unchanged (rw (step_heard a) at some) (rw (step_heard a) at early)) refl
     where
-      h : FragmentRead
+      h : FragmentHeading
       h = heading_in words
 
       without : (values : List ℕ) → (number_told (ask (full row address h) refusals.Full (given values)) ≡ 0 → ⊥) → row_after row address h ≡ row
@@ -260,7 +260,7 @@ module _ (lent : ℕ) (row : List Chain) (address : ℕ) (words : List ℕ) wher
       (λ t on. asked _)
       (λ t ends. asked _))
     where
-      h : FragmentRead
+      h : FragmentHeading
       h = heading_in words
 
       asked : (values : List ℕ) → number_told (ask (full row address h) refusals.Full (given values)) ≤ 16
@@ -280,7 +280,7 @@ module _ (lent : ℕ) (row : List Chain) (address : ℕ) (words : List ℕ) wher
       let both = lost-fate (rw is at late) in
       (chains_heard heard ∙ closes row address h heard.right both.0, rw is both.1)
     where
-      h : FragmentRead
+      h : FragmentHeading
       h = heading_in words
 
       not_late : (values : List ℕ) → 14 ≤ number_told (ask (full row address h) refusals.Full (given values)) → ⊥

@@ -9,7 +9,7 @@ use lib.ListN.{length, get_or, set, length-set}
 use lib.Seq.{get_or-set_same, get_or-set_other, set_out}
 use Rattle.laws.proofs.Searches.{first_most, found_by}
 use Rattle.laws.proofs.Tests.{decided, not_both}
-use Rattle.fragment.specs.declared.FragmentRead.{FragmentRead}
+use Rattle.fragment.specs.declared.FragmentHeading.{FragmentHeading}
 use Rattle.chain.specs.declared.Chain.{Chain}
 use Rattle.chain.specs.Chains.{blank, is_open, is_of, find, first_free, sound}
 use Rattle.chain.specs.Steps.{is_first, record_after, fate, unbegun, older_slot, cleared, slot_for, chain_before, fate_of, row_after}
@@ -19,7 +19,7 @@ use Rattle.chain.proofs.Fates.{record_slot, record_key}
 use Rattle.chain.proofs.Stores.{set_sound, clear_sound, cleared_of_none, free_closed, free_cleared, OtherKey}
 use Rattle.chain.proofs.Stores.{Kept, kept_same, kept_on, kept_set, other_found}
 
-module _ (row : List Chain) (address : ℕ) (h : FragmentRead) where
+module _ (row : List Chain) (address : ℕ) (h : FragmentHeading) where
   -- ---- the slot
 
   -- a fragment's slot is one of the row, or none

@@ -15,7 +15,7 @@ use Rattle.laws.proofs.Writing.{length_put, put_grows, put_keeps_before, put_kee
 use Rattle.refusal.specs.declared.Refusal.TheVariants as refusals
 use Rattle.refusal.specs.Told.{Told, given, ask, number_told, value_told}
 use Rattle.fragment.specs.Fragments.{text_in}
-use Rattle.fragment.specs.declared.FragmentRead.{FragmentRead}
+use Rattle.fragment.specs.declared.FragmentHeading.{FragmentHeading}
 use Rattle.chain.specs.declared.Chain.{Chain}
 use Rattle.chain.specs.Chains.{blank, is_of}
 use Rattle.chain.specs.Steps.{heading_in, is_first, goes_on, characters_after, slot_for, chain_before, end_place}
@@ -122,7 +122,7 @@ module _ (row : List Chain) (address : ℕ) (words buffer : List ℕ) where
             (λ ends. ends) (decided (goes_on (heading_in words))),
       )
     where
-      h : FragmentRead
+      h : FragmentHeading
       h = heading_in words
 
       asked : (values : List ℕ) → let t = ask (full row address h) refusals.Full (given values) in (number_told t ≡ 0) ⊎ (value_told t 4 ≡ 0)

@@ -1,1 +1,2 @@
 pub mod Asking
+pub mod Found

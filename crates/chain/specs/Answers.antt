@@ -6,7 +6,7 @@ use Rattle.refusal.specs.declared.Refusal.TheVariants.{Room, State, Packet, Addr
 use Rattle.refusal.specs.Told.{Told, told, number_of, given, ask, number_told, value_told}
 use Rattle.fragment.specs.Fragments.{most_characters, text_in}
 use Rattle.fragment.specs.Answers.{when_good}
-use Rattle.fragment.specs.declared.FragmentRead.{FragmentRead}
+use Rattle.fragment.specs.declared.FragmentHeading.{FragmentHeading}
 use Rattle.chain.specs.declared.Chain.{Chain}
 use Rattle.chain.specs.declared.ChainAnswer.{ChainAnswer}
 use Rattle.chain.specs.declared.ChainDrop.{ChainDrop}
@@ -14,7 +14,7 @@ use Rattle.chain.specs.declared.ChainStep.{ChainStep}
 use Rattle.chain.specs.Chains.{is_address, is_message, blank, find, holds, sound}
 use Rattle.chain.specs.Steps.{heading_in, is_first, Fate, lost, grows, whole, characters_after, slot_for, chain_before, fate_of, row_after, text_place, end_place}
 
-module _ (row : List Chain) (address : ℕ) (h : FragmentRead) where
+module _ (row : List Chain) (address : ℕ) (h : FragmentHeading) where
   -- whether the fragment finds an open chain of its key
   abbrev pub known : Bool
   known = holds address h.message_number row

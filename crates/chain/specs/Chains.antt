@@ -1,5 +1,5 @@
 -- The records of chains (document 01, "A chain is known by .."; its table, 2), in a row of any length.
-use Rattle.std.specs.Prelude.{ℕ, Bool, true, not, ◌&&◌, List, [], ◌∷◌, leb, ltb, eqb, length, replicate}
+use Rattle.std.specs.Prelude.{ℕ, Bool, true, not, ◌&&◌, List, [], ◌∷◌, leb, ltb, eqb, length, replicate, Option, Some, None}
 use Rattle.laws.specs.Choice.{pick}
 use Rattle.laws.specs.Lists.{first_that}
 use Rattle.fragment.specs.Fragments.{most_characters}
@@ -50,6 +50,10 @@ holds address n row = ltb (find address n row) (length row)
 -- 01: "the lowest-numbered free slot"; the row's length where none is free
 abbrev pub first_free : List Chain → ℕ
 first_free row = first_that (λ c. not (is_open c)) row
+
+-- a slot that was looked for, by the place where the search ended: none where that is the row's length
+abbrev pub found : List Chain → ℕ → Option ℕ
+found row place = pick (ltb place (length row)) (Some place) None
 
 -- 01's table, 2, of the row: each slot is sound, and no two open chains are of one key
 unfoldable pub sound : List Chain → Bool

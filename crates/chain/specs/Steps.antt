@@ -6,21 +6,21 @@ use Rattle.refusal.specs.declared.Refusal.{Refusal}
 use Rattle.refusal.specs.declared.Refusal.TheVariants.{OutOfTurn, TooLong, Signature}
 use Rattle.fragment.specs.Fragments.{most_characters, first_number, cell_bits}
 use Rattle.fragment.specs.Answers.{heading_told}
-use Rattle.fragment.specs.declared.FragmentRead.{FragmentRead}
-use Rattle.fragment.specs.FlatAnswers.{as_fragment}
+use Rattle.fragment.specs.declared.FragmentHeading.{FragmentHeading}
+use Rattle.fragment.specs.FlatAnswers.{as_heading}
 use Rattle.chain.specs.declared.Chain.{Chain}
 use Rattle.chain.specs.Chains.{blank, find, first_free}
 
 -- what a good fragment says of itself
-abbrev pub heading_in : List ℕ → FragmentRead
-heading_in words = as_fragment (heading_told words)
+abbrev pub heading_in : List ℕ → FragmentHeading
+heading_in words = as_heading (heading_told words)
 
 -- whether a fragment is a first one
-abbrev pub is_first : FragmentRead → Bool
+abbrev pub is_first : FragmentHeading → Bool
 is_first h = eqb h.fragment_number first_number
 
 -- 01: "C is 1 when more follows"
-abbrev pub goes_on : FragmentRead → Bool
+abbrev pub goes_on : FragmentHeading → Bool
 goes_on h = not (eqb h.continued 0)
 
 -- ---- one chain
@@ -41,15 +41,15 @@ abbrev pub next_number : ℕ → ℕ
 next_number f = pick (ltb f 2) (f + 1) 0
 
 -- the running sum after a fragment
-abbrev pub sum_after : Chain → FragmentRead → ℕ
+abbrev pub sum_after : Chain → FragmentHeading → ℕ
 sum_after c h = (c.sum + h.sum) % 2 ^ cell_bits
 
 -- the length of the text after a fragment
-abbrev pub characters_after : Chain → FragmentRead → ℕ
+abbrev pub characters_after : Chain → FragmentHeading → ℕ
 characters_after c h = c.characters + h.characters
 
 -- the record of a chain that goes on after a fragment
-abbrev pub grown : Chain → FragmentRead → Chain
+abbrev pub grown : Chain → FragmentHeading → Chain
 grown c h =
     record {
       is_open = 1;
@@ -61,7 +61,7 @@ grown c h =
     }
 
 -- 01's table, 14, 15, 16: F is not the next; text over the room; the last fragment's total differs (S8.8.6: with the signature it is 127)
-unfoldable pub fate : Chain → FragmentRead → Fate
+unfoldable pub fate : Chain → FragmentHeading → Fate
 fate c h =
     losing (not (eqb h.fragment_number c.next_fragment)) OutOfTurn
     (losing (ltb most_characters (characters_after c h)) TooLong
@@ -82,7 +82,7 @@ unbegun address n =
 
 -- ---- a row of chains
 
-module _ (row : List Chain) (address : ℕ) (h : FragmentRead) where
+module _ (row : List Chain) (address : ℕ) (h : FragmentHeading) where
   -- the slot of the key's open chain
   abbrev pub older_slot : ℕ
   older_slot = find address h.message_number row

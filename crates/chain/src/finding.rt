@@ -1,28 +1,22 @@
-// Finding a chain among eight slots (document 01, "A chain is known by .."): the slot of a key, the lowest-numbered free
-// slot, and whether the records that were handed back are sound (its table, 2).
+// Finding a chain among the slots (document 01, "A chain is known by .."): the slot of a key, the lowest-numbered free
+// slot, and whether the records that were handed back are sound (its table, 2). The slots are lent: to hand them on by value
+// would be to copy them.
 ghost use Rattle.std.specs.Prelude.{◌≡◌};
-ghost use Rattle.chain.specs.Chains.{is_of, is_sound, find, first_free, sound};
+ghost use Rattle.chain.specs.Chains.{is_of, is_sound, find, first_free, found, sound};
 
-use crate::{Chain, LAST_ADDRESS, LAST_FRAGMENT, LAST_MESSAGE, SLOTS, WHOLE_SUM};
+use crate::{Chain, LAST_ADDRESS, LAST_FRAGMENT, LAST_MESSAGE, WHOLE_SUM};
 use fragment::MOST_CHARACTERS;
 
-// Eight slots, and whether they are sound.
-#[derive(Clone, Copy)]
-pub struct Judged {
-    pub slots: [Chain; SLOTS],
-    pub is_sound: bool,
-}
-
 // Whether a slot has the open chain of a key.
-pub(crate) fn is_of(chain: Chain, address: u32, message_number: u32) -> bool
-    ensures { result ≡ is_of address message_number chain }
+pub(crate) fn is_of(chain: &Chain, address: u32, message_number: u32) -> bool
+    ensures { result ≡ is_of address message_number chain.now }
 {
     (chain.is_open != 0) & (chain.address == address) & (chain.message_number == message_number)
 }
 
 // 01's table, 2, of one slot.
-fn is_sound(chain: Chain) -> bool
-    ensures { result ≡ is_sound chain }
+fn is_sound(chain: &Chain) -> bool
+    ensures { result ≡ is_sound chain.now }
 {
     if chain.is_open != 0 {
         return (chain.address <= LAST_ADDRESS)
@@ -38,72 +32,42 @@ fn is_sound(chain: Chain) -> bool
         & (chain.characters == 0)
 }
 
-// The slot of a key's open chain; 8 where it has none.
-pub(crate) fn find(slots: [Chain; SLOTS], address: u32, message_number: u32) -> usize
-    ensures { result ≡ find address message_number slots }
+// The slot of a key's open chain, if it has one.
+pub(crate) fn find(slots: &[Chain], address: u32, message_number: u32) -> Option<usize>
+    ensures { result ≡ found slots.now (find address message_number slots.now) }
 {
-    let mut at: usize = 0;
-    while at < SLOTS {
-        let chain = slots[at];
-        if is_of(chain, address, message_number) {
-            break;
-        }
-        at += 1;
-    }
-    at
+    slots
+        .iter()
+        .position(|chain| is_of(chain, address, message_number))
 }
 
-// 01: "the lowest-numbered free slot"; 8 where none is free.
-pub(crate) fn first_free(slots: [Chain; SLOTS]) -> usize
-    ensures { result ≡ first_free slots }
+// 01: "the lowest-numbered free slot", if one is free. A loop that breaks with it is the form that 01 names for this place.
+pub(crate) fn first_free(slots: &[Chain]) -> Option<usize>
+    ensures { result ≡ found slots.now (first_free slots.now) }
 {
-    let mut slot: usize = 0;
-    while slot < SLOTS {
-        let chain = slots[slot];
+    let mut free = None;
+    for (slot, chain) in slots.iter().enumerate() {
         if chain.is_open == 0 {
+            free = Some(slot);
             break;
         }
-        slot += 1;
     }
-    slot
+    free
 }
 
-// 01's table, 2: whether each slot is sound and no two open chains are of one key, with the slots. Two loops in one function,
-// and the slots handed back: one that was handed them for each slot would copy all of them each time, and so would the caller
-// that goes on with them.
-pub(crate) fn judge(slots: [Chain; SLOTS]) -> Judged
-    ensures { result ≡ record { slots = slots; is_sound = sound slots } }
+// 01's table, 2: whether each slot is sound and no two open chains are of one key.
+pub(crate) fn sound(slots: &[Chain]) -> bool
+    ensures { result ≡ sound slots.now }
 {
-    let mut judged = Judged {
-        slots: slots,
-        is_sound: false,
-    };
-    let mut i: usize = 0;
-    while i < SLOTS {
-        let chain = judged.slots[i];
+    for (slot, chain) in slots.iter().enumerate() {
         if !is_sound(chain) {
-            return judged;
+            return false;
         }
-        if chain.is_open != 0 {
-            let mut j = i + 1;
-            while j < SLOTS {
-                let other = judged.slots[j];
-                if is_of(other, chain.address, chain.message_number) {
-                    return judged;
-                }
-                j += 1;
-            }
+        if (chain.is_open != 0)
+            && find(&slots[slot + 1..], chain.address, chain.message_number).is_some()
+        {
+            return false;
         }
-        i += 1;
     }
-    judged.is_sound = true;
-    judged
-}
-
-// Whether eight slots are sound, where they are not wanted again.
-pub(crate) fn sound(slots: [Chain; SLOTS]) -> bool
-    ensures { result ≡ sound slots }
-{
-    let judged = judge(slots);
-    judged.is_sound
+    true
 }

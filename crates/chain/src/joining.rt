@@ -1,147 +1,172 @@
 // The step of a fragment (document 01, "A chain is known by .."). A fragment is judged before anything is written, and
 // writes its text once, at its chain's end.
-ghost use Rattle.std.specs.Prelude.{◌≡◌, ◌+◌, ◌*◌, ◌≤◌, ◌<◌, true, [], ◌∷◌, ltb, length, set};
-ghost use Rattle.laws.specs.Choice.{pick, bit_of};
+ghost use Rattle.std.specs.Prelude.{◌≡◌, ℕ, set, ◌+◌, ◌*◌, ◌≤◌, ◌<◌, true, false, length, Ok, IfOk, IfErr};
 ghost use Rattle.laws.specs.Lists.{put};
-ghost use Rattle.refusal.specs.Told.{told};
+ghost use Rattle.refusal.specs.Told.{Told, refused};
 ghost use Rattle.fragment.specs.Fragments.{most_characters, text_in};
-ghost use Rattle.chain.specs.Chains.{sound, slot_count};
-ghost use Rattle.chain.specs.Steps.{heading_in};
-ghost use Rattle.chain.specs.Answers.{as_answer, as_step, step_of, chains_after, buffer_after};
-ghost use Rattle.chain.specs.JoiningPieces.{turn_of, taken_of, join_of, joined_row, joined_bytes};
+ghost use Rattle.chain.specs.Chains.{blank, found, sound, slot_count};
+ghost use Rattle.chain.specs.Steps.{heading_in, cleared};
+ghost use Rattle.chain.specs.Answers.{when_heard, as_answer, as_step, step_of, chains_after, buffer_after};
+ghost use Rattle.chain.specs.JoiningPieces.{turn_of, answered, taken_of, Heard, join_of, joined_row, joined_bytes};
 
 use crate::{BLANK, Chain, ChainAnswer, ChainStep, Chains, FIRST_FRAGMENT, LAST_ADDRESS, SLOTS};
-use fragment::{FragmentRead, MOST_CHARACTERS};
+use fragment::{FragmentHeading, MOST_CHARACTERS};
 use refusal::Refusal;
 
-// Where a fragment goes: the slot of its key's open chain, its own, the chain before it, and whether an open chain of its
-// key was found. The records are not in it: each function that hands them on copies them.
-#[derive(Clone, Copy)]
+// Where a fragment goes: its chain so far, the slot for it, if there is one, and whether an open chain of its key was found. That
+// is a truth value of its own: a first fragment closes the chain that was found, and no more of it is wanted.
+#[derive(Clone, Copy, Debug, PartialEq, Eq)]
 struct Turn {
-    older: usize,
-    slot: usize,
     chain: Chain,
+    slot: Option<usize>,
     known: bool,
 }
 
-// The records with one of them changed; as they were where there is no such slot.
-fn stored(slots: [Chain; SLOTS], slot: usize, chain: Chain) -> [Chain; SLOTS]
-    ensures { result ≡ set slots slot chain }
-{
-    let mut after = slots;
-    if slot < SLOTS {
-        after[slot] = chain;
-    }
-    after
+// Where a text is that is handed out.
+#[derive(Clone, Copy, Debug, PartialEq, Eq)]
+struct TextPlace {
+    slot: usize,
+    place: usize,
+    characters: usize,
 }
 
-// The lower of two slots.
-fn lower(one: usize, other: usize) -> usize
-    ensures { result ≡ pick (ltb one other) one other }
-{
-    if one < other {
-        return one;
-    }
-    other
+// What a fragment tells that was taken: whether it closed an older chain, whether it began one, of a first one R and M, and
+// of a last one where the text is.
+#[derive(Clone, Copy, Debug, PartialEq, Eq)]
+struct Taken {
+    lost: bool,
+    begun: bool,
+    retrieval: u32,
+    mail_drop: u32,
+    text: Option<TextPlace>,
 }
 
-// Where a fragment goes. A first one closes an open chain of its key and takes the lowest-numbered free slot, which is
-// the lower of that chain's and of the first that is free already, and its chain awaits it; a later one stays in its
-// chain's slot.
-fn turn_of(slots: [Chain; SLOTS], address: u32, heading: FragmentRead) -> Turn
-    ensures { result ≡ turn_of slots address heading }
+// A refusal, and whether an open chain was closed with it.
+#[derive(Clone, Copy, Debug, PartialEq, Eq)]
+struct Refused {
+    refusal: Refusal,
+    lost: bool,
+}
+
+// An answer that tells nothing.
+const NOTHING: ChainAnswer = ChainAnswer {
+    number: 0,
+    lost: 0,
+    begun: 0,
+    retrieval: 0,
+    mail_drop: 0,
+    complete: 0,
+    slot: 0,
+    place: 0,
+    characters: 0,
+};
+
+// A refusal that closes no chain.
+impl From<Refusal> for Refused {
+    ghost from_gives = { λ r refused. refused ≡ record { refusal = r; lost = false } };
+
+    fn from(refusal: Refusal) -> Refused {
+        Refused {
+            refusal,
+            lost: false,
+        }
+    }
+}
+
+// The answer as C has it.
+impl From<Result<Taken, Refused>> for ChainAnswer {
+    ghost from_gives = { λ r answer. answer ≡ answered r };
+
+    fn from(joined: Result<Taken, Refused>) -> ChainAnswer {
+        let mut answer = NOTHING;
+        match joined {
+            Ok(taken) => {
+                answer.lost = taken.lost as u32;
+                answer.begun = taken.begun as u32;
+                answer.retrieval = taken.retrieval;
+                answer.mail_drop = taken.mail_drop;
+                if let Some(text) = taken.text {
+                    answer.complete = 1;
+                    answer.slot = text.slot;
+                    answer.place = text.place;
+                    answer.characters = text.characters;
+                }
+            }
+            Err(refused) => {
+                answer.number = refused.refusal.number();
+                answer.lost = refused.lost as u32;
+            }
+        }
+        answer
+    }
+}
+
+// Where a fragment goes. A first one closes an open chain of its key and takes the lowest-numbered free slot, and its chain
+// awaits it; a later one stays in its chain's slot, and is refused with 13 where it has none.
+fn turn_of(slots: &mut [Chain], address: u32, heading: FragmentHeading) -> Result<Turn, Refusal>
+    ensures turn { result ≡ turn_of slots.old address heading }
+    ensures slots { slots.new ≡ cleared slots.old address heading }
 {
     let older = crate::finding::find(slots, address, heading.message_number);
-    if heading.fragment_number == FIRST_FRAGMENT {
-        let free = crate::finding::first_free(slots);
-        return Turn {
-            older: older,
-            slot: lower(older, free),
-            chain: Chain {
-                is_open: 1,
-                address: address,
-                message_number: heading.message_number,
-                next_fragment: FIRST_FRAGMENT,
-                sum: 0,
-                characters: 0,
-            },
-            known: older < SLOTS,
+    if heading.fragment_number != FIRST_FRAGMENT {
+        return match older {
+            Some(slot) => Ok(Turn {
+                chain: slots[slot],
+                slot: older,
+                known: true,
+            }),
+            None => Err(Refusal::NoChain),
         };
     }
-    if SLOTS <= older {
-        return Turn {
-            older: older,
-            slot: older,
-            chain: BLANK,
-            known: false,
-        };
+    if let Some(slot) = older {
+        slots[slot] = BLANK;
     }
-    let chain = slots[older];
-    Turn {
-        older: older,
-        slot: older,
-        chain: chain,
-        known: true,
-    }
-}
-
-// A refusal tells its number, and whether an open chain was closed with it.
-fn refused(number: u32, lost: bool) -> ChainAnswer
-    ensures { result ≡ as_answer (told number (bit_of lost ∷ [])) }
-{
-    ChainAnswer {
-        number: number,
-        lost: lost as u32,
-        begun: 0,
-        retrieval: 0,
-        mail_drop: 0,
-        complete: 0,
-        slot: 0,
-        place: 0,
-        characters: 0,
-    }
-}
-
-// A refusal that changes nothing.
-fn unchanged(slots: [Chain; SLOTS], number: u32) -> ChainStep
-    ensures { result ≡ as_step (told number []) slots }
-{
-    ChainStep {
-        answer: refused(number, false),
-        chains: Chains { slots: slots },
-    }
+    Ok(Turn {
+        chain: Chain {
+            is_open: 1,
+            address: address,
+            message_number: heading.message_number,
+            next_fragment: FIRST_FRAGMENT,
+            sum: 0,
+            characters: 0,
+        },
+        slot: crate::finding::first_free(slots),
+        known: older.is_some(),
+    })
 }
 
 // What a fragment tells that was taken in a slot: of a first one R and M, of a last one where the text is.
-fn taken(turn: Turn, heading: FragmentRead) -> ChainAnswer
-    requires slot_lt_slot_count { turn.slot < slot_count }
+fn taken_in(turn: Turn, slot: usize, heading: FragmentHeading) -> Taken
+    requires slot_lt_slot_count { slot < slot_count }
     requires characters_bound { turn.chain.characters + heading.characters ≤ most_characters }
-    ensures { result ≡ as_answer (taken_of turn heading) }
+    ensures { answered (Ok result) ≡ as_answer (taken_of turn slot heading) }
 {
     let first = heading.fragment_number == FIRST_FRAGMENT;
-    if heading.continued != 0 {
-        return ChainAnswer {
-            number: 0,
-            lost: (first & turn.known) as u32,
-            begun: first as u32,
-            retrieval: heading.retrieval,
-            mail_drop: heading.mail_drop,
-            complete: 0,
-            slot: 0,
-            place: 0,
-            characters: 0,
-        };
-    }
-    ChainAnswer {
-        number: 0,
-        lost: (first & turn.known) as u32,
-        begun: first as u32,
+    let text = if heading.continued != 0 {
+        None
+    } else {
+        Some(TextPlace {
+            slot,
+            place: slot * MOST_CHARACTERS,
+            characters: turn.chain.characters + heading.characters,
+        })
+    };
+    Taken {
+        lost: first & turn.known,
+        begun: first,
         retrieval: heading.retrieval,
         mail_drop: heading.mail_drop,
-        complete: 1,
-        slot: turn.slot,
-        place: turn.slot * MOST_CHARACTERS,
-        characters: turn.chain.characters + heading.characters,
+        text,
+    }
+}
+
+// A slot closed, if there is one.
+fn close(slots: &mut [Chain], slot: Option<usize>)
+    requires { (place : ℕ) × (slot ≡ found slots.old place) }
+    ensures { (place : ℕ) → slot ≡ found slots.old place → slots.new ≡ set slots.old place blank }
+{
+    if let Some(slot) = slot {
+        slots[slot] = BLANK;
     }
 }
 
@@ -153,67 +178,96 @@ fn write_at(words: &[u32], buffer: &mut [u8], place: usize)
     let _written = fragment::write_text(words, &mut buffer[place..]);
 }
 
-// A good fragment joined: 13, 14, 15, 16 and 12 of 01's table, or its text written at its chain's end. A later fragment
-// without a chain has no slot, so that nothing is stored for it; it is refused with these records too, since to keep those
-// before them is one more copy for every fragment.
+// A good fragment joined: 13, 14, 15, 16 and 12 of 01's table, or its text written at its chain's end.
 fn join(
-    slots: [Chain; SLOTS],
+    slots: &mut [Chain],
     buffer: &mut [u8],
     address: u32,
-    heading: FragmentRead,
+    heading: FragmentHeading,
     words: &[u32],
-) -> ChainStep
-    requires slots_value { sound slots ≡ true }
+) -> Result<Taken, Refused>
+    requires slots_value { sound slots.old ≡ true }
+    requires count { length slots.old ≡ slot_count }
     requires most_characters_in_bounds { slot_count * most_characters ≤ length buffer.old }
     requires heading_value { heading ≡ heading_in words.now }
-    ensures told { result ≡ as_step (join_of slots address (heading_in words.now)) (joined_row slots address (heading_in words.now)) }
-    ensures buffer { buffer.new ≡ joined_bytes slots address words.now buffer.old }
+    ensures told { answered result ≡ as_answer (join_of slots.old address heading) }
+    ensures slots { slots.new ≡ joined_row slots.old address heading }
+    ensures buffer { buffer.new ≡ joined_bytes slots.old address words.now buffer.old }
 {
-    let turn = turn_of(slots, address, heading);
-    let fate = crate::one_chain::fate(turn.chain, heading);
-    let cleared = stored(slots, turn.older, BLANK);
-    let after = stored(cleared, turn.slot, fate.chain);
-    if (heading.fragment_number != FIRST_FRAGMENT) & !turn.known {
-        return unchanged(after, Refusal::NoChain.number());
-    }
-    if fate.number != 0 {
-        return ChainStep {
-            answer: refused(fate.number, turn.known),
-            chains: Chains { slots: after },
-        };
-    }
-    if turn.slot == SLOTS {
-        return unchanged(after, Refusal::Full.number());
-    }
-    let end = turn.slot * MOST_CHARACTERS + turn.chain.characters;
-    write_at(words, buffer, end);
-    ChainStep {
-        answer: taken(turn, heading),
-        chains: Chains { slots: after },
+    let turn = turn_of(slots, address, heading)?;
+    match crate::one_chain::fate(turn.chain, heading) {
+        Ok(chain) => match turn.slot {
+            Some(slot) => {
+                slots[slot] = chain;
+                write_at(
+                    words,
+                    buffer,
+                    slot * MOST_CHARACTERS + turn.chain.characters,
+                );
+                Ok(taken_in(turn, slot, heading))
+            }
+            None => Err(Refused::from(Refusal::Full)),
+        },
+        Err(refusal) => {
+            close(slots, turn.slot);
+            Err(Refused {
+                refusal,
+                lost: turn.known,
+            })
+        }
     }
 }
 
+// The heading of a fragment that can be joined; or 1, 2, 8, 9, 10 or 11 of 01's table, the first that applies.
+fn heard(
+    slots: &[Chain],
+    lent: usize,
+    address: u32,
+    words: &[u32],
+) -> Result<FragmentHeading, Refusal>
+    requires { length slots.now ≡ slot_count }
+    ensures refused { IfErr result (λ r. (rest : Told) → when_heard lent slots.now address words.now rest ≡ refused r) }
+    ensures heard { IfOk result (λ h. Heard lent slots.now address words.now h) }
+{
+    if lent < SLOTS * MOST_CHARACTERS {
+        return Err(Refusal::Room);
+    }
+    if !crate::finding::sound(slots) {
+        return Err(Refusal::State);
+    }
+    if address > LAST_ADDRESS {
+        return Err(Refusal::Address);
+    }
+    fragment::heading(words)
+}
+
+// A fragment heard and joined: what it tells, or its refusal; the records then, and its text at its chain's end.
+fn take(
+    slots: &mut [Chain],
+    buffer: &mut [u8],
+    address: u32,
+    words: &[u32],
+) -> Result<Taken, Refused>
+    requires { length slots.old ≡ slot_count }
+    ensures told { answered result ≡ as_answer (step_of (length buffer.old) slots.old address words.now) }
+    ensures slots { slots.new ≡ chains_after (length buffer.old) slots.old address words.now }
+    ensures buffer { buffer.new ≡ buffer_after slots.old address words.now buffer.old }
+{
+    let heading = heard(slots, buffer.len(), address, words)?;
+    join(slots, buffer, address, heading, words)
+}
+
 // A fragment for an address number: the answer, the records then, and its text in the lent buffer at its chain's end
-// unless it is refused.
-pub fn step(chains: Chains, buffer: &mut [u8], address: u32, words: &[u32]) -> ChainStep
+// unless it is refused. The C struct and not a Result: it hands the records back after a refusal too.
+pub fn step(mut chains: Chains, buffer: &mut [u8], address: u32, words: &[u32]) -> ChainStep
     ensures told { result
         ≡ as_step (step_of (length buffer.old) chains.slots address words.now)
         (chains_after (length buffer.old) chains.slots address words.now) }
     ensures buffer { buffer.new ≡ buffer_after chains.slots address words.now buffer.old }
 {
-    let slots = chains.slots;
-    if buffer.len() < SLOTS * MOST_CHARACTERS {
-        return unchanged(slots, Refusal::Room.number());
+    let taken = take(&mut chains.slots, buffer, address, words);
+    ChainStep {
+        answer: ChainAnswer::from(taken),
+        chains,
     }
-    if !crate::finding::sound(slots) {
-        return unchanged(slots, Refusal::State.number());
-    }
-    if address > LAST_ADDRESS {
-        return unchanged(slots, Refusal::Address.number());
-    }
-    let heading = fragment::heading(words);
-    if heading.number != 0 {
-        return unchanged(slots, heading.number);
-    }
-    join(slots, buffer, address, heading, words)
 }

@@ -44,11 +44,14 @@ pub const LAST_FRAGMENT: u32 = 2;
 // S8.8.6: what signature and characters of a whole message make, modulo 128.
 pub const WHOLE_SUM: u32 = 127;
 
+// In the structs below with repr(C) flags and refusals are numbers, and values that are not told are 0: the C interface takes
+// them and hands them out so.
+
 // The record of one slot. Open is any number but 0; a closed slot's record is all zero. An open chain is known by its
 // address number and its message number; it awaits the next F; `sum` is the sum modulo 128 of what came, the signature
 // with it, and `characters` the length of its text so far.
 #[repr(C)]
-#[derive(Clone, Copy)]
+#[derive(Clone, Copy, Debug, PartialEq, Eq)]
 pub struct Chain {
     pub is_open: u32,
     pub address: u32,
@@ -70,7 +73,7 @@ pub const BLANK: Chain = Chain {
 
 // The records of the eight slots. The text of slot i begins at byte 1,008 times i of the lent buffer.
 #[repr(C)]
-#[derive(Clone, Copy)]
+#[derive(Clone, Copy, Debug, PartialEq, Eq)]
 pub struct Chains {
     pub slots: [Chain; SLOTS],
 }
@@ -80,7 +83,7 @@ pub struct Chains {
 // fragment that was taken, with its R and M; `complete`, 1 where it hands out a text, with the slot, the place of the text in the
 // lent buffer and its length. What is not told is 0.
 #[repr(C)]
-#[derive(Clone, Copy)]
+#[derive(Clone, Copy, Debug, PartialEq, Eq)]
 pub struct ChainAnswer {
     pub number: u32,
     pub lost: u32,
@@ -95,7 +98,7 @@ pub struct ChainAnswer {
 
 // The answer to a fragment, and the records then.
 #[repr(C)]
-#[derive(Clone, Copy)]
+#[derive(Clone, Copy, Debug, PartialEq, Eq)]
 pub struct ChainStep {
     pub answer: ChainAnswer,
     pub chains: Chains,
@@ -103,15 +106,8 @@ pub struct ChainStep {
 
 // The answer to a drop, and the records then.
 #[repr(C)]
-#[derive(Clone, Copy)]
+#[derive(Clone, Copy, Debug, PartialEq, Eq)]
 pub struct ChainDrop {
     pub number: u32,
     pub chains: Chains,
-}
-
-// What becomes of a chain: the refusal with which it is lost, or 0, and its slot's record then.
-#[derive(Clone, Copy)]
-pub struct ChainFate {
-    pub number: u32,
-    pub chain: Chain,
 }

@@ -1,12 +1,11 @@
 // What a fragment makes of its chain (document 01, "A continuation must carry the next F .."; its table, 14, 15 and 16): one
 // record, one fragment's heading, and the record that the slot has then.
 ghost use Rattle.std.specs.Prelude.{◌≡◌};
-ghost use Rattle.refusal.specs.Told.{number_of};
 ghost use Rattle.chain.specs.Steps.{next_number, fate};
 ghost use Rattle.chain.specs.FateAnswers.{as_fate};
 
-use crate::{BLANK, Chain, ChainFate, LAST_FRAGMENT, WHOLE_SUM};
-use fragment::{CELL_LIMIT, FragmentRead, MOST_CHARACTERS};
+use crate::{BLANK, Chain, LAST_FRAGMENT, WHOLE_SUM};
+use fragment::{CELL_LIMIT, FragmentHeading, MOST_CHARACTERS};
 use refusal::Refusal;
 
 // F counts 3, 0, 1, 2, 0 and so on: the one after.
@@ -19,49 +18,33 @@ fn next_number(fragment_number: u32) -> u32
     0
 }
 
-// A chain that its fragment closes: the refusal, and the record that its slot has then.
-fn lost(refusal: Refusal, after: Chain) -> ChainFate
-    ensures { result ≡ record { number = number_of refusal; chain = after } }
-{
-    ChainFate {
-        number: refusal.number(),
-        chain: after,
-    }
-}
-
-// What a fragment makes of its chain: 14, 15 or 16 of 01's table, or its record after the fragment.
-pub fn fate(chain: Chain, heading: FragmentRead) -> ChainFate
+// What a fragment makes of its chain: its record after the fragment; or 14, 15 or 16 of 01's table, with which the chain is
+// closed.
+pub fn fate(chain: Chain, heading: FragmentHeading) -> Result<Chain, Refusal>
     ensures { result ≡ as_fate (fate chain heading) }
 {
-    let closed = BLANK;
     if heading.fragment_number != chain.next_fragment {
-        return lost(Refusal::OutOfTurn, closed);
+        return Err(Refusal::OutOfTurn);
     }
     if heading.characters > MOST_CHARACTERS {
-        return lost(Refusal::TooLong, closed);
+        return Err(Refusal::TooLong);
     }
     if chain.characters > MOST_CHARACTERS - heading.characters {
-        return lost(Refusal::TooLong, closed);
+        return Err(Refusal::TooLong);
     }
     let sum = (chain.sum % CELL_LIMIT + heading.sum % CELL_LIMIT) % CELL_LIMIT;
     if heading.continued != 0 {
-        return ChainFate {
-            number: 0,
-            chain: Chain {
-                is_open: 1,
-                address: chain.address,
-                message_number: chain.message_number,
-                next_fragment: next_number(heading.fragment_number),
-                sum: sum,
-                characters: chain.characters + heading.characters,
-            },
-        };
+        return Ok(Chain {
+            is_open: 1,
+            address: chain.address,
+            message_number: chain.message_number,
+            next_fragment: next_number(heading.fragment_number),
+            sum: sum,
+            characters: chain.characters + heading.characters,
+        });
     }
     if sum != WHOLE_SUM {
-        return lost(Refusal::Signature, closed);
+        return Err(Refusal::Signature);
     }
-    ChainFate {
-        number: 0,
-        chain: closed,
-    }
+    Ok(BLANK)
 }

@@ -1,17 +1,17 @@
 -- What writes write, one after the other, and what is said of a line.
-use Rattle.std.proofs.Common.{◌≡◌, ℕ, zero, suc, ◌-◌, ◌<◌, arith, true, false, List, [], ◌∷◌, ◌++◌, length, take, replicate, refl, Result, Ok, Err, OnOk}
+use Rattle.std.proofs.Common.{◌≡◌, ℕ, zero, suc, ◌<◌, arith, true, false, List, [], ◌∷◌, ◌++◌, take, min, refl, Result, Ok, Err, OnOk}
 use lib.Dec.{eqb}
-use lib.Seq.{take-append_seam}
 use Rattle.std.specs.declared.option.Option.{Option}
 use Rattle.std.specs.Io.KnownBytes.{Appends}
 use Rattle.std.proofs.KnownBytes.{Appends-trans}
 use Rattle.refusal.specs.declared.Refusal.{Refusal}
-use Rattle.refusal.specs.declared.Sentence.{Sentence}
-use Rattle.refusal.specs.Sentences.{sentence_at, in_places}
 use Rattle.refusal.specs.Told.{told, number_of}
 use Rattle.refusal.proofs.Laws.{number_positive}
 use Rattle.capcode.specs.Advice.{advice_of}
-use Rattle.capcode.specs.Reads.{read_of}
+use Rattle.laws.specs.Texts.{bytes_of}
+use Rattle.capcode.specs.declared.Fault.{Fault}
+use Rattle.capcode.specs.Reads.{read_of, told_read}
+use Rattle.std.proofs.lemmas.Grind.{common_steps}
 use Rattle.explaining.specs.Remarks.{caret, sentence_of, is_refused, remark_by, remark, entry, kept_by, kept}
 
 -- what was written, and what a call that went well wrote after it
@@ -19,10 +19,6 @@ pub written_then : {T E : Type 0} (r : Result T E) (held between holds : Option 
     → Appends held between xs → OnOk r (Appends between holds ys) → OnOk r (Appends held holds (xs ++ ys))
 written_then (Ok x) held between holds xs ys first then = Appends-trans held between holds xs ys first then
 written_then (Err e) held between holds xs ys first then = tt
-
--- the bytes of a sentence, without the zeros after them
-pub sentence_bytes : (row : ℕ) (sentence : Sentence) → sentence ≡ in_places (sentence_at row) → take sentence.length sentence.bytes ≡ sentence_at row
-sentence_bytes row sentence e = rw e (take-append_seam (sentence_at row) (replicate (96 - length (sentence_at row)) 0))
 
 -- no refusal has the number 0
 number_after : (n : ℕ) → 0 < n → (k : ℕ) × (n ≡ suc k)
@@ -47,12 +43,20 @@ pub line_accepted : (text : List ℕ) (line : ℕ) (values : List ℕ) → told 
 unfolding remark kept
 line_accepted text line values e = rw (← e) (refl, refl, refl)
 
-pub line_refused : (text : List ℕ) (line : ℕ) (r : Refusal) → told (number_of r) [] ≡ read_of text
+pub line_refused : (text : List ℕ) (line : ℕ) (fault : Fault) (r : Refusal) → fault ≡ Fault.Refused r → told_read (Err fault) ≡ read_of text
     → (remark text line ≡ sentence_of line (advice_of (eqb line 1) text)) × (kept text line ≡ []) × (is_refused (read_of text) ≡ true)
 unfolding remark kept
-line_refused text line r e = rw (← e) (said_refused (number_of r) (number_some r) _ _)
+line_refused text line fault r is e =
+    let told : told (number_of r) [] ≡ read_of text = rw is at e in
+    rw (← told) (said_refused (number_of r) (number_some r) _ _)
 
-pub line_wrong : (text : List ℕ) (line place : ℕ) (r : Refusal) → told (number_of r) (place ∷ []) ≡ read_of text
+pub line_wrong : (text : List ℕ) (line : ℕ) (fault : Fault) (r : Refusal) (place : ℕ) → fault ≡ Fault.Wrong r place → told_read (Err fault) ≡ read_of text
     → (remark text line ≡ caret place ++ sentence_of line (advice_of (eqb line 1) text)) × (kept text line ≡ []) × (is_refused (read_of text) ≡ true)
 unfolding remark kept
-line_wrong text line place r e = rw (← e) (said_wrong (number_of r) place (number_some r) _ _)
+line_wrong text line fault r place is e =
+    let told : told (number_of r) (place ∷ []) ≡ read_of text = rw is at e in
+    rw (← told) (said_wrong (number_of r) place (number_some r) _ _)
+
+-- there are no more than fifteen blanks before a caret
+pub cut_blanks : (place n : ℕ) → n ≡ min place 15 → take n (bytes_of "               ") ≡ take place (bytes_of "               ")
+cut_blanks place n e = rw e (grind (arith, common_steps))

@@ -1,12 +1,10 @@
 -- What is said of a line besides its listing: a remark below it where it is refused, and else its text and its number for the summary.
-use Rattle.std.specs.Prelude.{ℕ, zero, suc, Bool, true, false, List, [], ◌∷◌, ◌++◌, eqb, take}
+use Rattle.std.specs.Prelude.{ℕ, zero, suc, Bool, true, false, List, [], ◌∷◌, ◌++◌, eqb, take, Option, Some, None}
 use Rattle.std.specs.Fmt.{decimal}
-use Rattle.laws.specs.Choice.{pick}
 use Rattle.laws.specs.Texts.{bytes_of}
 use Rattle.refusal.specs.Told.{Told, told}
 use Rattle.refusal.specs.Sentences.{sentence_at}
-use Rattle.capcode.specs.declared.Advice.{Advice}
-use Rattle.capcode.specs.Advice.{advice_of}
+use Rattle.capcode.specs.Advice.{Advised, advice_of}
 use Rattle.capcode.specs.Reads.{read_of}
 
 -- a caret under a place of the line above, of which fifteen are the most
@@ -14,11 +12,12 @@ unfoldable pub caret : ℕ → List ℕ
 caret place = take place (bytes_of "               ") ++ bytes_of "^ "
 
 -- the letter that is to be written, if there is one
-abbrev pub letter_shown : ℕ → List ℕ
-letter_shown letter = pick (eqb letter 0) [] (letter ∷ [])
+abbrev pub letter_shown : Option ℕ → List ℕ
+letter_shown (Some letter) = letter ∷ []
+letter_shown None = []
 
 -- a sentence with the number of its line
-unfoldable pub sentence_of : ℕ → Advice → List ℕ
+unfoldable pub sentence_of : ℕ → Advised → List ℕ
 sentence_of line advice =
     bytes_of "line " ++ decimal line ++ bytes_of ": " ++ sentence_at advice.row ++ letter_shown advice.letter ++ bytes_of "\n"
 

@@ -4,16 +4,17 @@
 // there were and how many were refused: `./list --explain` makes the summary of that.
 #![tactic(auto)]
 
-ghost use Rattle.std.specs.Prelude.{◌≡◌, ◌≤◌, ◌<◌, length, take, eqb, IfOk, OnOk};
+ghost use Rattle.std.specs.Prelude.{◌≡◌, ◌≤◌, eqb, vec_len, IfOk, OnOk};
 ghost use Rattle.std.specs.Fmt.{decimal};
 ghost use Rattle.std.specs.Io.KnownBytes.{Appends};
 ghost use Rattle.capcode.specs.Advice.{advice_of};
 ghost use Rattle.capcode.specs.Reads.{read_of};
+ghost use Rattle.lister.specs.Stands.{kept_of};
 ghost use Rattle.explaining.specs.Remarks.{caret, letter_shown, sentence_of, is_refused, remark, entry, kept};
 
 use anyhow::{Context, Result, bail};
-use capcode::ReadAnswer;
-use lister::{Lister, Written};
+use capcode::Fault;
+use lister::Lister;
 use std::alloc::Global;
 use std::env;
 use std::fs::File;
@@ -25,363 +26,245 @@ const PORTION: usize = 4096;
 // How many bytes of the listing are written at a time.
 const ROOM: usize = 65536;
 
-// How far an input is explained: where its listing stands, how many lines have ended and how many of them were refused.
-#[derive(Clone, Copy)]
-struct Explained {
-    lister: Lister,
-    lines: u64,
-    refused: u64,
+// What texts are written to, and its name in a message. The other programs have such functions of their own: each is one call
+// of the library with a context, and one crate for them would be no plainer.
+#[derive(Drop)]
+struct Stream<W> {
+    writer: W,
+    name: &'static str,
 }
 
-// How far the input is explained, and whether to read on.
-#[derive(Clone, Copy)]
-struct Turned {
-    state: Explained,
-    goes_on: bool,
-}
-
-// Writes a part of the listing, or says why not.
-fn write<W: Write>(text: &[u8], writer: &mut W) -> Result<()>
-    ensures { OnOk result (Appends (W.contents writer.old) (W.contents writer.new) text.now) }
-{
-    writer.write_all(text).context("standard output")
-}
-
-// One more, if a number of 64 bits holds it.
-fn one_more(n: u64) -> u64 {
-    if n < u64::MAX { n + 1 } else { n }
-}
-
-// Writes so many bytes of a row, or all where it has no more.
-fn write_first<W: Write>(row: &[u8], count: usize, writer: &mut W) -> Result<()>
-    ensures { OnOk result (Appends (W.contents writer.old) (W.contents writer.new) (take count row.now)) }
-{
-    if count < row.len() {
-        return write(&row[..count], writer);
+impl<W: Write> Stream<W> {
+    // Writes a text, or says why not.
+    fn put(&mut self, text: &[u8]) -> Result<()>
+        ensures { OnOk result (Appends (W.contents self.old.writer) (W.contents self.new.writer) text.now) }
+    {
+        self.writer.write_all(text).context(self.name)
     }
-    write(row, writer)
-}
 
-// Writes a number in decimal digits.
-fn write_number<W: Write>(n: u64, writer: &mut W) -> Result<()>
-    ensures { OnOk result (Appends (W.contents writer.old) (W.contents writer.new) (decimal n)) }
-{
-    write!(writer, "{n}").context("standard output")
-}
-
-// Writes a text for the summary, or says why not.
-fn keep<S: Write>(text: &[u8], summary: &mut S) -> Result<()>
-    ensures { OnOk result (Appends (S.contents summary.old) (S.contents summary.new) text.now) }
-{
-    summary.write_all(text).context("the summary")
-}
-
-// Writes a number for the summary.
-fn keep_number<S: Write>(n: u64, summary: &mut S) -> Result<()>
-    ensures { OnOk result (Appends (S.contents summary.old) (S.contents summary.new) (decimal n)) }
-{
-    write!(summary, "{n}").context("the summary")
-}
-
-// Writes the caret under a place of the line above.
-fn write_caret<W: Write>(place: u8, writer: &mut W) -> Result<()>
-    ensures { OnOk result (Appends (W.contents writer.old) (W.contents writer.new) (caret place)) }
-{
-    write_first(b"               ", place as usize, writer)?;
-    write(b"^ ", writer)
-}
-
-// Writes the letter that is to be written, if there is one.
-fn write_letter<W: Write>(letter: u8, writer: &mut W) -> Result<()>
-    ensures { OnOk result (Appends (W.contents writer.old) (W.contents writer.new) (letter_shown letter)) }
-{
-    if letter == 0 {
-        return Ok(());
+    // Writes a number in decimal digits.
+    fn put_number(&mut self, n: u64) -> Result<()>
+        ensures { OnOk result (Appends (W.contents self.old.writer) (W.contents self.new.writer) (decimal n)) }
+    {
+        write!(self.writer, "{n}").context(self.name)
     }
-    write(&[letter], writer)
-}
 
-// Writes the line number, and the sentence that says what is wrong with a text.
-fn write_remark<W: Write>(text: &[u8], line: u64, writer: &mut W) -> Result<()>
-    ensures { OnOk result (Appends (W.contents writer.old) (W.contents writer.new) (sentence_of line (advice_of (eqb line 1) text.now))) }
-{
-    let advice = capcode::advise(text, line == 1);
-    let sentence = refusal::in_words(advice.row);
-    write(b"line ", writer)?;
-    write_number(line, writer)?;
-    write(b": ", writer)?;
-    write_first(&sentence.bytes, sentence.length, writer)?;
-    write_letter(advice.letter, writer)?;
-    write(b"\n", writer)
-}
+    // Writes the caret under a place of the line above.
+    fn put_caret(&mut self, place: u8) -> Result<()>
+        ensures { OnOk result (Appends (W.contents self.old.writer) (W.contents self.new.writer) (caret place)) }
+    {
+        let blanks = b"               ";
+        self.put(&blanks[..(place as usize).min(15)])?;
+        self.put(b"^ ")
+    }
 
-// Writes an accepted CAPCODE and its line number for the summary.
-fn write_accepted<S: Write>(text: &[u8], line: u64, summary: &mut S) -> Result<()>
-    ensures { OnOk result (Appends (S.contents summary.old) (S.contents summary.new) (entry text.now line)) }
-{
-    keep(text, summary)?;
-    keep(b" ", summary)?;
-    keep_number(line, summary)?;
-    keep(b"\n", summary)
+    // Writes the line number, and the sentence that says what is wrong with a text.
+    fn put_remark(&mut self, text: &[u8], line: u64) -> Result<()>
+        ensures { OnOk result (Appends (W.contents self.old.writer) (W.contents self.new.writer)
+            (sentence_of line (advice_of (eqb line 1) text.now))) }
+    {
+        let advice = capcode::advise(text, line == 1);
+        self.put(b"line ")?;
+        self.put_number(line)?;
+        self.put(b": ")?;
+        self.put(refusal::in_words(advice.row()).as_bytes())?;
+        self.put_letter(advice.letter())?;
+        self.put(b"\n")
+    }
+
+    // Writes the letter that is to be written, if there is one.
+    fn put_letter(&mut self, letter: Option<u8>) -> Result<()>
+        ensures { OnOk result (Appends (W.contents self.old.writer) (W.contents self.new.writer) (letter_shown letter)) }
+    {
+        match letter {
+            Some(letter) => self.put(&[letter]),
+            None => Ok(()),
+        }
+    }
+
+    // Writes an accepted CAPCODE and its line number for the summary.
+    fn put_entry(&mut self, text: &[u8], number: u64) -> Result<()>
+        ensures { OnOk result (Appends (W.contents self.old.writer) (W.contents self.new.writer) (entry text.now number)) }
+    {
+        self.put(text)?;
+        self.put(b" ")?;
+        self.put_number(number)?;
+        self.put(b"\n")
+    }
+
+    // Writes all that was kept, or says why not.
+    fn flush(&mut self) -> Result<()> {
+        self.writer.flush().context(self.name)
+    }
 }
 
 // Says what is wrong with the text of a line, if anything is, and whether anything is.
 fn explain_line<W: Write, S: Write>(
     text: &[u8],
     line: u64,
-    writer: &mut W,
-    summary: &mut S,
+    listing: &mut Stream<W>,
+    summary: &mut Stream<S>,
 ) -> Result<bool>
     ensures refused { IfOk result (λ r. r ≡ is_refused (read_of text.now)) }
-    ensures said { OnOk result (Appends (W.contents writer.old) (W.contents writer.new) (remark text.now line)) }
-    ensures kept { OnOk result (Appends (S.contents summary.old) (S.contents summary.new) (kept text.now line)) }
+    ensures said { OnOk result (Appends (W.contents listing.old.writer) (W.contents listing.new.writer) (remark text.now line)) }
+    ensures kept { OnOk result (Appends (S.contents summary.old.writer) (S.contents summary.new.writer) (kept text.now line)) }
 {
     match capcode::read(text) {
-        ReadAnswer::Whole(_, _) => {
-            write_accepted(text, line, summary)?;
+        Ok(_) => {
+            summary.put_entry(text, line)?;
             Ok(false)
         }
-        ReadAnswer::Wrong(_, place) => {
-            write_caret(place, writer)?;
-            write_remark(text, line, writer)?;
+        Err(Fault::Wrong(_, place)) => {
+            listing.put_caret(place)?;
+            listing.put_remark(text, line)?;
             Ok(true)
         }
-        ReadAnswer::Refused(_) => {
-            write_remark(text, line, writer)?;
+        Err(Fault::Refused(_)) => {
+            listing.put_remark(text, line)?;
             Ok(true)
         }
     }
 }
 
-// Says what is wrong with the first bytes of a line, if anything is; a count over its length stands for all of them.
-fn explain_first<W: Write, S: Write>(
-    line: &[u8],
-    count: usize,
-    number: u64,
-    writer: &mut W,
-    summary: &mut S,
-) -> Result<bool>
-    ensures refused { IfOk result (λ r. r ≡ is_refused (read_of (take count line.now))) }
-    ensures said { OnOk result (Appends (W.contents writer.old) (W.contents writer.new) (remark (take count line.now) number)) }
-    ensures kept { OnOk result (Appends (S.contents summary.old) (S.contents summary.new) (kept (take count line.now) number)) }
-{
-    if count < line.len() {
-        return explain_line(&line[..count], number, writer, summary);
-    }
-    explain_line(line, number, writer, summary)
+// How far an input is explained: where its listing stands, how many lines have ended and how many of them were refused; the
+// buffer for a part of the listing, and where listing and summary go.
+#[derive(Drop)]
+struct Explaining<W, S> {
+    lister: Lister,
+    lines: u64,
+    refused: u64,
+    out: Vec<u8>,
+    listing: Stream<W>,
+    summary: Stream<S>,
+    ghost room: { 42 ≤ vec_len out },
 }
 
-// Counts a line that has ended, and says what is wrong with its text: the bytes that are kept of it.
-fn explain_kept<W: Write, S: Write>(
-    ended: Lister,
-    before: Explained,
-    writer: &mut W,
-    summary: &mut S,
-) -> Result<Explained> {
-    let number = one_more(before.lines);
-    let is_refused = explain_first(&ended.line, ended.count, number, writer, summary)?;
-    Ok(Explained {
-        lister: before.lister,
-        lines: number,
-        refused: if is_refused {
-            one_more(before.refused)
-        } else {
-            before.refused
-        },
-    })
-}
-
-// Lists a part of a line, or its line feed. A part is so short that the listing of it has room.
-fn list_part<W: Write>(
-    before: Explained,
-    part: &[u8],
-    out: &mut [u8],
-    writer: &mut W,
-) -> Result<Explained> {
-    let fed = lister::feed(before.lister, part, out);
-    write_first(out, fed.written, writer)?;
-    if fed.taken < part.len() {
-        bail!("standard output: the buffer is too short");
-    }
-    let mut after = before;
-    after.lister = fed.lister;
-    Ok(after)
-}
-
-// Ends a line at its line feed.
-fn end_line<W: Write, S: Write>(
-    before: Explained,
-    out: &mut [u8],
-    writer: &mut W,
-    summary: &mut S,
-) -> Result<Explained> {
-    let after = list_part(before, b"\n", out, writer)?;
-    explain_kept(before.lister, after, writer, summary)
-}
-
-// Where the line that a place lies in ends: at its line feed, or at the end of the portion.
-fn line_end(input: &[u8], from: usize) -> usize
-    requires { from ≤ length input.now }
-    ensures { (from ≤ result) × (result ≤ length input.now) }
-{
-    let mut at = from;
-    while at < input.len() {
-        if input[at] == b'\n' {
-            break;
+impl<W: Write, S: Write> Explaining<W, S> {
+    // Counts a line that has ended, and says what is wrong with its text: the bytes that are kept of it.
+    fn explain_kept(&mut self, ended: Lister) -> Result<()>
+        ensures said { OnOk result (Appends (W.contents self.old.listing.writer) (W.contents self.new.listing.writer)
+            (remark (kept_of ended) self.new.lines)) }
+        ensures kept { OnOk result (Appends (S.contents self.old.summary.writer) (S.contents self.new.summary.writer)
+            (kept (kept_of ended) self.new.lines)) }
+    {
+        self.lines = self.lines.saturating_add(1);
+        let text = ended.kept();
+        let is_refused = explain_line(text, self.lines, &mut self.listing, &mut self.summary)?;
+        if is_refused {
+            self.refused = self.refused.saturating_add(1);
         }
-        at += 1;
+        Ok(())
     }
-    at
-}
 
-// The place after a line feed, if the portion reaches there.
-fn after_feed(input: &[u8], feed: usize) -> usize
-    ensures { (result ≤ length input.now) × (feed < length input.now → feed < result) }
-{
-    if feed < input.len() {
-        feed + 1
-    } else {
-        input.len()
-    }
-}
-
-// Lists a portion line by line, with what is wrong with each.
-fn explain_portion<W: Write, S: Write>(
-    start: Explained,
-    input: &[u8],
-    out: &mut [u8],
-    writer: &mut W,
-    summary: &mut S,
-) -> Result<Explained> {
-    let mut state = start;
-    let mut at = 0;
-    while at < input.len() {
-        let end = line_end(input, at);
-        state = list_part(state, &input[at..end], out, writer)?;
-        if input.len() <= end {
-            break;
+    // Lists a part of a line, or its line feed. A part is so short that the listing of it has room.
+    fn list_part(&mut self, part: &[u8]) -> Result<()> {
+        let fed = lister::feed(self.lister, part, &mut self.out);
+        self.listing.put(&self.out[..fed.written])?;
+        if fed.taken < part.len() {
+            bail!("standard output: the buffer is too short");
         }
-        state = end_line(state, out, writer, summary)?;
-        at = after_feed(input, end);
+        self.lister = fed.lister;
+        Ok(())
     }
-    Ok(state)
-}
 
-// Writes what was put at a buffer's start, if it was put there.
-fn write_put<W: Write>(answer: Written, out: &[u8], writer: &mut W) -> Result<()> {
-    let Written::Length(n) = answer else {
-        bail!("standard output: the buffer is too short");
-    };
-    write_first(out, n, writer)
-}
-
-// Ends the last line, if that has a byte and no line feed.
-fn explain_close<W: Write, S: Write>(
-    before: Explained,
-    out: &mut [u8],
-    writer: &mut W,
-    summary: &mut S,
-) -> Result<Explained> {
-    let ended = lister::with_return(before.lister);
-    if ended.count == 0 {
-        return Ok(before);
+    // Ends a line at its line feed.
+    fn end_line(&mut self) -> Result<()> {
+        let ended = self.lister;
+        self.list_part(b"\n")?;
+        self.explain_kept(ended)
     }
-    let answer = lister::close(before.lister, out);
-    write_put(answer, out, writer)?;
-    explain_kept(ended, before, writer, summary)
-}
 
-// Writes for the summary how many lines there were, and how many were refused.
-fn write_totals<S: Write>(state: Explained, summary: &mut S) -> Result<()> {
-    keep(b"lines ", summary)?;
-    keep_number(state.lines, summary)?;
-    keep(b" refused ", summary)?;
-    keep_number(state.refused, summary)?;
-    keep(b"\n", summary)?;
-    summary.flush().context("the summary")
-}
-
-// Reads a portion and explains it, and writes all that is said of it. The end of the input is a read of no bytes.
-fn explain_read<R: Read, W: Write, S: Write>(
-    before: Explained,
-    reader: &mut R,
-    input: &mut [u8],
-    out: &mut [u8],
-    writer: &mut W,
-    summary: &mut S,
-) -> Result<Turned> {
-    let n = reader.read(input).context("standard input")?;
-    let state = explain_portion(before, &input[..n], out, writer, summary)?;
-    writer.flush().context("standard output")?;
-    Ok(Turned {
-        state,
-        goes_on: 0 < n,
-    })
-}
-
-// Explains all that can be read. A loop has to end, and nothing says that an input does: the turns are counted, up to a number
-// that no run reaches. A byte is listed as eight bytes at most, so that a portion has room in the larger buffer.
-fn explain_input<R: Read, W: Write, S: Write>(
-    start: Explained,
-    reader: &mut R,
-    input: &mut [u8],
-    out: &mut [u8],
-    writer: &mut W,
-    summary: &mut S,
-) -> Result<Explained> {
-    let mut state = start;
-    for _ in 0..u64::MAX {
-        let turned = explain_read(state, reader, input, out, writer, summary)?;
-        state = turned.state;
-        if !turned.goes_on {
-            break;
+    // Lists a portion line by line, with what is wrong with each: what no line feed ends is wanted after the loop.
+    fn explain_portion(&mut self, input: &[u8]) -> Result<()> {
+        let mut rest = input;
+        while let Some(end) = rest.iter().position(|byte| *byte == b'\n') {
+            self.list_part(&rest[..end])?;
+            self.end_line()?;
+            rest = &rest[end + 1..];
         }
+        self.list_part(rest)
     }
-    Ok(state)
-}
 
-// Writes the listing's first line, before anything is read.
-fn write_title<W: Write>(out: &mut [u8], writer: &mut W) -> Result<()> {
-    let answer = lister::title(out);
-    write_put(answer, out, writer)?;
-    writer.flush().context("standard output")
+    // Reads a portion and explains it, and writes all that is said of it. Says whether to read on: the end of the input is a
+    // read of no bytes.
+    fn explain_read<R: Read>(&mut self, reader: &mut R, input: &mut [u8]) -> Result<bool> {
+        let n = reader.read(input).context("standard input")?;
+        self.explain_portion(&input[..n])?;
+        self.listing.flush()?;
+        Ok(0 < n)
+    }
+
+    // Explains all that can be read. A loop has to end, and nothing says that an input does: the turns are counted, up to a
+    // number that no run reaches. A byte is listed as eight bytes at most, so that a portion has room in the larger buffer.
+    fn explain_input<R: Read>(&mut self, reader: &mut R, input: &mut [u8]) -> Result<()> {
+        for _ in 0..u64::MAX {
+            let goes_on = self.explain_read(reader, input)?;
+            if !goes_on {
+                break;
+            }
+        }
+        Ok(())
+    }
+
+    // Writes the listing's first line, before anything is read.
+    fn write_title(&mut self) -> Result<()> {
+        let n = lister::title(&mut self.out).unwrap();
+        self.listing.put(&self.out[..n])?;
+        self.listing.flush()
+    }
+
+    // Ends the last line, if that has a byte and no line feed.
+    fn explain_close(&mut self) -> Result<()> {
+        let ended = lister::with_return(self.lister);
+        if ended.count == 0 {
+            return Ok(());
+        }
+        let n = lister::close(self.lister, &mut self.out).unwrap();
+        self.listing.put(&self.out[..n])?;
+        self.explain_kept(ended)
+    }
+
+    // Writes for the summary how many lines there were, and how many were refused.
+    fn write_totals(&mut self) -> Result<()> {
+        let lines = self.lines;
+        let refused = self.refused;
+        let summary = &mut self.summary;
+        writeln!(summary.writer, "lines {lines} refused {refused}").context(summary.name)?;
+        summary.flush()
+    }
 }
 
 // Explains an input from its first byte to its end. Its buffers are made once, so that an input of any length takes the same
 // memory.
-fn explain<R: Read, W: Write, S: Write>(
+fn explain<R: Read, W: Write + Drop, S: Write + Drop>(
     alloc: Global,
     reader: &mut R,
-    writer: &mut W,
-    summary: &mut S,
+    listing: Stream<W>,
+    summary: Stream<S>,
 ) -> Result<()> {
     let mut input = vec![in alloc; 0u8; PORTION]?;
-    let mut out = vec![in alloc; 0u8; ROOM]?;
-    write_title(&mut out, writer)?;
-    let start = Explained {
+    let mut explaining = Explaining {
         lister: lister::start(),
         lines: 0,
         refused: 0,
+        out: vec![in alloc; 0u8; ROOM]?,
+        listing,
+        summary,
     };
-    let listed = explain_input(start, reader, &mut input, &mut out, writer, summary)?;
-    let state = explain_close(listed, &mut out, writer, summary)?;
-    writer.flush().context("standard output")?;
-    write_totals(state, summary)
+    explaining.write_title()?;
+    explaining.explain_input(reader, &mut input)?;
+    explaining.explain_close()?;
+    explaining.listing.flush()?;
+    explaining.write_totals()
 }
 
-// The file for the summary, if one argument more names it. Other arguments are passed over.
-fn with_argument(alloc: Global, summary: Option<String>, text: &str) -> Result<Option<String>> {
-    match text.strip_prefix("--summary=") {
-        Some(name) => Ok(Some(String::from_str(alloc, name)?)),
-        None => Ok(summary),
-    }
-}
-
-// The file for the summary, if the arguments after the program's name name one.
+// The file for the summary, if an argument after the program's name names one. Other arguments are passed over.
 fn ask(rt: &HostRuntime) -> Result<Option<String>> {
     let mut summary = None;
     for text in env::args(rt)?.skip(1) {
-        summary = with_argument(rt.alloc(), summary, &text)?;
+        if let Some(name) = text.strip_prefix("--summary=") {
+            summary = Some(String::from_str(rt.alloc(), name)?);
+        }
     }
     Ok(summary)
 }
@@ -389,14 +272,25 @@ fn ask(rt: &HostRuntime) -> Result<Option<String>> {
 fn main(rt: HostRuntime) -> Result<()> {
     let asked = ask(&rt)?;
     let mut reader = rt.stdin();
-    let mut writer = BufWriter::new(rt.alloc(), rt.stdout())?;
+    let listing = Stream {
+        writer: BufWriter::new(rt.alloc(), rt.stdout())?,
+        name: "standard output",
+    };
     match asked {
         Some(name) => {
             let file = File::create(&rt, name.as_str()).context("the summary")?;
-            let mut summary = BufWriter::new(rt.alloc(), file)?;
-            explain(rt.alloc(), &mut reader, &mut writer, &mut summary)?;
+            let summary = Stream {
+                writer: BufWriter::new(rt.alloc(), file)?,
+                name: "the summary",
+            };
+            explain(rt.alloc(), &mut reader, listing, summary)
         }
-        None => explain(rt.alloc(), &mut reader, &mut writer, &mut sink())?,
+        None => {
+            let summary = Stream {
+                writer: sink(),
+                name: "the summary",
+            };
+            explain(rt.alloc(), &mut reader, listing, summary)
+        }
     }
-    Ok(())
 }

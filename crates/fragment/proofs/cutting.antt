@@ -1,2 +1,2 @@
-pub mod Message
+pub mod MessageCells
 pub mod Writing

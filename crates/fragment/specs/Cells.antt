@@ -7,6 +7,10 @@ use Rattle.fragment.specs.Fragments.{cell_bits, cells_of, etx, without_fill}
 abbrev pub unsigned : Bool → ℕ → ℕ
 unsigned first word = pick first (word / 2 ^ cell_bits * 2 ^ cell_bits + etx) word
 
+-- the text of words, all of whose cells are characters or fill
+abbrev pub plain_text : List ℕ → List ℕ
+plain_text words = without_fill (cells_of words)
+
 -- the text of a second word and of all words after it
 abbrev pub text_from : ℕ → List ℕ → List ℕ
-text_from second words = without_fill (cells_of (second ∷ drop 2 words))
+text_from second words = plain_text (second ∷ drop 2 words)

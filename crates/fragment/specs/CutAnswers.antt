@@ -5,6 +5,7 @@ use Rattle.refusal.specs.declared.Refusal.TheVariants.{Room, Packet, Size, TooLo
 use Rattle.refusal.specs.Told.{Told, given, ask, number_told, value_told, written_by}
 use Rattle.fragment.specs.Fragments.{most_characters, is_size}
 use Rattle.fragment.specs.declared.Marks.{Marks}
+use Rattle.fragment.specs.declared.CutSize.{CutSize}
 use Rattle.fragment.specs.declared.TextCut.{TextCut}
 use Rattle.fragment.specs.Cutting.{marked, sendable, cut}
 
@@ -22,6 +23,10 @@ cut_of lent marks largest text =
 abbrev pub words_after : Marks → ℕ → List ℕ → List ℕ → List ℕ
 words_after marks largest text lent = written_by (cut_of (length lent) marks largest text) lent (flatten (cut marks largest text))
 
--- the answer: 01's number, how many fragments, how many words
+-- what is told of a cut: how many fragments, how many words
+abbrev pub of_cut : CutSize → List ℕ
+of_cut c = c.fragments ∷ c.words ∷ []
+
+-- the answer as C has it: 01's number, how many fragments, how many words
 abbrev pub as_cut : Told → TextCut
 as_cut t = record { number = number_told t; fragments = value_told t 0; words = value_told t 1 }

@@ -4,30 +4,13 @@
 ghost use Rattle.std.specs.Prelude.{◌≡◌, ◌≤◌, length};
 ghost use Rattle.laws.specs.Lists.{sum_by};
 ghost use Rattle.sums.specs.Sums.{whole};
-ghost use Rattle.refusal.specs.Told.{refused};
+ghost use Rattle.refusal.specs.Told.{given, told_by};
 ghost use Rattle.fragment.specs.Fragments.{is_size, cells_in, sum_in};
 ghost use Rattle.fragment.specs.Answers.{heading_told, heading_of};
-ghost use Rattle.fragment.specs.FlatAnswers.{as_fragment};
+ghost use Rattle.fragment.specs.FlatAnswers.{of_heading};
 
-use crate::{CELL_LIMIT, FEWEST_WORDS, FragmentRead, MOST_WORDS};
+use crate::{CELL_LIMIT, FEWEST_WORDS, FragmentHeading, MOST_WORDS};
 use refusal::{Refusal, kept};
-
-// A refusal tells its number alone.
-fn refused(refusal: Refusal) -> FragmentRead
-    ensures { result ≡ as_fragment (refused refusal) }
-{
-    FragmentRead {
-        number: refusal.number(),
-        continued: 0,
-        fragment_number: 0,
-        message_number: 0,
-        retrieval: 0,
-        mail_drop: 0,
-        signature: 0,
-        sum: 0,
-        characters: 0,
-    }
-}
 
 // A word's three cells added.
 fn sum_in(word: u32) -> u32
@@ -40,13 +23,12 @@ fn sum_in(word: u32) -> u32
 // The sum modulo 128 of all cells after the first word. It is reduced after the loop, since one that reduces at each
 // turn is not compiled to several words at a time; the loop's own sum wraps at a multiple of 128.
 fn sum(words: &[u32]) -> u32
+    requires { 1 ≤ length words.now }
     ensures { result ≡ sum_in words.now }
 {
     let mut sum: u32 = 0;
-    let mut i: usize = 1;
-    while i < words.len() {
-        sum = std::num::wrapping_add_u32(sum, sum_in(words[i]));
-        i += 1;
+    for word in &words[1..] {
+        sum = sum.wrapping_add(sum_in(*word));
     }
     sum % CELL_LIMIT
 }
@@ -59,14 +41,13 @@ pub(crate) fn is_size(words: usize) -> bool
 }
 
 // What the words of a fragment tell.
-fn heading_of(words: &[u32]) -> FragmentRead
+fn heading_of(words: &[u32]) -> FragmentHeading
     requires { 2 ≤ length words.now }
-    ensures { result ≡ as_fragment (heading_told words.now) }
+    ensures { given (of_heading result) ≡ heading_told words.now }
 {
     let head = words[0];
     let first = crate::text::is_first(head);
-    FragmentRead {
-        number: 0,
+    FragmentHeading {
         continued: (head >> 10) % 2,
         fragment_number: (head >> 11) % 4,
         message_number: (head >> 13) % 64,
@@ -74,22 +55,24 @@ fn heading_of(words: &[u32]) -> FragmentRead
         mail_drop: kept(first, (head >> 20) % 2),
         signature: kept(first, words[1] % CELL_LIMIT),
         sum: sum(words),
-        characters: crate::text::count(crate::text::unsigned(first, words[1]), words),
+        characters: crate::text::count(crate::text::unsigned(first, words[1]), &words[2..]),
     }
 }
 
-// The heading of a fragment, or the first refusal: 9, 10, 11 of 01's table.
-pub fn heading(words: &[u32]) -> FragmentRead
-    ensures { result ≡ as_fragment (heading_of words.now) }
+// The heading of a fragment, or the first refusal: 9, 10, 11 of 01's table. Compiled into its callers, so that a refusal is
+// not handed on through memory.
+#[inline(always)]
+pub fn heading(words: &[u32]) -> Result<FragmentHeading, Refusal>
+    ensures { told_by of_heading result ≡ heading_of words.now }
 {
     if !is_size(words.len()) {
-        return refused(Refusal::Size);
+        return Err(Refusal::Size);
     }
     if !sums::undamaged(words) {
-        return refused(Refusal::Damaged);
+        return Err(Refusal::Damaged);
     }
     if sums::ten_bit(words) != words[0] % 1024 {
-        return refused(Refusal::Checksum);
+        return Err(Refusal::Checksum);
     }
-    heading_of(words)
+    Ok(heading_of(words))
 }

@@ -1,15 +1,15 @@
 // The characters of one fragment (document 01, "Fragments"; S8.7.8.3, Tables 43, 44 and 45). A cell is the place of seven
 // bits, three to a word. Of a fragment's cells the signature and the fill, ETX, are no text: the others are counted, and
 // written into lent bytes.
-ghost use Rattle.std.specs.Prelude.{◌≡◌, ◌+◌, ◌<◌, ◌≤◌, true, [], ◌∷◌, length, drop, nat_le};
-ghost use Rattle.fragment.specs.Fragments.{cells_in, is_first, without_fill, cells_of};
-ghost use Rattle.fragment.specs.Cells.{unsigned, text_from};
+ghost use Rattle.std.specs.Prelude.{◌≡◌, ◌+◌, ◌*◌, ◌<◌, ◌≤◌, true, [], ◌∷◌, length, nat_le};
+ghost use Rattle.fragment.specs.Fragments.{cells_in, is_first, without_fill};
+ghost use Rattle.fragment.specs.Cells.{unsigned, plain_text};
 ghost use Rattle.laws.specs.Lists.{put, all};
+ghost use Rattle.refusal.specs.Told.{told_by};
 ghost use Rattle.fragment.specs.Answers.{text_of, text_after};
-ghost use Rattle.fragment.specs.FlatAnswers.{as_text};
 ghost use Rattle.fragment.specs.Full.{is_full};
 
-use crate::{CELL_LIMIT, ETX, FEWEST_WORDS, MOST_WORDS, TextRead};
+use crate::{CELL_LIMIT, ETX, FEWEST_WORDS, MOST_WORDS};
 use refusal::Refusal;
 
 // Whether a fragment with this first word is a first one: F is 3.
@@ -38,42 +38,31 @@ pub(crate) fn unsigned(first: bool, word: u32) -> u32
     word
 }
 
-// How many characters the text has that a second word begins, where there are no more words than a fragment has. That
-// fits 32 bits, in which twice as many words are counted at a time as in 64.
-fn count_few(second: u32, words: &[u32]) -> u32
+// How many characters are text in no more words than a fragment has. That fits 32 bits, in which twice as many words are
+// counted at a time as in 64.
+fn count_few(words: &[u32]) -> u32
     requires { length words.now ≤ 85 }
-    ensures { result ≡ length (text_from second words.now) }
+    ensures { result ≡ length (plain_text words.now) }
 {
-    let mut count = count_in(second);
-    let mut i: usize = 2;
-    while i < words.len() {
-        count += count_in(words[i]);
-        i += 1;
+    let mut count = 0;
+    for word in words {
+        count += count_in(*word);
     }
     count
 }
 
-// The same, however many words there are.
-fn count_many(second: u32, words: &[u32]) -> usize
-    ensures { result ≡ length (text_from second words.now) }
+// How many characters the text has that a second word begins, with the words after it. The words of a fragment are counted
+// by one call: to go over chunks costs every fragment more.
+pub(crate) fn count(second: u32, words: &[u32]) -> usize
+    ensures { result ≡ length (plain_text (second ∷ words.now)) }
 {
     let mut count = count_in(second) as usize;
-    let mut at: usize = 2;
-    while at < words.len() {
-        count += count_in(words[at]) as usize;
-        at += 1;
+    let mut rest = words;
+    while rest.len() > MOST_WORDS {
+        count += count_few(&rest[..MOST_WORDS]) as usize;
+        rest = &rest[MOST_WORDS..];
     }
-    count
-}
-
-// How many characters the text has that a second word begins.
-pub(crate) fn count(second: u32, words: &[u32]) -> usize
-    ensures { result ≡ length (text_from second words.now) }
-{
-    if words.len() <= MOST_WORDS {
-        return count_few(second, words) as usize;
-    }
-    count_many(second, words)
+    count + count_few(rest) as usize
 }
 
 // A cell written after what was written before, unless it is fill; the place after it.
@@ -110,16 +99,14 @@ fn is_full(word: u32) -> bool
         & ((word >> 14) % CELL_LIMIT != ETX)
 }
 
-// Whether no word after the second has fill, which a text needs only at its end. Asked of all words at once, and not of
-// each before it is written, since this loop is compiled to several words at a time and the one that writes is not.
+// Whether no word has fill, which a text needs only at its end. Asked of all words at once, and not of each before it is
+// written, since this loop is compiled to several words at a time and the one that writes is not.
 fn are_full(words: &[u32]) -> bool
-    ensures { result ≡ all is_full (drop 2 words.now) }
+    ensures { result ≡ all is_full words.now }
 {
     let mut full = true;
-    let mut at: usize = 2;
-    while at < words.len() {
-        full = full & is_full(words[at]);
-        at += 1;
+    for word in words {
+        full = full & is_full(*word);
     }
     full
 }
@@ -137,57 +124,44 @@ fn write_three(word: u32, text: &mut [u8], at: usize) -> usize
     at + 3
 }
 
-// The text after the second word written after what was written before, where no word has fill; the place after it.
-fn write_full(words: &[u32], text: &mut [u8], from: usize) -> usize
-    requires words_value { all is_full (drop 2 words.now) ≡ true }
-    requires words_in_bounds { from + length (without_fill (cells_of (drop 2 words.now))) ≤ length text.old }
-    ensures next { result ≡ from + length (without_fill (cells_of (drop 2 words.now))) }
-    ensures buffer { text.new ≡ put text.old from (without_fill (cells_of (drop 2 words.now))) }
+// The text of words written after what was written before; the place after it. Where it is known of all words that they
+// have no fill, their cells are not asked for it.
+fn write_all<const FULL: bool>(words: &[u32], text: &mut [u8], from: usize) -> usize
+    requires words_value { FULL ≡ true → all is_full words.now ≡ true }
+    requires words_in_bounds { from + length (plain_text words.now) ≤ length text.old }
+    ensures next { result ≡ from + length (plain_text words.now) }
+    ensures buffer { text.new ≡ put text.old from (plain_text words.now) }
 {
     let mut at = from;
-    let mut i: usize = 2;
-    while i < words.len() {
-        at = write_three(words[i], text, at);
-        i += 1;
+    for word in words {
+        at = if FULL {
+            write_three(*word, text, at)
+        } else {
+            write_word(*word, text, at)
+        };
     }
     at
 }
 
-// The same whether or not a word has fill.
-fn write_rest(words: &[u32], text: &mut [u8], from: usize) -> usize
-    requires { from + length (without_fill (cells_of (drop 2 words.now))) ≤ length text.old }
-    ensures next { result ≡ from + length (without_fill (cells_of (drop 2 words.now))) }
-    ensures buffer { text.new ≡ put text.old from (without_fill (cells_of (drop 2 words.now))) }
-{
-    let mut at = from;
-    let mut i: usize = 2;
-    while i < words.len() {
-        at = write_word(words[i], text, at);
-        i += 1;
-    }
-    at
-}
-
-// The text that a second word begins, where there is room for it; how many characters.
+// The text that a second word begins, with the words after it, where there is room for it; how many characters.
 fn write_words(second: u32, words: &[u32], text: &mut [u8]) -> usize
-    requires { length (text_from second words.now) ≤ length text.old }
-    ensures count { result ≡ length (text_from second words.now) }
-    ensures buffer { text.new ≡ put text.old 0 (text_from second words.now) }
+    requires { length (plain_text (second ∷ words.now)) ≤ length text.old }
+    ensures count { result ≡ length (plain_text (second ∷ words.now)) }
+    ensures buffer { text.new ≡ put text.old 0 (plain_text (second ∷ words.now)) }
 {
     let begun = write_word(second, text, 0);
     if are_full(words) {
-        return write_full(words, text, begun);
+        return write_all::<true>(words, text, begun);
     }
-    write_rest(words, text, begun)
+    write_all::<false>(words, text, begun)
 }
 
-// Whether the text that a second word begins has room. Three characters a word after the first, which holds none, are
-// never too few, so that it is counted only where the room is less than that.
+// Whether the text that a second word begins, with the words after it, has room. Three characters a word are never too
+// few, so that it is counted only where the room is less than that.
 fn has_room(second: u32, words: &[u32], room: usize) -> bool
-    requires { 2 ≤ length words.now }
-    ensures { result ≡ nat_le (length (text_from second words.now)) room }
+    ensures { result ≡ nat_le (length (plain_text (second ∷ words.now))) room }
 {
-    if words.len() - 1 <= room / 3 {
+    if words.len() < room / 3 {
         return true;
     }
     count(second, words) <= room
@@ -195,25 +169,17 @@ fn has_room(second: u32, words: &[u32], room: usize) -> bool
 
 // The text in a row of words, whether or not they are a good fragment, which `fragment::heading` tells: how many characters,
 // or the refusal of a buffer that is too short, which is left as it was.
-pub fn write_text(words: &[u32], text: &mut [u8]) -> TextRead
-    ensures told { result ≡ as_text (text_of (length text.old) words.now) }
+pub fn write_text(words: &[u32], text: &mut [u8]) -> Result<usize, Refusal>
+    ensures told { told_by (λ characters. characters ∷ []) result ≡ text_of (length text.old) words.now }
     ensures buffer { text.new ≡ text_after words.now text.old }
 {
     if words.len() < FEWEST_WORDS {
-        return TextRead {
-            number: 0,
-            characters: 0,
-        };
+        return Ok(0);
     }
     let second = unsigned(is_first(words[0]), words[1]);
-    if !has_room(second, words, text.len()) {
-        return TextRead {
-            number: Refusal::Room.number(),
-            characters: 0,
-        };
+    let rest = &words[2..];
+    if !has_room(second, rest, text.len()) {
+        return Err(Refusal::Room);
     }
-    TextRead {
-        number: 0,
-        characters: write_words(second, words, text),
-    }
+    Ok(write_words(second, rest, text))
 }

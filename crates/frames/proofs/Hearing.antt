@@ -1,22 +1,22 @@
 -- Listeners: what each listens to, and what is heard by some of them.
 use Prim.Native.Nat.{ℕ, zero, suc, ◌+◌, ◌-◌, ◌*◌, ◌%◌, ◌^◌, ◌≤◌, ◌<◌, min}
-use mathlib.Core.Bool.{Bool, true, false, ◌&&◌, ◌||◌, or-false, or-true, or_assoc, false≢true, and-eq-true_iff}
+use mathlib.Core.Bool.{Bool, true, ◌&&◌, ◌||◌, or-false, or-true, or_assoc, false≢true, and-eq-true_iff}
 use mathlib.Core.Logic.{⊎_elim}
 use mathlib.Core.List.{List, [], ◌∷◌, ◌++◌}
 use mathlib.Core.Path.{◌≡◌, refl, sym, ap, ap₂, ◌∙◌, fun_ext}
 use native.Mathlib.Nat.{mul-add-mod_self_right, mod-lt}
-use native.Mathlib.Numerals.{add-one}
 use native.Mathlib.Omega.{arith}
-use borrow.Author.Tests.{leb-true, le-leb, lt-leb}
+use borrow.Author.Tests.{leb-true}
 use lib.Bits.{bit_or}
+use Rattle.std.specs.List.{list_all}
 use lib.Dec.{T, leb, eqb, eqb→eq}
-use lib.ListN.{length, take, drop, get_or, length-take, drop_of_length-le}
+use lib.ListN.{length, take, get_or}
 use lib.Pow.{pow-add, pow_pos}
-use lib.Seq.{take-suc, drop-cons, get_or-take, length-take-le}
+use lib.Seq.{take-suc}
 use Rattle.laws.proofs.Counting.{all_below, of_all_below, take_min}
 use Rattle.laws.proofs.Tests.{either_of}
 use Rattle.frames.specs.declared.Listener.{Listener}
-use Rattle.frames.specs.Listening.{last_frame, last_collapse, Frameset, listens, heard, mask_from, all_fit}
+use Rattle.frames.specs.Listening.{last_frame, last_collapse, Frameset, listens, heard, mask_from, fits, all_fit}
 use Rattle.frames.specs.Repeating.{combs}
 use Rattle.frames.proofs.Masks.{Repeats, mask_or}
 
@@ -61,7 +61,7 @@ fit_parts l ls fit =
     (leb-true l.collapse last_collapse ((and-eq-true_iff (leb l.frame last_frame) (leb l.collapse last_collapse)).0 parts.0).1, parts.1)
 
 -- what is asked of a row is asked of each of its listeners
-fit_at : (ls : List Listener) → all_fit ls ≡ true → (k : ℕ) → k < length ls → (get_or ls k blank).collapse ≤ last_collapse
+pub fit_at : (ls : List Listener) → all_fit ls ≡ true → (k : ℕ) → k < length ls → (get_or ls k blank).collapse ≤ last_collapse
 fit_at [] fit k h = absurd (omega arith)
 fit_at (l ∷ ls) fit zero h = (fit_parts l ls fit).0
 fit_at (l ∷ ls) fit (suc k) h = fit_at ls (fit_parts l ls fit).1 k (omega arith)
@@ -70,43 +70,11 @@ fit_at (l ∷ ls) fit (suc k) h = fit_at ls (fit_parts l ls fit).1 k (omega arit
 pub looked : (ls : List Listener) (count size : ℕ) → length ls ≡ 16 → size ≡ min count 16 → take size ls ≡ take count ls
 looked ls count size long e = rw (e, ← long) (take_min count ls)
 
--- the listeners are asked one after the other
-module _ (ls : List Listener) (size i : ℕ) (here : i < size) (fits : size ≤ length ls) where
-  -- so many are looked at
-  long : length (take size ls) ≡ size
-  long = length-take-le size ls fits
-
-  -- the next is asked, and then the others
-  next : all_fit (drop i (take size ls))
-      ≡ (leb (get_or ls i blank).frame last_frame && leb (get_or ls i blank).collapse last_collapse && all_fit (drop (i + 1) (take size ls)))
-  unfolding all_fit
-  next =
-      let inside : i < length (take size ls) = omega (arith, long) in
-      rw (add-one, drop-cons (take size ls) i blank inside, get_or-take)
-
-  -- a listener with a frame over 127 is refused
-  pub ask_frame : last_frame < (get_or ls i blank).frame → all_fit (drop i (take size ls)) ≡ false
-  ask_frame over = next ∙ simp (lt-leb _ _ over)
-
-  -- a listener with a collapse over 5 is refused
-  pub ask_collapse : (get_or ls i blank).frame ≤ last_frame → last_collapse < (get_or ls i blank).collapse → all_fit (drop i (take size ls)) ≡ false
-  ask_collapse f over = next ∙ simp (le-leb _ _ f, lt-leb _ _ over)
-
-  -- after a listener that fits the others decide
-  pub ask_others : (get_or ls i blank).frame ≤ last_frame → (get_or ls i blank).collapse ≤ last_collapse
-      → all_fit (drop i (take size ls)) ≡ all_fit (drop (i + 1) (take size ls))
-  ask_others f c = next ∙ simp (le-leb _ _ f, le-leb _ _ c)
-
-  -- where none was refused, each has a collapse of at most 5
-  pub fit_among : all_fit (take size ls) ≡ true → (get_or ls i blank).collapse ≤ last_collapse
-  fit_among fit = rw get_or-take at (fit_at (take size ls) fit i (omega (arith, long)))
-
--- none is left to ask
-pub ask_none : (ls : List Listener) (size i : ℕ) → size ≤ i → all_fit (drop i (take size ls)) ≡ true
+-- `all` of an iterator asks each of them
+pub fit_is : (ls : List Listener) → list_all fits ls ≡ all_fit ls
 unfolding all_fit
-ask_none ls size i h =
-    let past : length (take size ls) ≤ i = simp length-take (omega arith) in
-    rw (drop_of_length-le (take size ls) past)
+fit_is [] = refl
+fit_is (l ∷ ls) = ap (◌&&◌ (fits l)) (fit_is ls)
 
 -- what is heard repeats after 32 frames
 pub heard_repeats : (ls : List Listener) → all_fit ls ≡ true → Repeats (heard ls)

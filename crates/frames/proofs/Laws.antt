@@ -11,10 +11,10 @@ use Rattle.refusal.specs.declared.Refusal.{Refusal}
 use Rattle.refusal.specs.Told.{Told, number_of, given, number_told}
 use Rattle.refusal.proofs.Laws.{number_tells, number_positive}
 use Rattle.frames.specs.declared.Listener.{Listener}
-use Rattle.frames.specs.declared.Listened.{Listened}
+use Rattle.std.specs.Prelude.{Result, Ok, Err}
 use Rattle.frames.specs.declared.Listening.{Listening}
 use Rattle.frames.specs.Listening.{Frameset, listens, heard, frames_from, mask_from, masks_of, count_from, count_of}
-use Rattle.frames.specs.Listening.{all_fit, ones_of, listened, tell_listened, told_listening}
+use Rattle.frames.specs.Listening.{all_fit, ones_of, listened, told_listening}
 use Rattle.frames.proofs.Masks.{mask_bit, range_at, range_ones}
 use Rattle.frames.proofs.Hearing.{heard_by, by_heard}
 
@@ -44,18 +44,18 @@ by_marked ls past i j k hi hj hk e = marked (heard ls) i j hi hj ∙ ap bit_of (
 none_refused : {A : Type 0} (r : Refusal) → 0 ≡ number_of r → A
 none_refused r e = absurd (omega (arith, number_positive r))
 
--- an answer and its masks, told, are known
-told_parts : (a b : Listened) (m n : List ℕ) → tell_listened a m ≡ tell_listened b n → (a ≡ b) × (m ≡ n)
-told_parts (Listened.Frames x) (Listened.Frames y) m n e = (cc, cc)
-told_parts (Listened.Frames x) (Listened.Refused s) m n e = none_refused s (ap number_told e)
-told_parts (Listened.Refused r) (Listened.Frames y) m n e = none_refused r (sym (ap number_told e))
-told_parts (Listened.Refused r) (Listened.Refused s) m n e = (ap Listened.Refused (number_tells r s (ap number_told e)), cc)
+-- what is given, told, is known
+given_parts : (x y : ℕ) (m n : List ℕ) → given (x ∷ m) ≡ given (y ∷ n) → (x ≡ y) × (m ≡ n)
+given_parts x y m n e = (cc, cc)
 
--- two answers with masks that are told alike are the same
-pub listening_tells : (a b : Listening) → told_listening a ≡ told_listening b → a ≡ b
-listening_tells a b e =
-    let parts = told_parts a.answer b.answer a.masks b.masks e in
-    ap₂ (λ (answer : Listened) (masks : List ℕ). record { answer = answer; masks = masks }) parts.0 parts.1
+-- two answers that are told alike are the same
+pub listening_tells : (a b : Result Listening Refusal) → told_listening a ≡ told_listening b → a ≡ b
+listening_tells (Ok a) (Ok b) e =
+    let parts = given_parts a.frames b.frames a.masks b.masks e in
+    ap₂ (λ (frames : ℕ) (masks : List ℕ). Ok (record { frames = frames; masks = masks })) parts.0 parts.1
+listening_tells (Ok a) (Err s) e = none_refused s (ap number_told e)
+listening_tells (Err r) (Ok b) e = none_refused r (sym (ap number_told e))
+listening_tells (Err r) (Err s) e = ap Err (number_tells r s (ap number_told e))
 
 -- ---- worked examples
 

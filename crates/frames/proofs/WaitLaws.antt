@@ -10,16 +10,17 @@ use Rattle.laws.proofs.Tests.{decided}
 use Rattle.refusal.specs.declared.Refusal.TheVariants.{Packet}
 use Rattle.refusal.specs.Told.{given, refused}
 use Rattle.refusal.proofs.Laws.{given_not_refused, refused_tells}
-use Rattle.frames.specs.declared.Awaited.{Awaited}
+use Rattle.std.specs.Prelude.{Result, Ok, Err}
+use Rattle.refusal.specs.declared.Refusal.{Refusal}
 use Rattle.frames.specs.Listening.{last_frame}
 use Rattle.frames.specs.Waiting.{wait_of, waited, told_awaited}
 
 -- two waits that are told alike are the same
-pub awaited_tells : (a b : Awaited) → told_awaited a ≡ told_awaited b → a ≡ b
-awaited_tells (Awaited.Frames x) (Awaited.Frames y) e = cc
-awaited_tells (Awaited.Frames x) (Awaited.Refused s) e = absurd (given_not_refused _ s e)
-awaited_tells (Awaited.Refused r) (Awaited.Frames y) e = absurd (given_not_refused _ r (sym e))
-awaited_tells (Awaited.Refused r) (Awaited.Refused s) e = ap Awaited.Refused (refused_tells r s e)
+pub awaited_tells : (a b : Result ℕ Refusal) → told_awaited a ≡ told_awaited b → a ≡ b
+awaited_tells (Ok x) (Ok y) e = cc
+awaited_tells (Ok x) (Err s) e = absurd (given_not_refused _ s e)
+awaited_tells (Err r) (Ok y) e = absurd (given_not_refused _ r (sym e))
+awaited_tells (Err r) (Err s) e = ap Err (refused_tells r s e)
 
 -- the wait as the code works it, without a case for the present frame
 pub wait_sum : (from to : ℕ) → from ≤ last_frame → to ≤ last_frame → (to + 127 - from) % 128 + 1 ≡ wait_of from to

@@ -1,12 +1,11 @@
 -- Frames listened to (document 01, S8.6.7).
-use Rattle.std.specs.Prelude.{ℕ, zero, suc, ◌+◌, ◌-◌, ◌*◌, ◌%◌, ◌^◌, Bool, true, false, not, ◌&&◌, ◌||◌, List, [], ◌∷◌, leb, ltb, eqb, replicate}
+use Rattle.std.specs.Prelude.{ℕ, zero, suc, ◌+◌, ◌-◌, ◌*◌, ◌%◌, ◌^◌, Bool, true, false, not, ◌&&◌, ◌||◌, List, [], ◌∷◌, leb, ltb, eqb, replicate, Result, Ok, Err}
 use Rattle.std.specs.Int.Count.{ones}
 use Rattle.laws.specs.Choice.{pick, bit_of}
 use Rattle.refusal.specs.declared.Refusal.{Refusal}
 use Rattle.refusal.specs.declared.Refusal.TheVariants.{Packet, Size}
 use Rattle.refusal.specs.Told.{Told, told, number_of, given}
 use Rattle.frames.specs.declared.Listener.{Listener}
-use Rattle.frames.specs.declared.Listened.{Listened}
 use Rattle.frames.specs.declared.Listening.{Listening}
 
 -- a set of frames: which frames are in it
@@ -63,10 +62,14 @@ last_frame = 127
 abbrev pub last_collapse : ℕ
 last_collapse = 5
 
--- 01's table, 7, of listeners: no frame and no collapse is over the last
+-- 01's table, 7, of a listener: neither its frame nor its collapse is over the last
+abbrev pub fits : Listener → Bool
+fits l = leb l.frame last_frame && leb l.collapse last_collapse
+
+-- and of listeners
 unfoldable pub all_fit : List Listener → Bool
 all_fit [] = true
-all_fit (l ∷ ls) = leb l.frame last_frame && leb l.collapse last_collapse && all_fit ls
+all_fit (l ∷ ls) = fits l && all_fit ls
 
 -- a refusal marks no frame
 abbrev pub unmarked : Refusal → Told
@@ -79,11 +82,7 @@ listened ls count =
     (pick (ltb 16 count) (unmarked Size)
     (given (count_of (heard ls) ∷ masks_of (heard ls))))
 
--- how an answer with masks is told
-abbrev pub tell_listened : Listened → List ℕ → Told
-tell_listened (Listened.Frames n) masks = given (n ∷ masks)
-tell_listened (Listened.Refused r) masks = told (number_of r) (0 ∷ masks)
-
--- how the whole answer is told, its masks with it
-abbrev pub told_listening : Listening → Told
-told_listening a = tell_listened a.answer a.masks
+-- how an answer is told: the number of frames and the masks, all of them 0 after a refusal
+abbrev pub told_listening : Result Listening Refusal → Told
+told_listening (Ok a) = given (a.frames ∷ a.masks)
+told_listening (Err r) = unmarked r

@@ -1,9 +1,9 @@
 -- The wait for a temporary address (document 01; document 02, item 3; S8.8.4).
-use Rattle.std.specs.Prelude.{ℕ, ◌+◌, ◌-◌, ◌%◌, not, ◌&&◌, [], ◌∷◌, leb, eqb}
+use Rattle.std.specs.Prelude.{ℕ, ◌+◌, ◌-◌, ◌%◌, not, ◌&&◌, [], ◌∷◌, leb, eqb, Result}
 use Rattle.laws.specs.Choice.{pick}
+use Rattle.refusal.specs.declared.Refusal.{Refusal}
 use Rattle.refusal.specs.declared.Refusal.TheVariants.{Packet}
-use Rattle.refusal.specs.Told.{Told, refused, given, ask}
-use Rattle.frames.specs.declared.Awaited.{Awaited}
+use Rattle.refusal.specs.Told.{Told, given, ask, told_by}
 use Rattle.frames.specs.Listening.{last_frame}
 
 -- 02, item 3: "when the designated frame is the present one, the next occurrence in the following cycle is meant": "128, and
@@ -18,6 +18,5 @@ waited from to =
     (given (wait_of from to ∷ []))
 
 -- how a wait is told
-abbrev pub told_awaited : Awaited → Told
-told_awaited (Awaited.Frames n) = given (n ∷ [])
-told_awaited (Awaited.Refused r) = refused r
+abbrev pub told_awaited : Result ℕ Refusal → Told
+told_awaited answer = told_by (λ frames. frames ∷ []) answer

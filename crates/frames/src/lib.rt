@@ -12,7 +12,6 @@ mod marking;
 mod waiting;
 
 pub use marking::listen;
-use refusal::Refusal;
 pub use waiting::wait;
 
 // A cycle has the frames 0 to 127.
@@ -24,11 +23,13 @@ const LAST_COLLAPSE: u32 = 5;
 // One address as far as frames go: its base frame and its collapse, wider than any that is accepted, so that one too
 // large is refused and not cut.
 #[repr(C)]
-#[derive(Clone, Copy)]
+#[derive(Clone, Copy, Debug, PartialEq, Eq)]
 pub struct Listener {
     pub frame: u32,
     pub collapse: u32,
 }
+
+// A row with a count beside it and no slice: the C interface hands it in by value.
 
 // The addresses of a pager: of sixteen places the first `count` are looked at.
 #[repr(C)]
@@ -38,23 +39,9 @@ pub struct Listeners {
     pub count: u32,
 }
 
-// The number of frames listened to, or the refusal.
-#[derive(Clone, Copy)]
-pub enum Listened {
-    Frames(u32),
-    Refused(Refusal),
-}
-
-// What is to be sent for a set of addresses: masks[i] is the sixteen AF bits of packet 20H + i. After a refusal they are 0.
-#[derive(Clone, Copy)]
+// How many frames a set of addresses listens to, and what is to be sent: masks[i] is the sixteen AF bits of packet 20H + i.
+#[derive(Clone, Copy, Debug, PartialEq, Eq)]
 pub struct Listening {
-    pub answer: Listened,
+    pub frames: u32,
     pub masks: [u16; 8],
-}
-
-// The wait in frames, or the refusal.
-#[derive(Clone, Copy)]
-pub enum Awaited {
-    Frames(u32),
-    Refused(Refusal),
 }

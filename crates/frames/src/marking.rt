@@ -1,36 +1,24 @@
 // Frames listened to, merged over up to sixteen addresses into the masks of packets 20H to 27H (document 01, "CAPCODE
 // text"; S8.6.7).
-ghost use Rattle.std.specs.Prelude.{◌≡◌, ◌≤◌, ◌%◌, ◌/◌, min, true, take, get_or};
-ghost use Rattle.frames.specs.Listening.{listens, heard, mask_from, ones_of, last_collapse, all_fit, unmarked, listened, told_listening};
+ghost use Rattle.std.specs.Prelude.{◌≡◌, ◌≤◌, ◌%◌, ◌/◌, true, take, get_or};
+ghost use Rattle.frames.specs.Listening.{listens, heard, mask_from, ones_of, last_collapse, fits, all_fit, listened, told_listening};
 ghost use Rattle.frames.specs.Repeating.{combs, alternating};
 
-use crate::{LAST_COLLAPSE, LAST_FRAME, Listened, Listener, Listeners, Listening};
+use crate::{LAST_COLLAPSE, LAST_FRAME, Listener, Listeners, Listening};
 use refusal::Refusal;
 
-// How many of the sixteen places are looked at.
-fn looked_at(count: u32) -> usize
-    ensures { result ≡ min count 16 }
+// 01's table, 7: whether a listener's frame and collapse are ones that a CAPCODE can name.
+fn fits(listener: Listener) -> bool
+    ensures { result ≡ fits listener }
 {
-    if count < 16 { count as usize } else { 16 }
+    (listener.frame <= LAST_FRAME) & (listener.collapse <= LAST_COLLAPSE)
 }
 
-// 01's table, 7: whether each listener's frame and collapse are ones that a CAPCODE can name.
-fn all_fit(listeners: [Listener; 16], count: u32) -> bool
-    ensures { result ≡ all_fit (take count listeners) }
+// Whether each listener fits.
+fn all_fit(listeners: &[Listener]) -> bool
+    ensures { result ≡ all_fit listeners.now }
 {
-    let size = looked_at(count);
-    let mut i: usize = 0;
-    while i < size {
-        let listener = listeners[i];
-        if listener.frame > LAST_FRAME {
-            return false;
-        }
-        if listener.collapse > LAST_COLLAPSE {
-            return false;
-        }
-        i += 1;
-    }
-    true
+    listeners.iter().all(|listener| fits(*listener))
 }
 
 // A collapse of at most 5 repeats its frames after 32 (S8.6.7), so that 32 bits hold them: here those of base frame 0.
@@ -62,17 +50,13 @@ fn mask(listener: Listener) -> u32
 }
 
 // The first 32 frames as a mask: those that some listener listens to.
-fn merged(listeners: [Listener; 16], count: u32) -> u32
-    requires { all_fit (take count listeners) ≡ true }
-    ensures { result ≡ mask_from (heard (take count listeners)) 0 32 }
+fn merged(listeners: &[Listener]) -> u32
+    requires { all_fit listeners.now ≡ true }
+    ensures { result ≡ mask_from (heard listeners.now) 0 32 }
 {
-    let size = looked_at(count);
-    let mut marked: u32 = 0;
-    let mut i: usize = 0;
-    while i < size {
-        let listener = listeners[i];
-        marked = marked | mask(listener);
-        i += 1;
+    let mut marked = 0;
+    for listener in listeners {
+        marked |= mask(*listener);
     }
     marked
 }
@@ -90,41 +74,28 @@ fn masks_of(repeated: u32) -> [u16; 8]
 fn marked_bits(masks: [u16; 8]) -> u32
     ensures { result ≡ ones_of masks }
 {
-    let mut count: u32 = 0;
-    let mut i: usize = 0;
-    while i < 8 {
-        count += u16::count_ones(masks[i]);
-        i += 1;
+    let mut count = 0;
+    for mask in masks {
+        count += mask.count_ones();
     }
     count
 }
 
-// A refusal, with no frame marked.
-fn refused(refusal: Refusal) -> Listening
-    ensures { told_listening result ≡ unmarked refusal }
-{
-    Listening {
-        answer: Listened::Refused(refusal),
-        masks: [0; 8],
-    }
-}
-
 // The frames that a pager with these addresses listens to: their number, and the masks to send.
-pub fn listen(all: Listeners) -> Listening
+#[tactic(auto, using(crate::proofs::Hearing::looked), unfolding(crate::specs::Listening::listened))]
+pub fn listen(all: Listeners) -> Result<Listening, Refusal>
     ensures { told_listening result ≡ listened (take all.count all.listeners) all.count }
 {
-    let count = all.count;
-    let listeners = all.listeners;
-    if !all_fit(listeners, count) {
-        return refused(Refusal::Packet);
+    let looked_at = &all.listeners[..(all.count as usize).min(16)];
+    if !all_fit(looked_at) {
+        return Err(Refusal::Packet);
     }
-    if count > 16 {
-        return refused(Refusal::Size);
+    if all.count > 16 {
+        return Err(Refusal::Size);
     }
-    let masks = masks_of(merged(listeners, count));
-    let frames = marked_bits(masks);
-    Listening {
-        answer: Listened::Frames(frames),
+    let masks = masks_of(merged(looked_at));
+    Ok(Listening {
+        frames: marked_bits(masks),
         masks,
-    }
+    })
 }

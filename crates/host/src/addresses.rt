@@ -2,10 +2,13 @@
 // `number` is 0, or 01's number of the refusal; every other field is then 0.
 ghost use Rattle.std.specs.Prelude.{◌≡◌, [], ◌∷◌};
 ghost use Rattle.capcode.specs.Ranges.{class_of, told_classed};
-ghost use Rattle.capcode.specs.Words.{words_of, address_of, told_worded, told_addressed};
+ghost use Rattle.capcode.specs.Words.{words_of, address_of};
 ghost use Rattle.host.specs.Flat.{class_from, words_from, address_from};
 
-use capcode::{Addressed, Classed, Worded};
+use capcode::{Class, Words};
+use refusal::Refusal;
+
+// The structs below have a number beside their fields and are no Result: the C interface hands them out as they are.
 
 // The class of an address, 1 to 9 by 01's rows.
 #[repr(C)]
@@ -33,18 +36,23 @@ pub struct MortisevaneFound {
     pub address: u64,
 }
 
-fn class_told(answer: Classed) -> MortisevaneClass
-    ensures { result ≡ class_from (told_classed answer) }
-{
-    match answer {
-        Classed::In(class) => MortisevaneClass {
-            number: 0,
-            class: class.number(),
-        },
-        Classed::Refused(refusal) => MortisevaneClass {
-            number: refusal.number(),
-            class: 0,
-        },
+impl From<Result<Class, Refusal>> for MortisevaneClass {
+    ghost use Rattle.capcode.specs.Ranges.{told_classed};
+    ghost use Rattle.host.specs.Flat.{class_from};
+
+    ghost from_gives = { λ answer told. told ≡ class_from (told_classed answer) };
+
+    fn from(answer: Result<Class, Refusal>) -> MortisevaneClass {
+        match answer {
+            Ok(class) => MortisevaneClass {
+                number: 0,
+                class: class.number(),
+            },
+            Err(refusal) => MortisevaneClass {
+                number: refusal.number(),
+                class: 0,
+            },
+        }
     }
 }
 
@@ -56,31 +64,36 @@ fn class_told(answer: Classed) -> MortisevaneClass
 pub extern "C" fn mortisevane_address_class(address: u64) -> MortisevaneClass
     ensures { result ≡ class_from (told_classed (class_of address)) }
 {
-    class_told(capcode::class_of(address))
+    capcode::class_of(address).into()
 }
 
-fn words_told(answer: Worded) -> MortisevaneWords
-    ensures { result ≡ words_from (told_worded answer) }
-{
-    match answer {
-        Worded::One(word) => MortisevaneWords {
-            number: 0,
-            count: 1,
-            first: word,
-            second: 0,
-        },
-        Worded::Two(first, second) => MortisevaneWords {
-            number: 0,
-            count: 2,
-            first,
-            second,
-        },
-        Worded::Refused(refusal) => MortisevaneWords {
-            number: refusal.number(),
-            count: 0,
-            first: 0,
-            second: 0,
-        },
+impl From<Result<Words, Refusal>> for MortisevaneWords {
+    ghost use Rattle.capcode.specs.Words.{told_worded};
+    ghost use Rattle.host.specs.Flat.{words_from};
+
+    ghost from_gives = { λ answer told. told ≡ words_from (told_worded answer) };
+
+    fn from(answer: Result<Words, Refusal>) -> MortisevaneWords {
+        match answer {
+            Ok(Words::One(word)) => MortisevaneWords {
+                number: 0,
+                count: 1,
+                first: word,
+                second: 0,
+            },
+            Ok(Words::Two(first, second)) => MortisevaneWords {
+                number: 0,
+                count: 2,
+                first,
+                second,
+            },
+            Err(refusal) => MortisevaneWords {
+                number: refusal.number(),
+                count: 0,
+                first: 0,
+                second: 0,
+            },
+        }
     }
 }
 
@@ -92,18 +105,23 @@ fn words_told(answer: Worded) -> MortisevaneWords
 pub extern "C" fn mortisevane_address_words(address: u64) -> MortisevaneWords
     ensures { result ≡ words_from (words_of address) }
 {
-    words_told(capcode::words_of(address))
+    capcode::words_of(address).into()
 }
 
-fn address_told(answer: Addressed) -> MortisevaneFound
-    ensures { result ≡ address_from (told_addressed answer) }
-{
-    match answer {
-        Addressed::Address(address) => MortisevaneFound { number: 0, address },
-        Addressed::Refused(refusal) => MortisevaneFound {
-            number: refusal.number(),
-            address: 0,
-        },
+impl From<Result<u64, Refusal>> for MortisevaneFound {
+    ghost use Rattle.capcode.specs.Words.{told_addressed};
+    ghost use Rattle.host.specs.Flat.{address_from};
+
+    ghost from_gives = { λ answer told. told ≡ address_from (told_addressed answer) };
+
+    fn from(answer: Result<u64, Refusal>) -> MortisevaneFound {
+        match answer {
+            Ok(address) => MortisevaneFound { number: 0, address },
+            Err(refusal) => MortisevaneFound {
+                number: refusal.number(),
+                address: 0,
+            },
+        }
     }
 }
 
@@ -115,7 +133,7 @@ fn address_told(answer: Addressed) -> MortisevaneFound
 pub extern "C" fn mortisevane_word_address(word: u32) -> MortisevaneFound
     ensures { result ≡ address_from (address_of (word ∷ [])) }
 {
-    address_told(capcode::word_address(word))
+    capcode::word_address(word).into()
 }
 
 // The address that two words belong to.
@@ -126,5 +144,5 @@ pub extern "C" fn mortisevane_word_address(word: u32) -> MortisevaneFound
 pub extern "C" fn mortisevane_pair_address(first: u32, second: u32) -> MortisevaneFound
     ensures { result ≡ address_from (address_of (first ∷ second ∷ [])) }
 {
-    address_told(capcode::pair_address(first, second))
+    capcode::pair_address(first, second).into()
 }

@@ -2,13 +2,16 @@
 // or the number of the refusal; every other field is then 0, but for the place where a text goes wrong.
 ghost use Rattle.std.specs.Prelude.{◌≡◌, length};
 ghost use Rattle.refusal.specs.Told.{refused_at};
-ghost use Rattle.capcode.specs.Assigned.{assigned, told_assign};
-ghost use Rattle.capcode.specs.Reads.{read_of, told_read};
-ghost use Rattle.capcode.specs.Printed.{print_of, buffer_after, told_print};
+ghost use Rattle.capcode.specs.Assigned.{assigned};
+ghost use Rattle.capcode.specs.Reads.{read_of};
+ghost use Rattle.capcode.specs.Printed.{print_of, buffer_after};
 ghost use Rattle.host.specs.Flat.{capcode_of, capcode_from, assignment_from, length_from};
 
-use capcode::{AssignAnswer, Capcode, PrintAnswer, ReadAnswer};
+use capcode::{Assignment, Capcode, Fault};
 use refusal::Refusal;
+
+// The structs below have a number beside their fields and are no Result, and the parts of a CAPCODE are handed in one by one:
+// the C interface has them so.
 
 // A CAPCODE: its letter, the three frame digits of U to Y (0 with A to H), its collapse and address; and
 // the phase (0 to 3 for A to D, 4 for any-phase) and base frame that it assigns. With a `number` of 3 or 19 to 21 `place` is
@@ -59,22 +62,27 @@ fn capcode_refused(refusal: Refusal, place: u8) -> MortisevaneCapcode
     }
 }
 
-fn capcode_told(answer: ReadAnswer) -> MortisevaneCapcode
-    ensures { result ≡ capcode_from (told_read answer) }
-{
-    match answer {
-        ReadAnswer::Whole(c, a) => MortisevaneCapcode {
-            number: 0,
-            letter: c.letter,
-            frame: c.frame,
-            collapse: c.collapse,
-            phase: a.phase,
-            base: a.frame,
-            place: 0,
-            address: c.address,
-        },
-        ReadAnswer::Wrong(refusal, place) => capcode_refused(refusal, place),
-        ReadAnswer::Refused(refusal) => capcode_refused(refusal, 0),
+impl From<Result<(Capcode, Assignment), Fault>> for MortisevaneCapcode {
+    ghost use Rattle.capcode.specs.Reads.{told_read};
+    ghost use Rattle.host.specs.Flat.{capcode_from};
+
+    ghost from_gives = { λ answer told. told ≡ capcode_from (told_read answer) };
+
+    fn from(answer: Result<(Capcode, Assignment), Fault>) -> MortisevaneCapcode {
+        match answer {
+            Ok((c, a)) => MortisevaneCapcode {
+                number: 0,
+                letter: c.letter,
+                frame: c.frame,
+                collapse: c.collapse,
+                phase: a.phase,
+                base: a.frame,
+                place: 0,
+                address: c.address,
+            },
+            Err(Fault::Wrong(refusal, place)) => capcode_refused(refusal, place),
+            Err(Fault::Refused(refusal)) => capcode_refused(refusal, 0),
+        }
     }
 }
 
@@ -88,23 +96,28 @@ fn capcode_told(answer: ReadAnswer) -> MortisevaneCapcode
 pub extern "C" fn mortisevane_capcode_read(text: &[u8]) -> MortisevaneCapcode
     ensures { result ≡ capcode_from (read_of text.now) }
 {
-    capcode_told(capcode::read(text))
+    capcode::read(text).into()
 }
 
-fn assignment_told(answer: AssignAnswer) -> MortisevaneAssignment
-    ensures { result ≡ assignment_from (told_assign answer) }
-{
-    match answer {
-        AssignAnswer::Assigned(a) => MortisevaneAssignment {
-            number: 0,
-            phase: a.phase,
-            base: a.frame,
-        },
-        AssignAnswer::Refused(refusal) => MortisevaneAssignment {
-            number: refusal.number(),
-            phase: 0,
-            base: 0,
-        },
+impl From<Result<Assignment, Refusal>> for MortisevaneAssignment {
+    ghost use Rattle.capcode.specs.Assigned.{told_assign};
+    ghost use Rattle.host.specs.Flat.{assignment_from};
+
+    ghost from_gives = { λ answer told. told ≡ assignment_from (told_assign answer) };
+
+    fn from(answer: Result<Assignment, Refusal>) -> MortisevaneAssignment {
+        match answer {
+            Ok(a) => MortisevaneAssignment {
+                number: 0,
+                phase: a.phase,
+                base: a.frame,
+            },
+            Err(refusal) => MortisevaneAssignment {
+                number: refusal.number(),
+                phase: 0,
+                base: 0,
+            },
+        }
     }
 }
 
@@ -128,18 +141,23 @@ pub extern "C" fn mortisevane_capcode_assign(
         collapse,
         address,
     };
-    assignment_told(capcode::assign(c))
+    capcode::assign(c).into()
 }
 
-fn length_told(answer: PrintAnswer) -> MortisevaneLength
-    ensures { result ≡ length_from (told_print answer) }
-{
-    match answer {
-        PrintAnswer::Length(length) => MortisevaneLength { number: 0, length },
-        PrintAnswer::Refused(refusal) => MortisevaneLength {
-            number: refusal.number(),
-            length: 0,
-        },
+impl From<Result<usize, Refusal>> for MortisevaneLength {
+    ghost use Rattle.capcode.specs.Printed.{told_print};
+    ghost use Rattle.host.specs.Flat.{length_from};
+
+    ghost from_gives = { λ answer told. told ≡ length_from (told_print answer) };
+
+    fn from(answer: Result<usize, Refusal>) -> MortisevaneLength {
+        match answer {
+            Ok(length) => MortisevaneLength { number: 0, length },
+            Err(refusal) => MortisevaneLength {
+                number: refusal.number(),
+                length: 0,
+            },
+        }
     }
 }
 
@@ -165,5 +183,5 @@ pub extern "C" fn mortisevane_capcode_print(
         collapse,
         address,
     };
-    length_told(capcode::print(c, out))
+    capcode::print(c, out).into()
 }

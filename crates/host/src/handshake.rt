@@ -14,7 +14,7 @@ use packet::{Built, Packet};
 pub extern "C" fn mortisevane_mirror_reset(packet: u32) -> Mirrored
     ensures { result ≡ reset_by packet }
 {
-    mirror::reset(Packet { bits: packet })
+    Mirrored::told(mirror::reset(Packet { bits: packet }), Mirror::default())
 }
 
 // The mirror after one packet that the host sent.
@@ -25,7 +25,7 @@ pub extern "C" fn mortisevane_mirror_reset(packet: u32) -> Mirrored
 pub extern "C" fn mortisevane_mirror_step(mirror: Mirror, packet: u32) -> Mirrored
     ensures { result ≡ answered mirror (step_of mirror packet) }
 {
-    mirror::step(mirror, Packet { bits: packet })
+    Mirrored::told(mirror::step(mirror, Packet { bits: packet }), mirror)
 }
 
 // The mirror after a run of packets that the host sent.
@@ -36,7 +36,7 @@ pub extern "C" fn mortisevane_mirror_step(mirror: Mirror, packet: u32) -> Mirror
 pub extern "C" fn mortisevane_mirror_run(mirror: Mirror, packets: &[u32]) -> Mirrored
     ensures { result ≡ answered mirror (run_of mirror packets.now) }
 {
-    mirror::run(mirror, packets)
+    Mirrored::told(mirror::run(mirror, packets), mirror)
 }
 
 // The checksum packet that makes the decoder talk.
@@ -47,5 +47,5 @@ pub extern "C" fn mortisevane_mirror_run(mirror: Mirror, packets: &[u32]) -> Mir
 pub extern "C" fn mortisevane_mirror_closing(mirror: Mirror) -> Built
     ensures { result ≡ closing_of mirror }
 {
-    mirror::closing(mirror)
+    mirror::closing(mirror).into()
 }

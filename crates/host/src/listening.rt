@@ -1,11 +1,14 @@
 // Frames listened to and the wait for a temporary address, as C and Rust link them: numbers and structs by value. Every
 // function takes any input. `number` is 0, or 01's number of the refusal; every other field is then 0.
 ghost use Rattle.std.specs.Prelude.{◌≡◌, take};
-ghost use Rattle.frames.specs.Listening.{listened, told_listening};
-ghost use Rattle.frames.specs.Waiting.{waited, told_awaited};
+ghost use Rattle.frames.specs.Listening.{listened};
+ghost use Rattle.frames.specs.Waiting.{waited};
 ghost use Rattle.host.specs.Flat.{frames_from, wait_from};
 
-use frames::{Awaited, Listened, Listeners, Listening};
+use frames::{Listeners, Listening};
+use refusal::Refusal;
+
+// The structs below have a number beside their fields and are no Result: the C interface hands them out as they are.
 
 // The number of frames listened to, and the masks of packets 20H to 27H.
 #[repr(C)]
@@ -24,15 +27,20 @@ pub struct MortisevaneWait {
     pub frames: u32,
 }
 
-fn wait_told(answer: Awaited) -> MortisevaneWait
-    ensures { result ≡ wait_from (told_awaited answer) }
-{
-    match answer {
-        Awaited::Frames(frames) => MortisevaneWait { number: 0, frames },
-        Awaited::Refused(refusal) => MortisevaneWait {
-            number: refusal.number(),
-            frames: 0,
-        },
+impl From<Result<u32, Refusal>> for MortisevaneWait {
+    ghost use Rattle.frames.specs.Waiting.{told_awaited};
+    ghost use Rattle.host.specs.Flat.{wait_from};
+
+    ghost from_gives = { λ answer told. told ≡ wait_from (told_awaited answer) };
+
+    fn from(answer: Result<u32, Refusal>) -> MortisevaneWait {
+        match answer {
+            Ok(frames) => MortisevaneWait { number: 0, frames },
+            Err(refusal) => MortisevaneWait {
+                number: refusal.number(),
+                frames: 0,
+            },
+        }
     }
 }
 
@@ -44,25 +52,31 @@ fn wait_told(answer: Awaited) -> MortisevaneWait
 pub extern "C" fn mortisevane_frames_wait(from: u32, to: u32) -> MortisevaneWait
     ensures { result ≡ wait_from (waited from to) }
 {
-    wait_told(frames::wait(from, to))
+    frames::wait(from, to).into()
 }
 
-fn frames_told(answer: Listening) -> MortisevaneFrames
-    ensures { result ≡ frames_from (told_listening answer) }
-{
-    let listened = answer.answer;
-    let masks = answer.masks;
-    match listened {
-        Listened::Frames(count) => MortisevaneFrames {
-            number: 0,
-            count,
-            masks,
-        },
-        Listened::Refused(refusal) => MortisevaneFrames {
-            number: refusal.number(),
-            count: 0,
-            masks,
-        },
+impl From<Result<Listening, Refusal>> for MortisevaneFrames {
+    ghost use Rattle.frames.specs.Listening.{told_listening};
+    ghost use Rattle.host.specs.Flat.{frames_from};
+
+    ghost from_gives = { λ answer told. told ≡ frames_from (told_listening answer) };
+
+    fn from(answer: Result<Listening, Refusal>) -> MortisevaneFrames {
+        match answer {
+            Ok(listening) => {
+                let masks = listening.masks;
+                MortisevaneFrames {
+                    number: 0,
+                    count: listening.frames,
+                    masks,
+                }
+            }
+            Err(refusal) => MortisevaneFrames {
+                number: refusal.number(),
+                count: 0,
+                masks: [0; 8],
+            },
+        }
     }
 }
 
@@ -74,5 +88,5 @@ fn frames_told(answer: Listening) -> MortisevaneFrames
 pub extern "C" fn mortisevane_frames_listened(listeners: Listeners) -> MortisevaneFrames
     ensures { result ≡ frames_from (listened (take listeners.count listeners.listeners) listeners.count) }
 {
-    frames_told(frames::listen(listeners))
+    frames::listen(listeners).into()
 }

@@ -13,10 +13,11 @@ ghost use Rattle.packet.specs.Heard.{part_id_read, status_read, address_read, me
 ghost use Rattle.packet.specs.Vectors.{vector_read};
 
 use packet::{
-    AddressEnable, AddressEnableRead, AddressRead, AllFrameMode, AllFrameModeRead, Built, Checksum,
-    ChecksumRead, Configuration, ConfigurationRead, Control, ControlRead, FrameAssignment,
-    FrameAssignmentRead, MessageRead, Packet, PartId, PartIdRead, ReceiverLines, ReceiverLinesRead,
-    ShutDown, ShutDownRead, StatusRead, UserAddress, UserAddressRead, VectorRead,
+    Address, AddressEnable, AddressEnableRead, AddressRead, AllFrameMode, AllFrameModeRead, Built,
+    Checksum, ChecksumRead, Configuration, ConfigurationRead, Control, ControlRead,
+    FrameAssignment, FrameAssignmentRead, Message, MessageRead, Packet, PartId, PartIdRead,
+    ReceiverLines, ReceiverLinesRead, ShutDown, ShutDownRead, Status, StatusRead, UserAddress,
+    UserAddressRead, Vector, VectorRead,
 };
 
 // Builds a checksum packet.
@@ -27,7 +28,7 @@ use packet::{
 pub extern "C" fn mortisevane_build_checksum(fields: Checksum) -> Built
     ensures { result ≡ built_by checksum (of_checksum fields) }
 {
-    Packet::checksum(fields)
+    Packet::build::<Checksum>(fields).into()
 }
 
 // Builds a configuration packet.
@@ -38,7 +39,7 @@ pub extern "C" fn mortisevane_build_checksum(fields: Checksum) -> Built
 pub extern "C" fn mortisevane_build_configuration(fields: Configuration) -> Built
     ensures { result ≡ built_by configuration (of_configuration fields) }
 {
-    Packet::configuration(fields)
+    Packet::build::<Configuration>(fields).into()
 }
 
 // Builds a control packet.
@@ -49,7 +50,7 @@ pub extern "C" fn mortisevane_build_configuration(fields: Configuration) -> Buil
 pub extern "C" fn mortisevane_build_control(fields: Control) -> Built
     ensures { result ≡ built_by control (of_control fields) }
 {
-    Packet::control(fields)
+    Packet::build::<Control>(fields).into()
 }
 
 // Builds an all frame mode packet.
@@ -60,7 +61,7 @@ pub extern "C" fn mortisevane_build_control(fields: Control) -> Built
 pub extern "C" fn mortisevane_build_all_frame_mode(fields: AllFrameMode) -> Built
     ensures { result ≡ built_by all_frame_mode (of_all_frame_mode fields) }
 {
-    Packet::all_frame_mode(fields)
+    Packet::build::<AllFrameMode>(fields).into()
 }
 
 // Builds a receiver line control packet.
@@ -71,7 +72,7 @@ pub extern "C" fn mortisevane_build_all_frame_mode(fields: AllFrameMode) -> Buil
 pub extern "C" fn mortisevane_build_receiver_lines(fields: ReceiverLines) -> Built
     ensures { result ≡ built_by receiver_lines (of_receiver_lines fields) }
 {
-    Packet::receiver_lines(fields)
+    Packet::build::<ReceiverLines>(fields).into()
 }
 
 // Builds a receiver shut-down packet.
@@ -82,7 +83,7 @@ pub extern "C" fn mortisevane_build_receiver_lines(fields: ReceiverLines) -> Bui
 pub extern "C" fn mortisevane_build_shut_down(fields: ShutDown) -> Built
     ensures { result ≡ built_by shut_down (of_shut_down fields) }
 {
-    Packet::shut_down(fields)
+    Packet::build::<ShutDown>(fields).into()
 }
 
 // Builds a frame assignment packet.
@@ -93,7 +94,7 @@ pub extern "C" fn mortisevane_build_shut_down(fields: ShutDown) -> Built
 pub extern "C" fn mortisevane_build_frame_assignment(fields: FrameAssignment) -> Built
     ensures { result ≡ built_by frame_assignment (of_frame_assignment fields) }
 {
-    Packet::frame_assignment(fields)
+    Packet::build::<FrameAssignment>(fields).into()
 }
 
 // Builds a user address assignment packet.
@@ -104,7 +105,7 @@ pub extern "C" fn mortisevane_build_frame_assignment(fields: FrameAssignment) ->
 pub extern "C" fn mortisevane_build_user_address(fields: UserAddress) -> Built
     ensures { result ≡ built_by user_address (of_user_address fields) }
 {
-    Packet::user_address(fields)
+    Packet::build::<UserAddress>(fields).into()
 }
 
 // Builds a user address enable packet.
@@ -115,7 +116,7 @@ pub extern "C" fn mortisevane_build_user_address(fields: UserAddress) -> Built
 pub extern "C" fn mortisevane_build_address_enable(fields: AddressEnable) -> Built
     ensures { result ≡ built_by address_enable (of_address_enable fields) }
 {
-    Packet::address_enable(fields)
+    Packet::build::<AddressEnable>(fields).into()
 }
 
 // Builds a part ID packet.
@@ -126,7 +127,7 @@ pub extern "C" fn mortisevane_build_address_enable(fields: AddressEnable) -> Bui
 pub extern "C" fn mortisevane_build_part_id(fields: PartId) -> Built
     ensures { result ≡ built_by part_id (of_part_id fields) }
 {
-    Packet::part_id(fields)
+    Packet::build::<PartId>(fields).into()
 }
 
 // Reads a checksum packet.
@@ -137,7 +138,8 @@ pub extern "C" fn mortisevane_build_part_id(fields: PartId) -> Built
 pub extern "C" fn mortisevane_read_checksum(packet: u32) -> ChecksumRead
     ensures { result ≡ checksum_read packet }
 {
-    packet::read_checksum(Packet { bits: packet })
+    let (number, fields) = packet::told::<Checksum>(Packet { bits: packet });
+    ChecksumRead { number, fields }
 }
 
 // Reads a configuration packet.
@@ -148,7 +150,8 @@ pub extern "C" fn mortisevane_read_checksum(packet: u32) -> ChecksumRead
 pub extern "C" fn mortisevane_read_configuration(packet: u32) -> ConfigurationRead
     ensures { result ≡ configuration_read packet }
 {
-    packet::read_configuration(Packet { bits: packet })
+    let (number, fields) = packet::told::<Configuration>(Packet { bits: packet });
+    ConfigurationRead { number, fields }
 }
 
 // Reads a control packet.
@@ -159,7 +162,8 @@ pub extern "C" fn mortisevane_read_configuration(packet: u32) -> ConfigurationRe
 pub extern "C" fn mortisevane_read_control(packet: u32) -> ControlRead
     ensures { result ≡ control_read packet }
 {
-    packet::read_control(Packet { bits: packet })
+    let (number, fields) = packet::told::<Control>(Packet { bits: packet });
+    ControlRead { number, fields }
 }
 
 // Reads an all frame mode packet.
@@ -170,7 +174,8 @@ pub extern "C" fn mortisevane_read_control(packet: u32) -> ControlRead
 pub extern "C" fn mortisevane_read_all_frame_mode(packet: u32) -> AllFrameModeRead
     ensures { result ≡ all_frame_mode_read packet }
 {
-    packet::read_all_frame_mode(Packet { bits: packet })
+    let (number, fields) = packet::told::<AllFrameMode>(Packet { bits: packet });
+    AllFrameModeRead { number, fields }
 }
 
 // Reads a receiver line control packet.
@@ -181,7 +186,8 @@ pub extern "C" fn mortisevane_read_all_frame_mode(packet: u32) -> AllFrameModeRe
 pub extern "C" fn mortisevane_read_receiver_lines(packet: u32) -> ReceiverLinesRead
     ensures { result ≡ receiver_lines_read packet }
 {
-    packet::read_receiver_lines(Packet { bits: packet })
+    let (number, fields) = packet::told::<ReceiverLines>(Packet { bits: packet });
+    ReceiverLinesRead { number, fields }
 }
 
 // Reads a receiver shut-down packet.
@@ -192,7 +198,8 @@ pub extern "C" fn mortisevane_read_receiver_lines(packet: u32) -> ReceiverLinesR
 pub extern "C" fn mortisevane_read_shut_down(packet: u32) -> ShutDownRead
     ensures { result ≡ shut_down_read packet }
 {
-    packet::read_shut_down(Packet { bits: packet })
+    let (number, fields) = packet::told::<ShutDown>(Packet { bits: packet });
+    ShutDownRead { number, fields }
 }
 
 // Reads a frame assignment packet.
@@ -203,7 +210,8 @@ pub extern "C" fn mortisevane_read_shut_down(packet: u32) -> ShutDownRead
 pub extern "C" fn mortisevane_read_frame_assignment(packet: u32) -> FrameAssignmentRead
     ensures { result ≡ frame_assignment_read packet }
 {
-    packet::read_frame_assignment(Packet { bits: packet })
+    let (number, fields) = packet::told::<FrameAssignment>(Packet { bits: packet });
+    FrameAssignmentRead { number, fields }
 }
 
 // Reads a user address assignment packet.
@@ -214,7 +222,8 @@ pub extern "C" fn mortisevane_read_frame_assignment(packet: u32) -> FrameAssignm
 pub extern "C" fn mortisevane_read_user_address(packet: u32) -> UserAddressRead
     ensures { result ≡ user_address_read packet }
 {
-    packet::read_user_address(Packet { bits: packet })
+    let (number, fields) = packet::told::<UserAddress>(Packet { bits: packet });
+    UserAddressRead { number, fields }
 }
 
 // Reads a user address enable packet.
@@ -225,7 +234,8 @@ pub extern "C" fn mortisevane_read_user_address(packet: u32) -> UserAddressRead
 pub extern "C" fn mortisevane_read_address_enable(packet: u32) -> AddressEnableRead
     ensures { result ≡ address_enable_read packet }
 {
-    packet::read_address_enable(Packet { bits: packet })
+    let (number, fields) = packet::told::<AddressEnable>(Packet { bits: packet });
+    AddressEnableRead { number, fields }
 }
 
 // Reads a part ID packet.
@@ -236,7 +246,8 @@ pub extern "C" fn mortisevane_read_address_enable(packet: u32) -> AddressEnableR
 pub extern "C" fn mortisevane_read_part_id(packet: u32) -> PartIdRead
     ensures { result ≡ part_id_read packet }
 {
-    packet::read_part_id(Packet { bits: packet })
+    let (number, fields) = packet::told::<PartId>(Packet { bits: packet });
+    PartIdRead { number, fields }
 }
 
 // Reads a status packet.
@@ -247,7 +258,8 @@ pub extern "C" fn mortisevane_read_part_id(packet: u32) -> PartIdRead
 pub extern "C" fn mortisevane_read_status(packet: u32) -> StatusRead
     ensures { result ≡ status_read packet }
 {
-    packet::read_status(Packet { bits: packet })
+    let (number, fields) = packet::told::<Status>(Packet { bits: packet });
+    StatusRead { number, fields }
 }
 
 // Reads an address packet.
@@ -258,7 +270,8 @@ pub extern "C" fn mortisevane_read_status(packet: u32) -> StatusRead
 pub extern "C" fn mortisevane_read_address(packet: u32) -> AddressRead
     ensures { result ≡ address_read packet }
 {
-    packet::read_address(Packet { bits: packet })
+    let (number, fields) = packet::told::<Address>(Packet { bits: packet });
+    AddressRead { number, fields }
 }
 
 // Reads a vector packet.
@@ -269,7 +282,8 @@ pub extern "C" fn mortisevane_read_address(packet: u32) -> AddressRead
 pub extern "C" fn mortisevane_read_vector(packet: u32) -> VectorRead
     ensures { result ≡ vector_read packet }
 {
-    packet::read_vector(Packet { bits: packet })
+    let (number, fields) = packet::told::<Vector>(Packet { bits: packet });
+    VectorRead { number, fields }
 }
 
 // Reads a message packet.
@@ -280,7 +294,8 @@ pub extern "C" fn mortisevane_read_vector(packet: u32) -> VectorRead
 pub extern "C" fn mortisevane_read_message(packet: u32) -> MessageRead
     ensures { result ≡ message_read packet }
 {
-    packet::read_message(Packet { bits: packet })
+    let (number, fields) = packet::told::<Message>(Packet { bits: packet });
+    MessageRead { number, fields }
 }
 
 // Whether the host may send a packet.
@@ -291,5 +306,8 @@ pub extern "C" fn mortisevane_read_message(packet: u32) -> MessageRead
 pub extern "C" fn mortisevane_may_send(packet: u32) -> u32
     ensures { result ≡ send_of packet }
 {
-    packet::may_send(Packet { bits: packet })
+    match packet::may_send(Packet { bits: packet }) {
+        Ok(()) => 0,
+        Err(refusal) => refusal.number(),
+    }
 }

@@ -23,7 +23,10 @@ pub extern "C" fn mortisevane_pocsag_mend(words: &mut [u32], bits: &mut [u32]) -
     ensures bits { bits.new
         ≡ written_by (mends_row words.old bits.old) bits.old (map bits_told words.old) }
 {
-    pocsag::mend(words, bits)
+    match pocsag::mend(words, bits) {
+        Ok(()) => 0,
+        Err(refusal) => refusal.number(),
+    }
 }
 
 // Received words, one after the other, up to and with the first that has something to tell.
@@ -70,5 +73,5 @@ pub extern "C" fn mortisevane_pocsag_read(kind: u32, words: &[u32], text: &mut [
     ensures told { result ≡ as_text (read_of kind (length text.old) words.now) }
     ensures buffer { text.new ≡ text_after kind words.now text.old }
 {
-    pocsag::read(kind, words, text)
+    PocsagText::from(pocsag::read(kind, words, text))
 }

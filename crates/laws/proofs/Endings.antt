@@ -1,7 +1,7 @@
 -- The last ones of a row that pass a test: how many there are, what stands before them, and how they are counted from the row's end on.
 use Prim.Native.Nat.{ℕ, zero, suc, ◌+◌, ◌-◌, ◌≤◌, ◌<◌}
 use mathlib.Core.Bool.{Bool, true, false}
-use mathlib.Core.List.{List, [], ◌∷◌, ◌++◌}
+use mathlib.Core.List.{List, [], ◌∷◌, ◌++◌, reverse}
 use mathlib.Core.Logic.{◌↔◌, ⊎_elim}
 use mathlib.Core.Path.{◌≡◌, refl, sym, ap, ◌∙◌}
 use native.Mathlib.Nat.{add-zero, sub-zero, zero-add}
@@ -9,6 +9,9 @@ use native.Mathlib.Omega.{arith}
 use lib.ListN.{length, get_or, take, drop, drop_of_length-le, length-drop, take-append-drop}
 use lib.Seq.{take_all, take-suc, length-take-le, drop-append-le}
 use mir.Val.{bool_byte}
+use Rattle.std.specs.List.{suffix_len, take_while}
+use Rattle.std.proofs.lemmas.List.Folds.{length-prefix_len}
+use Rattle.std.proofs.lemmas.List.Sums.{suffix_len-take_yes, suffix_len-take_no}
 use Rattle.laws.specs.Choice.{pick}
 use Rattle.laws.specs.Lists.{all, last_after, last_that}
 use Rattle.laws.proofs.Rows.{all_append}
@@ -177,6 +180,29 @@ module _ (test : ℕ → Bool) where
   pub counted_most : (row : List ℕ) (count left : ℕ) (good : Bool) → 0 < left → Counted row count left → count + bool_byte good ≤ length row
   counted_most row count left true some counted = omega (arith, counted.within)
   counted_most row count left false some counted = omega (arith, counted.within)
+
+  -- the first numbers of a row have as many last ones as they begin with, read from their end on
+  last_from_end : (row : List ℕ) (k : ℕ) → k ≤ length row → suffix_len test (take k row) ≡ last_that test (take k row)
+  unfolding last_after
+  last_from_end row zero within = refl
+  last_from_end row (suc k) within =
+      let back : suc k - 1 ≡ k = omega arith in
+      ⊎_elim
+      (λ (good : test (get_or row k 0) ≡ true).
+      suffix_len-take_yes test row (suc k) 0 (omega arith) within (rw back good)
+      ∙ rw (back, last_grow row k (omega arith), good, last_from_end row k (omega arith)) (omega arith))
+      (λ (bad : test (get_or row k 0) ≡ false).
+      suffix_len-take_no test row (suc k) 0 (omega arith) within (rw back bad)
+      ∙ rw (last_grow row k (omega arith), bad))
+      (decided (test (get_or row k 0)))
+
+  -- a row's last ones are what it begins with, read from its end on
+  last_backwards : (row : List ℕ) → suffix_len test row ≡ last_that test row
+  last_backwards row = rw (take_all (length row) row (omega arith)) at (last_from_end row (length row) (omega arith))
+
+  -- so many numbers pass, read from the row's end on and no further than to one that does not
+  pub counted_backwards : (row : List ℕ) → length (take_while test (reverse row)) ≡ last_that test row
+  counted_backwards row = length-prefix_len test (reverse row) ∙ last_backwards row
 
 -- fewer numbers are still to be looked at after one of them
 pub fewer_left : (left : ℕ) (good : Bool) → 0 < left → pick good (left - 1) 0 < left

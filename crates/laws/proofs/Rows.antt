@@ -11,6 +11,7 @@ use borrow.Author.Tests.{eqb-true}
 use lib.Dec.{eqb}
 use lib.ListN.{length, get_or, take, drop, replicate, drop_of_length-le, take-append-drop}
 use lib.Seq.{take-add, take-suc, drop-cons, drop-drop, get_or-take, length-take-le}
+use Rattle.std.specs.List.{list_all}
 use Rattle.laws.specs.Lists.{place_in, all, sum_by}
 use Rattle.laws.proofs.Searches.{first_passes}
 use Rattle.laws.proofs.Tests.{decided, not_both}
@@ -57,6 +58,12 @@ pub all_map : (test : ℕ → Bool) (rule : ℕ → ℕ) (row : List ℕ) → al
 unfolding all
 all_map test rule [] = refl
 all_map test rule (x ∷ row) = rw (all_map test rule row)
+
+-- it is the test that the library's search asks
+pub all_listed : (test : ℕ → Bool) (row : List ℕ) → list_all test row ≡ all test row
+unfolding all
+all_listed test [] = refl
+all_listed test (x ∷ row) = rw (all_listed test row)
 
 module _ (test : ℕ → Bool) (row : List ℕ) (i : ℕ) where
   -- where all before a place pass and the number there does, all up to it pass

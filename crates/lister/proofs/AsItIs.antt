@@ -5,12 +5,13 @@ use mathlib.Core.Path.{◌≡◌, refl, sym, ◌∙◌}
 use mathlib.Core.List.{List, [], ◌∷◌, ◌++◌}
 use native.Mathlib.Omega.{arith}
 use lib.Dec.{leb, eqb}
-use lib.ListN.{length, take, set}
-use borrow.Author.Tests.{leb-true, eq-eqb, ne_eqb}
+use lib.ListN.{length, set}
+use borrow.Author.Tests.{leb-true, eq-eqb}
 use Rattle.laws.proofs.Tests.{first_of, second_of}
 use Rattle.laws.proofs.Writing.{put_one}
-use Rattle.lister.specs.Stands.{stand}
-use Rattle.lister.specs.declared.feeding.Course.{Course}
+use Rattle.lister.specs.Stands.{stand, kept_of}
+use Rattle.lister.specs.declared.Fed.{Fed}
+use Rattle.lister.specs.declared.Lister.{Lister}
 use Rattle.lister.specs.Portions.{kept, as_it_is, writes, next, FedByte}
 use Rattle.lister.proofs.Writes.{shown_plain, writes_byte}
 use Rattle.lister.proofs.Keeping.{keep_none, next_kept}
@@ -46,23 +47,23 @@ module _ (byte : ℕ) (e : as_it_is byte ≡ true) where
 
   -- the line keeps a byte that is shown as it is
   pub stands_after : (text after : List ℕ) → text ≡ kept (text ++ []) → after ≡ kept (text ++ byte ∷ []) → stand after false ≡ next (stand text false) byte
-  stands_after text after same more = rw (ne_eqb byte 13 no_return) at (next_kept text false byte text after no_feed no_return same more)
+  stands_after text after same more = next_kept text false byte text after no_feed no_return same more
 
 -- the whole of what it does
-pub fed_as_it_is : (line : List ℕ) (before : Course) (buffer : List ℕ) (byte count : ℕ) (after : List ℕ)
-    → length line ≡ 16 → before.written < length buffer → (as_it_is byte && not before.held) ≡ true
-    → take count after ≡ kept (take before.count line ++ byte ∷ [])
-    → FedByte line before buffer byte after (record {
-      count = count;
-      held = before.held;
+pub fed_as_it_is : (before : Fed) (buffer : List ℕ) (byte : ℕ) (lister : Lister)
+    → length before.lister.line ≡ 16 → before.written < length buffer → (as_it_is byte && not before.lister.held) ≡ true
+    → kept_of lister ≡ kept (kept_of before.lister ++ byte ∷ []) → lister.held ≡ before.lister.held
+    → FedByte before buffer byte (record {
+      lister = lister;
       taken = before.taken + 1;
       written = before.written + 1;
     }) (set buffer before.written byte)
-fed_as_it_is line before buffer byte count after sixteen within plain more =
-    let e : as_it_is byte ≡ true = first_of (as_it_is byte) (not before.held) plain in
-    let none : before.held ≡ false = is_not before.held (second_of (as_it_is byte) (not before.held) plain) in
+fed_as_it_is before buffer byte lister sixteen within plain more same =
+    let e : as_it_is byte ≡ true = first_of (as_it_is byte) (not before.lister.held) plain in
+    let none : before.lister.held ≡ false = is_not before.lister.held (second_of (as_it_is byte) (not before.lister.held) plain) in
+    let text = kept_of before.lister in
     record {
       taken = refl;
-      stands = rw none (stands_after byte e (take before.count line) (take count after) (keep_none line before.count sixteen) more);
-      wrote = rw (none, ← writes_itself byte e (take before.count line)) (record { ends = refl; holds = put_one buffer before.written byte within });
+      stands = rw (same, none) (stands_after byte e text (kept_of lister) (keep_none before.lister.line before.lister.count sixteen) more);
+      wrote = rw (none, ← writes_itself byte e text) (record { ends = refl; holds = put_one buffer before.written byte within });
     }

@@ -1,16 +1,15 @@
 -- What is kept of a line, byte by byte.
 use Prim.Native.Nat.{ℕ, ◌+◌, ◌≤◌, ◌<◌}
-use mathlib.Core.Bool.{Bool}
+use mathlib.Core.Bool.{Bool, true, false}
 use mathlib.Core.Path.{◌≡◌, sym, ◌∙◌}
 use mathlib.Core.List.{List, [], ◌∷◌, ◌++◌, append-nil}
 use native.Mathlib.Numerals.{add-one}
 use native.Mathlib.Omega.{arith}
-use lib.Dec.{eqb}
 use lib.ListN.{length, take, set, length-take, length-append}
 use lib.Seq.{take_all, take-append-le, take-suc-set, length-take-le}
 use borrow.Author.Tests.{ne_eqb}
 use Rattle.laws.proofs.Writing.{take_joined}
-use Rattle.lister.specs.Stands.{stand}
+use Rattle.lister.specs.Stands.{stand, fresh}
 use Rattle.lister.specs.Portions.{kept, held_bytes, next}
 
 module _ (line : List ℕ) (count : ℕ) (sixteen : length line ≡ 16) where
@@ -37,19 +36,19 @@ module _ (line : List ℕ) (count : ℕ) (sixteen : length line ≡ 16) where
 
 module _ (text : List ℕ) (held : Bool) (byte : ℕ) where
   -- where the listing stands after a line feed
-  pub next_line : byte ≡ 10 → stand [] (eqb byte 13) ≡ next (stand text held) byte
+  pub next_line : byte ≡ 10 → fresh ≡ next (stand text held) byte
   unfolding next
   next_line feed = rw feed
 
   -- where the listing stands after a carriage return
-  pub next_held : (before : List ℕ) → byte ≡ 13 → before ≡ kept (text ++ held_bytes held) → stand before (eqb byte 13) ≡ next (stand text held) byte
+  pub next_held : (before : List ℕ) → byte ≡ 13 → before ≡ kept (text ++ held_bytes held) → stand before true ≡ next (stand text held) byte
   unfolding next
   next_held before return e = rw (return, e)
 
   -- where the listing stands after any other byte
   pub next_kept : (before after : List ℕ) → (byte ≡ 10 → ⊥) → (byte ≡ 13 → ⊥)
       → before ≡ kept (text ++ held_bytes held) → after ≡ kept (before ++ byte ∷ [])
-      → stand after (eqb byte 13) ≡ next (stand text held) byte
+      → stand after false ≡ next (stand text held) byte
   unfolding next kept
   next_kept before after no_feed no_return e f =
       let joined : after ≡ kept (text ++ held_bytes held ++ byte ∷ []) = f ∙ rw e (take_joined 16 (text ++ held_bytes held) (byte ∷ [])) in

@@ -14,7 +14,7 @@ use Rattle.capcode.specs.Words.{words_of}
 use Rattle.capcode.specs.Assigned.{asked}
 use Rattle.capcode.specs.Text.{digits}
 use Rattle.capcode.specs.declared.Capcode.{Capcode}
-use Rattle.capcode.specs.declared.reading.Form.{Form}
+use Rattle.std.specs.Prelude.{Ok}
 use Rattle.capcode.specs.Reads.{step_of, follow, form_of, fault_at, read_of}
 use Rattle.lister.specs.Stands.{Stand, stand_of, fresh}
 use Rattle.lister.specs.Texts.{header}
@@ -37,7 +37,7 @@ pub kept_tell : (text : List ℕ) → (read_of (kept text) ≡ read_of text) × 
 kept_tell text = (kept_read text, kept_verdict text)
 
 -- a text that is not refused is shown as it is
-pub accepted_shown : (text : List ℕ) (c : Capcode) → form_of text ≡ Form.Says c → shown text ≡ text
+pub accepted_shown : (text : List ℕ) (c : Capcode) → form_of text ≡ Ok c → shown text ≡ text
 accepted_shown = said_shown
 
 -- no byte of the input writes more than `most_written` bytes

@@ -1,7 +1,7 @@
 -- How long what is written can be.
 use Prim.Native.Nat.{ℕ, ◌≤◌}
-use mathlib.Core.Bool.{◌&&◌}
-use mathlib.Core.List.{[], ◌∷◌}
+use mathlib.Core.Bool.{Bool, ◌&&◌}
+use mathlib.Core.List.{List, [], ◌∷◌, ◌++◌}
 use native.Mathlib.Omega.{arith}
 use lib.Dec.{eqb, leb}
 use lib.ListN.{length, length-append}
@@ -10,7 +10,7 @@ use Rattle.lister.specs.Stands.{Stand, stand}
 use Rattle.lister.specs.Verdicts.{line_feed, verdict_of}
 use Rattle.lister.proofs.line_end.Lengths.{pick_short, verdict_short}
 use Rattle.lister.specs.Lines.{shown_byte}
-use Rattle.lister.specs.Portions.{held_shown, writes, most_written}
+use Rattle.lister.specs.Portions.{kept, held_bytes, held_shown, writes, most_written, closed_text, closes}
 use Rattle.lister.proofs.Writes.{held_length}
 
 -- a byte is shown as four bytes at most
@@ -30,3 +30,12 @@ writes_short (stand text held) byte =
       held_length held,
       pick_short (eqb byte 13) [] (shown_byte byte) 4 (omega arith) (shown_short byte),
     ))
+
+-- what is written at the end of the input has 27 bytes at most
+pub closes_short : (s : Stand) → length (closes s) ≤ 27
+unfolding closes
+closes_short (stand text held) = closed_short (kept (text ++ held_bytes held)) held
+  where
+    closed_short : (text : List ℕ) (held : Bool) → length (closed_text text held) ≤ 27
+    closed_short [] held = omega arith
+    closed_short (b ∷ text) held = omega (arith, length-append (held_shown held) (verdict_of (b ∷ text)), held_length held, verdict_short (b ∷ text))

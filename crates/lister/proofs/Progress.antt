@@ -1,6 +1,5 @@
 -- The listing of a portion, byte by byte: where it stands, and what is left.
 use Prim.Native.Nat.{ℕ, suc, ◌+◌, ◌-◌, ◌≤◌, ◌<◌}
-use mathlib.Core.Bool.{Bool}
 use mathlib.Core.Path.{◌≡◌, refl, sym, ap, ◌∙◌}
 use mathlib.Core.List.{List, [], ◌∷◌, ◌++◌, append_assoc, append-nil}
 use mathlib.Core.Logic.{◌⊎◌, ⊎_elim}
@@ -9,10 +8,11 @@ use native.Mathlib.Omega.{arith}
 use lib.ListN.{length, take, drop, get_or, drop_of_length-le, length-append}
 use lib.Seq.{take-add, drop-cons}
 use borrow.Author.Tests.{le-leb, lt-leb}
-use Rattle.lister.specs.Stands.{Stand, stand}
+use Rattle.lister.specs.Stands.{Stand, stand_of}
 use Rattle.lister.specs.Texts.{Wrote}
-use Rattle.lister.specs.declared.feeding.Course.{Course}
-use Rattle.lister.specs.Portions.{stand_at, writes, next, writes_all, next_all, most_written, taken_of, FedByte, between, FedOn, FedAll}
+use Rattle.lister.specs.declared.Lister.{Lister}
+use Rattle.lister.specs.declared.Fed.{Fed}
+use Rattle.lister.specs.Portions.{writes, next, writes_all, next_all, most_written, taken_of, FedByte, between, FedOn, FedAll}
 use Rattle.lister.proofs.Writes.{wrote_none, wrote_same, wrote_then}
 use Rattle.lister.proofs.Lengths.{writes_short}
 
@@ -63,22 +63,22 @@ taken_run s room (byte ∷ bytes) rest enough =
     ∙ rw less (omega arith)
 
 -- one byte more, where there is a byte and room for whatever it may write
-pub byte_on : (line : List ℕ) (before : Course) (input buffer kept : List ℕ) (course : Course) (after : List ℕ)
+pub byte_on : (before : Fed) (input buffer : List ℕ) (fed : Fed) (after : List ℕ)
     → before.taken < length input → before.written + most_written ≤ length buffer
-    → FedByte line before buffer (get_or input before.taken 0) kept course after → FedOn line before input buffer kept course after
+    → FedByte before buffer (get_or input before.taken 0) fed after → FedOn before input buffer fed after
 unfolding next_all writes_all
-byte_on line before input buffer kept course after some room f =
+byte_on before input buffer fed after some room f =
     let i : ℕ = before.taken in
     let byte : ℕ = get_or input i 0 in
-    let here : Stand = stand_at line before in
-    let one : course.taken ≡ suc i = f.taken ∙ add-one i in
-    let just : byte ∷ [] ≡ between before course input =
-    let single : course.taken - i ≡ 1 = omega arith in
+    let here : Stand = stand_of before.lister in
+    let one : fed.taken ≡ suc i = f.taken ∙ add-one i in
+    let just : byte ∷ [] ≡ between before fed input =
+    let single : fed.taken - i ≡ 1 = omega arith in
     rw (single, drop-cons input i 0 some) in
     let short = writes_short here byte in
-    let less : length buffer - before.written - length (writes here byte) ≡ length buffer - course.written = omega (arith, f.wrote.ends) in
+    let less : length buffer - before.written - length (writes here byte) ≡ length buffer - fed.written = omega (arith, f.wrote.ends) in
     let step : taken_of here (length buffer - before.written) (drop i input)
-    ≡ suc (taken_of (stand_at kept course) (length buffer - course.written) (drop course.taken input)) =
+    ≡ suc (taken_of (stand_of fed.lister) (length buffer - fed.written) (drop fed.taken input)) =
     rw (drop-cons input i 0 some)
     (taken_byte here (length buffer - before.written) byte (drop (suc i) input) (omega arith)
     ∙ rw (less, f.stands, one)) in
@@ -92,23 +92,21 @@ byte_on line before input buffer kept course after some room f =
     }
 
 -- what holds between two bytes of a portion that is listed from `s` into `buffer`
-pub record Progress (s : Stand) (input buffer line : List ℕ) (course : Course) (out : List ℕ) : Type 0 where
-  pub sixteen : length line ≡ 16
-  pub within : course.taken ≤ length input
-  pub fits : course.written ≤ length buffer
+pub record Progress (s : Stand) (input buffer : List ℕ) (fed : Fed) (out : List ℕ) : Type 0 where
+  pub within : fed.taken ≤ length input
+  pub fits : fed.written ≤ length buffer
   pub same : length out ≡ length buffer
-  pub stands : stand_at line course ≡ next_all s (take course.taken input)
-  pub wrote : Wrote buffer 0 (writes_all s (take course.taken input)) course.written out
-  pub rest : taken_of s (length buffer) input ≡ course.taken + taken_of (stand_at line course) (length buffer - course.written) (drop course.taken input)
+  pub stands : stand_of fed.lister ≡ next_all s (take fed.taken input)
+  pub wrote : Wrote buffer 0 (writes_all s (take fed.taken input)) fed.written out
+  pub rest : taken_of s (length buffer) input ≡ fed.taken + taken_of (stand_of fed.lister) (length buffer - fed.written) (drop fed.taken input)
 
 -- before the first byte
-pub progress_start : (line input buffer : List ℕ) (count : ℕ) (held : Bool) → length line ≡ 16
-    → Progress (stand (take count line) held) input buffer line (record { count = count; held = held; taken = 0; written = 0 }) buffer
+pub progress_start : (lister : Lister) (input buffer : List ℕ)
+    → Progress (stand_of lister) input buffer (record { lister = lister; taken = 0; written = 0 }) buffer
 unfolding next_all writes_all
-progress_start line input buffer count held sixteen =
+progress_start lister input buffer =
     let all : length buffer - 0 ≡ length buffer = omega arith in
     record {
-      sixteen = sixteen;
       within = omega arith;
       fits = omega arith;
       same = refl;
@@ -117,22 +115,20 @@ progress_start line input buffer count held sixteen =
       rest = rw all (omega arith);
     }
 
-module _ (s : Stand) (input buffer line : List ℕ) (course : Course) (out : List ℕ) (p : Progress s input buffer line course out) where
+module _ (s : Stand) (input buffer : List ℕ) (fed : Fed) (out : List ℕ) (p : Progress s input buffer fed out) where
   -- some bytes more
-  pub progress_turn : (line₁ : List ℕ) (course₁ : Course) (out₁ : List ℕ) → length line₁ ≡ 16 → length out₁ ≡ length buffer
-      → FedOn line course input out line₁ course₁ out₁ → Progress s input buffer line₁ course₁ out₁
-  progress_turn line₁ course₁ out₁ sixteen same f =
-      let i : ℕ = course.taken in
-      let bytes : List ℕ = between course course₁ input in
-      let all : i + (course₁.taken - i) ≡ course₁.taken = omega (arith, f.some) in
-      let more : take i input ++ bytes ≡ take course₁.taken input = sym (take-add i (course₁.taken - i) input) ∙ ap (λ (n : ℕ). take n input) all in
-      let text : writes_all s (take i input) ++ writes_all (stand_at line course) bytes ≡ writes_all s (take course₁.taken input) =
+  pub progress_turn : (fed₁ : Fed) (out₁ : List ℕ) → length out₁ ≡ length buffer → FedOn fed input out fed₁ out₁ → Progress s input buffer fed₁ out₁
+  progress_turn fed₁ out₁ same f =
+      let i : ℕ = fed.taken in
+      let bytes : List ℕ = between fed fed₁ input in
+      let all : i + (fed₁.taken - i) ≡ fed₁.taken = omega (arith, f.some) in
+      let more : take i input ++ bytes ≡ take fed₁.taken input = sym (take-add i (fed₁.taken - i) input) ∙ ap (λ (n : ℕ). take n input) all in
+      let text : writes_all s (take i input) ++ writes_all (stand_of fed.lister) bytes ≡ writes_all s (take fed₁.taken input) =
       ap (λ (t : Stand). writes_all s (take i input) ++ writes_all t bytes) p.stands
       ∙ sym (writes_joined s (take i input) bytes)
       ∙ ap (writes_all s) more in
       let left = rw p.same at f.rest in
       record {
-        sixteen = sixteen;
         within = f.within;
         fits = omega (arith, f.fits, p.same);
         same = same;
@@ -142,19 +138,15 @@ module _ (s : Stand) (input buffer line : List ℕ) (course : Course) (out : Lis
       }
 
   -- where no byte is left, or no room, what was taken is all that is taken
-  pub progress_end : (length input ≤ course.taken) ⊎ (length buffer - course.written < 32)
-      → FedAll s input buffer (taken_of s (length buffer) input) (record {
-        lister = record { line = line; count = course.count; held = course.held };
-        taken = course.taken;
-        written = course.written;
-      }) out
+  pub progress_end : (length input ≤ fed.taken) ⊎ (length buffer - fed.written < 32)
+      → FedAll s input buffer (taken_of s (length buffer) input) fed out
   progress_end ends =
-      let all : taken_of s (length buffer) input ≡ course.taken =
+      let all : taken_of s (length buffer) input ≡ fed.taken =
       ⊎_elim
-      (λ (past : length input ≤ course.taken). omega
-      (arith, p.rest, taken_end (stand_at line course) (length buffer - course.written) input course.taken past))
-      (λ (short : length buffer - course.written < 32). omega
-      (arith, p.rest, taken_none (stand_at line course) (length buffer - course.written) (drop course.taken input) short))
+      (λ (past : length input ≤ fed.taken). omega
+      (arith, p.rest, taken_end (stand_of fed.lister) (length buffer - fed.written) input fed.taken past))
+      (λ (short : length buffer - fed.written < 32). omega
+      (arith, p.rest, taken_none (stand_of fed.lister) (length buffer - fed.written) (drop fed.taken input) short))
       ends in
       record {
         taken = sym all;

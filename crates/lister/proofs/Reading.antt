@@ -10,7 +10,8 @@ use lib.Seq.{take_all, take-take, length-take-le}
 use borrow.Author.Tests.{leb-true, leb-false}
 use Rattle.refusal.specs.declared.Refusal.{Refusal}
 use Rattle.refusal.specs.Told.{Told, refused_at}
-use Rattle.capcode.specs.declared.reading.Form.{Form}
+use Rattle.std.specs.Prelude.{Result, Ok, Err}
+use Rattle.capcode.specs.declared.Capcode.{Capcode}
 use Rattle.capcode.specs.Reads.{form_of, fault_at, read_by, read_of}
 use Rattle.capcode.proofs.Faults.{fault_within}
 use Rattle.capcode.proofs.Laws.{said_length}
@@ -28,12 +29,12 @@ pub record RefusedEarly (text : List ℕ) : Type 0 where
 pub too_long : (text : List ℕ) → 16 ≤ length text → RefusedEarly text
 too_long text long = by_form (form_of text) refl
   where
-    by_form : (form : Form) → form_of text ≡ form → RefusedEarly text
-    by_form (Form.Says c) e = absurd (omega (arith, said_length text c e))
-    by_form (Form.Wrong place) e = record { place = place; early = place_upto text place e; tells = ap (read_by text) e }
+    by_form : (form : Result Capcode ℕ) → form_of text ≡ form → RefusedEarly text
+    by_form (Ok c) e = absurd (omega (arith, said_length text c e))
+    by_form (Err place) e = record { place = place; early = place_upto text place e; tells = ap (read_by text) e }
 
 -- sixteen bytes that go wrong at a place go wrong there whatever follows them
-wrong_on : (text : List ℕ) (place : ℕ) → 16 < length text → form_of (take 16 text) ≡ Form.Wrong place → form_of text ≡ Form.Wrong place
+wrong_on : (text : List ℕ) (place : ℕ) → 16 < length text → form_of (take 16 text) ≡ Err place → form_of text ≡ Err place
 wrong_on text place long e =
     let early = place_upto (take 16 text) place e in
     let within : place < length (take 16 text) = omega (arith, length-take-le 16 text (omega arith)) in
@@ -46,9 +47,9 @@ pub kept_read : (text : List ℕ) → read_of (kept text) ≡ read_of text
 unfolding kept
 kept_read text = by_length (leb (length text) 16) refl
   where
-    by_form : 16 < length text → (form : Form) → form_of (take 16 text) ≡ form → read_by (take 16 text) form ≡ read_of text
-    by_form long (Form.Says c) e = absurd (omega (arith, said_length (take 16 text) c e, length-take-le 16 text (omega arith)))
-    by_form long (Form.Wrong place) e =
+    by_form : 16 < length text → (form : Result Capcode ℕ) → form_of (take 16 text) ≡ form → read_by (take 16 text) form ≡ read_of text
+    by_form long (Ok c) e = absurd (omega (arith, said_length (take 16 text) c e, length-take-le 16 text (omega arith)))
+    by_form long (Err place) e =
         let early = place_upto (take 16 text) place e in
         ap (λ (r : Refusal). refused_at r place) (fault_within text 16 place (omega arith) (omega arith)) ∙ sym (ap (read_by text) (wrong_on text place long e))
 

@@ -9,7 +9,7 @@ use lib.Dec.{leb}
 use borrow.Author.Tests.{leb-true, ne_eqb, le-leb}
 use Rattle.laws.proofs.Tests.{first_of, second_of, either_of}
 use Rattle.capcode.specs.declared.Capcode.{Capcode}
-use Rattle.capcode.specs.declared.reading.Form.{Form}
+use Rattle.std.specs.Prelude.{Result, Ok, Err}
 use Rattle.capcode.specs.Assigned.{standard, framed}
 use Rattle.capcode.specs.Text.{digits, head_width, width_of, text_of, Sayable}
 use Rattle.capcode.specs.Reads.{form_of, fault_at, read_by, read_of}
@@ -63,7 +63,7 @@ text_shown c sayable =
     (ap₂ (λ (a b : List ℕ). a ++ b) (letter-shown c sayable) (digits_shown (width_of c.address) c.address)))
 
 -- a text that says a CAPCODE is shown as it is
-pub said_shown : (text : List ℕ) (c : Capcode) → form_of text ≡ Form.Says c → shown text ≡ text
+pub said_shown : (text : List ℕ) (c : Capcode) → form_of text ≡ Ok c → shown text ≡ text
 said_shown text c e =
     let said = printed_of_read text c e in
     rw said.0 at (text_shown c said.1)
@@ -72,6 +72,6 @@ said_shown text c e =
 pub read_shown : (text : List ℕ) → number_told (read_of text) ≡ 0 → shown text ≡ text
 read_shown text e = by_form (form_of text) refl e
   where
-    by_form : (form : Form) → form_of text ≡ form → number_told (read_by text form) ≡ 0 → shown text ≡ text
-    by_form (Form.Says d) same none = said_shown text d same
-    by_form (Form.Wrong place) same none = absurd (omega (arith, none, number_positive (fault_at text place)))
+    by_form : (form : Result Capcode ℕ) → form_of text ≡ form → number_told (read_by text form) ≡ 0 → shown text ≡ text
+    by_form (Ok d) same none = said_shown text d same
+    by_form (Err place) same none = absurd (omega (arith, none, number_positive (fault_at text place)))

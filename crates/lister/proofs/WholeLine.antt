@@ -8,21 +8,19 @@ use native.Mathlib.Omega.{arith}
 use lib.Dec.{leb, eqb}
 use lib.ListN.{length, take, drop, get_or, length-append, length-drop, take-append-drop}
 use lib.Seq.{take-take, take-suc, drop-drop, get_or-drop, length-take-le}
-use borrow.Author.Tests.{eqb-true, leb-true}
 use Rattle.laws.specs.Choice.{pick}
-use Rattle.laws.proofs.Tests.{first_of, second_of}
 use Rattle.laws.proofs.Writing.{take_joined}
-use Rattle.lister.specs.Stands.{stand, fresh}
-use Rattle.lister.specs.declared.feeding.Course.{Course}
-use Rattle.lister.specs.declared.feeding.Line.{Line}
+use Rattle.lister.specs.Stands.{stand, stand_of, fresh}
+use Rattle.std.specs.Prelude.{Some}
+use Rattle.lister.specs.declared.Fed.{Fed}
 use Rattle.lister.specs.Verdicts.{line_feed, verdict_of}
 use Rattle.lister.specs.Lines.{shown_byte, shown}
-use Rattle.lister.specs.Portions.{stand_at, kept, as_it_is, next, writes_all, next_all, most_written, taken_of, FedByte, Ahead, LineWritten, FedOn}
+use Rattle.lister.specs.Portions.{kept, as_it_is, next, writes_all, next_all, taken_of, Ahead, LineWritten, FedOn}
 use Rattle.lister.proofs.Writes.{wrote_same, writes_line}
 use Rattle.lister.proofs.Keeping.{next_line}
-use Rattle.lister.proofs.AsItIs.{is_not, writes_itself, stands_after}
+use Rattle.lister.proofs.AsItIs.{writes_itself, stands_after}
 use Rattle.lister.proofs.line_end.Lengths.{verdict_short}
-use Rattle.lister.proofs.Progress.{next_joined, writes_joined, taken_run, byte_on}
+use Rattle.lister.proofs.Progress.{next_joined, writes_joined, taken_run}
 use Rattle.lister.proofs.Reading.{kept_verdict}
 
 -- every byte of a text is shown as it is
@@ -89,32 +87,8 @@ whole_line text same =
           ∙ rw plain.1 (sym (next_line (kept text) false line_feed refl)),
     )
 
--- a line is ahead where the tests hold and a line feed comes soon enough
-pub ahead_by : (course : Course) (input : List ℕ) (room n : ℕ) → ((eqb course.count 0 && not course.held) && leb 70 room) ≡ true
-    → (n < 16 → (course.taken + n < length input) × (get_or input (course.taken + n) 0 ≡ line_feed)) → n < 16 → Ahead course input room n
-ahead_by course input room n tests feed few =
-    let begins = first_of (eqb course.count 0 && not course.held) (leb 70 room) tests in
-    record {
-      begins = (
-        eqb-true course.count 0 (first_of (eqb course.count 0) (not course.held) begins),
-        is_not course.held (second_of (eqb course.count 0) (not course.held) begins),
-      );
-      roomy = leb-true 70 room (second_of (eqb course.count 0 && not course.held) (leb 70 room) tests);
-      within = (feed few).0;
-      ends = (feed few).1;
-    }
-
--- where no line was written, one byte more
-pub other_on : (line : List ℕ) (before : Course) (input buffer text : List ℕ) (line₁ : Line) (between₁ kept : List ℕ) (course : Course) (after : List ℕ)
-    → line₁ ≡ Line.Other
-    → LineWritten buffer before.written text line₁ between₁ → before.taken < length input → before.written + most_written ≤ length buffer
-    → FedByte line before between₁ (get_or input before.taken 0) kept course after → FedOn line before input buffer kept course after
-other_on line before input buffer text line₁ between₁ kept course after is done some room f =
-    let same : between₁ ≡ buffer = rw is at done in
-    byte_on line before input buffer kept course after some room (rw same at f)
-
 -- the bytes of a line that is ahead
-line_bytes : (before : Course) (input : List ℕ) (room n : ℕ) → Ahead before input room n
+line_bytes : (before : Fed) (input : List ℕ) (room n : ℕ) → Ahead before input room n
     → take (n + 1) (drop before.taken input) ≡ take n (drop before.taken input) ++ line_feed ∷ []
 line_bytes before input room n ahead =
     let within : n < length (drop before.taken input) = omega (arith, ahead.within, length-drop before.taken input) in
@@ -122,26 +96,26 @@ line_bytes before input room n ahead =
     rw (add-one n) (take-suc (drop before.taken input) n 0 within ∙ rw last)
 
 -- the text of a line that is ahead is so long
-pub line_length : (before : Course) (input : List ℕ) (room n : ℕ) → Ahead before input room n
+pub line_length : (before : Fed) (input : List ℕ) (room n : ℕ) → Ahead before input room n
     → length (take (before.taken + n - before.taken) (drop before.taken input)) ≡ n
 line_length before input room n ahead =
     let count : before.taken + n - before.taken ≡ n = omega arith in
     rw count (length-take-le n (drop before.taken input) (omega (arith, ahead.within, length-drop before.taken input)))
 
 -- a line that was written whole
-pub line_on : (line : List ℕ) (before : Course) (input buffer : List ℕ) (n end : ℕ) (line₁ : Line) (after : List ℕ)
-    → n < 16 → before.written ≤ length buffer → line₁ ≡ Line.Written end
+pub line_on : (before : Fed) (input buffer : List ℕ) (n end : ℕ) (after : List ℕ)
+    → n < 16 → before.written ≤ length buffer
     → Ahead before input (length buffer - before.written) n
-    → LineWritten buffer before.written (take (before.taken + n - before.taken) (drop before.taken input)) line₁ after
-    → FedOn line before input buffer line (record { count = before.count; held = before.held; taken = before.taken + n + 1; written = end }) after
-line_on line before input buffer n end line₁ after few fits is ahead done =
+    → LineWritten buffer before.written (take (before.taken + n - before.taken) (drop before.taken input)) (Some end) after
+    → FedOn before input buffer (record { lister = before.lister; taken = before.taken + n + 1; written = end }) after
+line_on before input buffer n end after few fits ahead done =
     let i : ℕ = before.taken in
     let text : List ℕ = take n (drop i input) in
     let room : ℕ = length buffer - before.written in
     let part : i + n - i ≡ n = omega arith in
-    let written : LineWritten buffer before.written text (Line.Written end) after = rw (is, part) at done in
+    let written : LineWritten buffer before.written text (Some end) after = rw part at done in
     let whole = whole_line text written.1 in
-    let start : stand_at line before ≡ fresh = rw (ahead.begins.0, ahead.begins.1) in
+    let start : stand_of before.lister ≡ fresh = rw (ahead.begins.0, ahead.begins.1) in
     let count : i + n + 1 - i ≡ n + 1 = omega arith in
     let bytes : take (i + n + 1 - i) (drop i input) ≡ text ++ line_feed ∷ [] =
     ap (λ (k : ℕ). take k (drop i input)) count ∙ line_bytes before input room n ahead in

@@ -1,18 +1,19 @@
 -- What is written, piece by piece.
-use Prim.Native.Nat.{ℕ, ◌≤◌, ◌<◌, ◌/◌, ◌%◌}
+use Prim.Native.Nat.{ℕ, ◌≤◌, ◌<◌}
 use mathlib.Core.Bool.{Bool, true, false, ◌&&◌}
 use mathlib.Core.Path.{◌≡◌, refl, sym, ◌∙◌}
 use mathlib.Core.List.{List, [], ◌∷◌, ◌++◌, append-nil}
 use native.Mathlib.Omega.{arith}
 use lib.Dec.{leb}
 use lib.ListN.{length, length-append}
-use borrow.Author.Tests.{eq-eqb, ne_eqb}
+use borrow.Author.Tests.{ne_eqb}
 use Rattle.laws.proofs.Writing.{put_nothing, put_after}
+use Rattle.std.specs.Prelude.{Result}
+use Rattle.refusal.specs.declared.Refusal.{Refusal}
 use Rattle.lister.specs.Stands.{stand}
 use Rattle.lister.specs.Texts.{Answered, Wrote}
-use Rattle.lister.specs.Verdicts.{hex_digit, verdict_of}
+use Rattle.lister.specs.Verdicts.{verdict_of}
 use Rattle.lister.specs.Lines.{shown_byte}
-use Rattle.lister.specs.declared.Written.{Written}
 use Rattle.lister.specs.Portions.{kept, held_bytes, held_shown, writes, closed_text, closes}
 
 -- the same text by another name
@@ -34,18 +35,9 @@ wrote_then buffer place text more middle end between after within first second =
     }
 
 module _ (byte : ℕ) where
-  -- a backslash
-  pub shown_slash : byte ≡ 92 → 92 ∷ 92 ∷ [] ≡ shown_byte byte
-  shown_slash e = rw (eq-eqb byte 92 e)
-
   -- any other printable byte
   pub shown_plain : (byte ≡ 92 → ⊥) → (leb 32 byte && leb byte 126) ≡ true → byte ∷ [] ≡ shown_byte byte
   shown_plain other e = rw (ne_eqb byte 92 other, e)
-
-  -- a byte that is escaped
-  pub shown_escaped : (high low : ℕ) → (byte ≡ 92 → ⊥) → (leb 32 byte && leb byte 126) ≡ false → high ≡ hex_digit (byte / 16) → low ≡ hex_digit (byte % 16)
-      → 92 ∷ 120 ∷ high ∷ low ∷ [] ≡ shown_byte byte
-  shown_escaped high low other e h l = rw (ne_eqb byte 92 other, e, h, l)
 
 -- a carriage return that was held back is shown as four bytes
 pub held_length : (held : Bool) → length (held_shown held) ≤ 4
@@ -84,6 +76,6 @@ module _ (text : List ℕ) (held : Bool) (whole : List ℕ) (is_whole : whole �
       by_bytes (b ∷ whole) some = refl
 
 -- the same text, answered by another name
-pub answered_same : (buffer text other : List ℕ) (written : Written) (after : List ℕ) → text ≡ other
+pub answered_same : (buffer text other : List ℕ) (written : Result ℕ Refusal) (after : List ℕ) → text ≡ other
     → Answered buffer text written after → Answered buffer other written after
 answered_same buffer text other written after e a = rw e at a

@@ -1,8 +1,9 @@
 -- The listing of CAPCODE lines, to the letter (document 01, "The listing program").
-use Rattle.std.specs.Prelude.{ℕ, ◌/◌, ◌%◌, Bool, ◌&&◌, List, [], ◌∷◌, ◌++◌, leb, eqb}
+use Rattle.std.specs.Prelude.{ℕ, ◌-◌, ◌/◌, ◌%◌, Bool, ◌&&◌, List, [], ◌∷◌, ◌++◌, leb, eqb, length, replicate}
 use Prim.Native.Char.{code}
 use Rattle.laws.specs.Choice.{pick}
 use Rattle.laws.specs.Texts.{bytes_of}
+use Rattle.lister.specs.declared.Padded.{Padded}
 use Rattle.lister.specs.Texts.{header}
 use Rattle.lister.specs.Verdicts.{line_feed, hex_digit, verdict_of}
 
@@ -20,6 +21,10 @@ shown_byte byte =
     pick (eqb byte (code "\\")) (bytes_of "\\\\")
     (pick (printable byte) (byte ∷ [])
     (code "\\" ∷ code "x" ∷ hex_digit (byte / 16) ∷ hex_digit (byte % 16) ∷ []))
+
+-- a byte as it is shown, in four places
+abbrev pub in_four : List ℕ → Padded 4
+in_four text = record { bytes = text ++ replicate (4 - length text) 0; size = length text }
 
 -- a text as the listing shows it
 unfoldable pub shown : List ℕ → List ℕ

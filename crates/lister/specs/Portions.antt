@@ -1,12 +1,10 @@
 -- The listing by portions: what each byte writes, and where the listing then stands.
-use Rattle.std.specs.Prelude.{ℕ, suc, ◌+◌, ◌-◌, ◌≤◌, ◌<◌, Bool, true, false, not, ◌&&◌, ◌≡◌, List, [], ◌∷◌, ◌++◌, leb, eqb, length, take, drop, get_or}
+use Rattle.std.specs.Prelude.{ℕ, suc, ◌+◌, ◌-◌, ◌≤◌, ◌<◌, Bool, true, false, not, ◌&&◌, ◌≡◌, List, [], ◌∷◌, ◌++◌, leb, eqb, length, take, drop, get_or, Option, Some, None}
 use Prim.Native.Char.{code}
 use Rattle.laws.specs.Choice.{pick}
 use Rattle.lister.specs.Stands.{Stand, stand, stand_of, fresh}
 use Rattle.lister.specs.Texts.{Wrote}
 use Rattle.lister.specs.declared.Fed.{Fed}
-use Rattle.lister.specs.declared.feeding.Course.{Course}
-use Rattle.lister.specs.declared.feeding.Line.{Line}
 use Rattle.lister.specs.Verdicts.{line_feed, verdict_of}
 use Rattle.lister.specs.Lines.{carriage_return, printable, shown_byte, shown}
 
@@ -70,43 +68,39 @@ closed_text (b ∷ text) held = held_shown held ++ verdict_of (b ∷ text)
 unfoldable pub closes : Stand → List ℕ
 closes (stand text held) = closed_text (kept (text ++ held_bytes held)) held
 
--- where the listing of a portion stands, with the bytes of the line beside it
-abbrev pub stand_at : List ℕ → Course → Stand
-stand_at line course = stand (take course.count line) course.held
-
--- what one byte more does: to the line, to where the listing of the portion stands, and to the buffer
-pub record FedByte (line : List ℕ) (before : Course) (buffer : List ℕ) (byte : ℕ) (kept : List ℕ) (course : Course) (after : List ℕ) : Type 0 where
-  pub taken : course.taken ≡ before.taken + 1
-  pub stands : stand_at kept course ≡ next (stand_at line before) byte
-  pub wrote : Wrote buffer before.written (writes (stand_at line before) byte) course.written after
+-- what one byte more of a portion does: to where its listing stands, and to the buffer
+pub record FedByte (before : Fed) (buffer : List ℕ) (byte : ℕ) (fed : Fed) (after : List ℕ) : Type 0 where
+  pub taken : fed.taken ≡ before.taken + 1
+  pub stands : stand_of fed.lister ≡ next (stand_of before.lister) byte
+  pub wrote : Wrote buffer before.written (writes (stand_of before.lister) byte) fed.written after
 
 -- the line of a text that is ahead, n bytes long: it begins here, ends with a line feed, and there is room for 15
 -- bytes of text, 23 of its end, and whatever one byte more may write
-pub record Ahead (course : Course) (input : List ℕ) (room n : ℕ) : Type 0 where
-  pub begins : (course.count ≡ 0) × (course.held ≡ false)
+pub record Ahead (before : Fed) (input : List ℕ) (room n : ℕ) : Type 0 where
+  pub begins : (before.lister.count ≡ 0) × (before.lister.held ≡ false)
   pub roomy : 70 ≤ room
-  pub within : course.taken + n < length input
-  pub ends : get_or input (course.taken + n) 0 ≡ line_feed
+  pub within : before.taken + n < length input
+  pub ends : get_or input (before.taken + n) 0 ≡ line_feed
 
 -- a line was written at a place, its text as it is, or nothing was
-abbrev pub LineWritten : List ℕ → ℕ → List ℕ → Line → List ℕ → Type 0
-LineWritten buffer place text (Line.Written end) after = Wrote buffer place (text ++ verdict_of text) end after × (shown text ≡ text)
-LineWritten buffer place text Line.Other after = after ≡ buffer
+abbrev pub LineWritten : List ℕ → ℕ → List ℕ → Option ℕ → List ℕ → Type 0
+LineWritten buffer place text (Some end) after = Wrote buffer place (text ++ verdict_of text) end after × (shown text ≡ text)
+LineWritten buffer place text None after = after ≡ buffer
 
 -- the bytes taken between two places of a portion
-abbrev pub between : Course → Course → List ℕ → List ℕ
-between before course input = take (course.taken - before.taken) (drop before.taken input)
+abbrev pub between : Fed → Fed → List ℕ → List ℕ
+between before fed input = take (fed.taken - before.taken) (drop before.taken input)
 
--- what some bytes more do: to the line, to where the listing of the portion stands, to the buffer, and to how many bytes are taken in all
-pub record FedOn (line : List ℕ) (before : Course) (input buffer kept : List ℕ) (course : Course) (after : List ℕ) : Type 0 where
-  pub some : before.taken < course.taken
-  pub within : course.taken ≤ length input
-  pub fits : course.written ≤ length buffer
-  pub stands : stand_at kept course ≡ next_all (stand_at line before) (between before course input)
-  pub wrote : Wrote buffer before.written (writes_all (stand_at line before) (between before course input)) course.written after
+-- what some bytes more of a portion do: to where its listing stands, to the buffer, and to how many bytes are taken in all
+pub record FedOn (before : Fed) (input buffer : List ℕ) (fed : Fed) (after : List ℕ) : Type 0 where
+  pub some : before.taken < fed.taken
+  pub within : fed.taken ≤ length input
+  pub fits : fed.written ≤ length buffer
+  pub stands : stand_of fed.lister ≡ next_all (stand_of before.lister) (between before fed input)
+  pub wrote : Wrote buffer before.written (writes_all (stand_of before.lister) (between before fed input)) fed.written after
   pub rest :
-      taken_of (stand_at line before) (length buffer - before.written) (drop before.taken input)
-      ≡ course.taken - before.taken + taken_of (stand_at kept course) (length buffer - course.written) (drop course.taken input)
+      taken_of (stand_of before.lister) (length buffer - before.written) (drop before.taken input)
+      ≡ fed.taken - before.taken + taken_of (stand_of fed.lister) (length buffer - fed.written) (drop fed.taken input)
 
 -- what is done with a portion: how much of it is taken, where the listing then stands, and what was written
 pub record FedAll (s : Stand) (input buffer : List ℕ) (n : ℕ) (fed : Fed) (after : List ℕ) : Type 0 where

@@ -1,11 +1,11 @@
 -- The listing's first line, and what is answered when a text is written into a lent buffer.
-use Rattle.std.specs.Prelude.{ℕ, ◌+◌, ◌≡◌, List, [], ◌∷◌, ltb, length}
+use Rattle.std.specs.Prelude.{ℕ, ◌+◌, ◌≡◌, List, [], ◌∷◌, Result, ltb, length}
 use Rattle.laws.specs.Choice.{pick}
 use Rattle.laws.specs.Lists.{put}
 use Rattle.laws.specs.Texts.{bytes_of}
+use Rattle.refusal.specs.declared.Refusal.{Refusal}
 use Rattle.refusal.specs.declared.Refusal.TheVariants.{Room}
-use Rattle.refusal.specs.Told.{Told, refused, given, ask}
-use Rattle.lister.specs.declared.Written.{Written}
+use Rattle.refusal.specs.Told.{Told, told_by, given, ask}
 
 -- the first line
 unfoldable pub header : List ℕ
@@ -20,12 +20,11 @@ abbrev pub buffer_after : List ℕ → List ℕ → List ℕ
 buffer_after buffer text = pick (ltb (length buffer) (length text)) buffer (put buffer 0 text)
 
 -- how it is told
-abbrev pub told_written : Written → Told
-told_written (Written.Length n) = given (n ∷ [])
-told_written (Written.Refused r) = refused r
+abbrev pub told_written : Result ℕ Refusal → Told
+told_written = told_by (λ n. n ∷ [])
 
 -- a text was written at a buffer's start, or refused: what is told, and what the buffer holds
-pub record Answered (buffer text : List ℕ) (written : Written) (after : List ℕ) : Type 0 where
+pub record Answered (buffer text : List ℕ) (written : Result ℕ Refusal) (after : List ℕ) : Type 0 where
   pub tells : told_written written ≡ answer_of buffer text
   pub holds : after ≡ buffer_after buffer text
 

@@ -1,5 +1,5 @@
 -- What the listing shows after a text, to the letter (document 01, "The listing program").
-use Rattle.std.specs.Prelude.{ℕ, ◌+◌, ◌-◌, ◌/◌, ◌%◌, List, [], ◌∷◌, ◌++◌, ltb, eqb, length, replicate, get_or}
+use Rattle.std.specs.Prelude.{ℕ, ◌+◌, ◌-◌, ◌/◌, ◌%◌, List, [], ◌∷◌, ◌++◌, ltb, eqb, length, replicate, take, get_or}
 use Prim.Native.Char.{code}
 use Rattle.laws.specs.Choice.{pick}
 use Rattle.laws.specs.Texts.{bytes_of}
@@ -66,15 +66,21 @@ verdict_by (told n values) = pick (eqb n 0) (accepted_end values) (refused_end n
 unfoldable pub verdict_of : List ℕ → List ℕ
 verdict_of text = verdict_by (read_of text) ++ line_feed ∷ []
 
--- an end in 23 places, which is what the longest has
+-- the end of a refused text in 15 places, which is what the longest has
 abbrev pub padded : List ℕ → List ℕ
-padded end = end ++ replicate (23 - length end) 0
+padded end = end ++ replicate (15 - length end) 0
 
--- what is told of a text, by what it was read as: whether it is accepted, how many bytes stand after it, and which
+-- what is told of a text, by what it was read as: whether it is accepted, and which bytes stand after it
 abbrev pub verdict_as : Told → Verdict
 verdict_as answer =
-    record {
-      is_accepted = eqb (number_told answer) 0;
+    pick (eqb (number_told answer) 0)
+    (Verdict.Accepted (verdict_by answer ++ line_feed ∷ []))
+    (Verdict.Refused (record {
+      bytes = padded (verdict_by answer ++ line_feed ∷ []);
       size = length (verdict_by answer ++ line_feed ∷ []);
-      end = padded (verdict_by answer ++ line_feed ∷ []);
-    }
+    }))
+
+-- the bytes that are told
+abbrev pub stands_after : Verdict → List ℕ
+stands_after (Verdict.Accepted end) = end
+stands_after (Verdict.Refused ending) = take ending.size ending.bytes

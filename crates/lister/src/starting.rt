@@ -4,8 +4,8 @@ ghost use Rattle.std.specs.Prelude.{◌≡◌};
 ghost use Rattle.lister.specs.Stands.{stand_of, fresh};
 ghost use Rattle.lister.specs.Texts.{header, Answered};
 
+use crate::Lister;
 use crate::writing::copy;
-use crate::{Lister, Written};
 use refusal::Refusal;
 
 // Where a listing stands before the first byte, and after each line feed.
@@ -19,12 +19,12 @@ pub fn start() -> Lister
     }
 }
 
-// Writes the listing's first line.
-pub fn title(out: &mut [u8]) -> Written
+// Writes the listing's first line, and gives how many bytes that takes.
+pub fn title(out: &mut [u8]) -> Result<usize, Refusal>
     ensures { Answered out.old header result out.new }
 {
     if out.len() < 42 {
-        return Written::Refused(Refusal::Room);
+        return Err(Refusal::Room);
     }
-    Written::Length(copy(b"ADDRESS FIRST SECOND PHASE FRAME COLLAPSE\n", out, 0))
+    Ok(copy(b"ADDRESS FIRST SECOND PHASE FRAME COLLAPSE\n", out, 0))
 }

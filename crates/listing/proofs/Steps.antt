@@ -1,6 +1,5 @@
 -- The steps of a run, one after the other: what portions read and write together.
-use Rattle.std.proofs.Common.{◌≡◌, ℕ, ◌+◌, ◌-◌, ◌≤◌, ◌<◌, List, [], ◌++◌, length, take, drop, refl, sym, ap, ◌∙◌, arith, length-append, subst, Result, Ok, Err, OnOk, IfOk}
-use lib.Seq.{take-add}
+use Rattle.std.proofs.Common.{◌≡◌, ℕ, ◌+◌, ◌-◌, ◌≤◌, ◌<◌, List, [], ◌∷◌, ◌++◌, length, take, drop, refl, sym, ap, ◌∙◌, arith, length-append, take-append-drop, append_assoc, append-nil, subst, Result, Ok, Err, OnOk}
 use Rattle.std.proofs.lemmas.List.{take_rest}
 use Rattle.std.specs.declared.option.Option.{Option}
 use Rattle.std.specs.Io.KnownBytes.{Appends}
@@ -12,29 +11,53 @@ use Rattle.lister.proofs.Laws.{portions_join, portions_list}
 use Rattle.listing.specs.Runs.{Went, WentOn, Listed}
 
 -- no byte leads nowhere
-pub stands_none : (s : Stand) → s ≡ next_all s []
+stands_none : (s : Stand) → s ≡ next_all s []
 unfolding next_all
 stands_none s = refl
 
 -- and writes nothing
-pub wrote_none : (s : Stand) (held : Option (List ℕ)) → Appends held held (writes_all s [])
+wrote_none : (s : Stand) (held : Option (List ℕ)) → Appends held held (writes_all s [])
 unfolding writes_all
 wrote_none s held = Appends-nil held
 
--- where a part of a portion leads after the part before it
-pub stands_more : (s middle after : Stand) (input : List ℕ) (at more : ℕ)
-    → middle ≡ next_all s (take at input) → after ≡ next_all middle (take more (take (length input - at) (drop at input)))
-    → after ≡ next_all s (take (at + more) input)
-stands_more s middle after input at more before then =
-    rw take-add (rw (portions_join s (take at input) (take more (drop at input))).1 (rw (← before, ← take_rest input at) then))
+-- a portion of which the listing is written but for a rest
+pub record Underway (held holds : Option (List ℕ)) (before now : Stand) (input rest : List ℕ) : Type 0 where
+  pub written : List ℕ
+  pub appends : Appends held holds written
+  pub writes : writes_all before input ≡ written ++ writes_all now rest
+  pub leads : next_all before input ≡ next_all now rest
 
--- what it writes after the part before it
-pub wrote_more : (s middle : Stand) (held between holds : Option (List ℕ)) (input : List ℕ) (at more : ℕ)
-    → middle ≡ next_all s (take at input) → Appends held between (writes_all s (take at input))
-    → Appends between holds (writes_all middle (take more (take (length input - at) (drop at input)))) → Appends held holds (writes_all s (take (at + more) input))
-wrote_more s middle held between holds input at more leads before then =
-    rw take-add (rw (portions_join s (take at input) (take more (drop at input))).0
-    (Appends-trans held between holds _ _ before (rw (← leads, ← take_rest input at) then)))
+-- nothing of it is written
+pub underway_none : (held : Option (List ℕ)) (s : Stand) (input : List ℕ) → Underway held held s s input input
+underway_none held s input = record { written = []; appends = Appends-nil held; writes = refl; leads = refl }
+
+-- a part more of it is written
+pub underway_more : (held between holds : Option (List ℕ)) (before now after : Stand) (input rest : List ℕ) (taken : ℕ)
+    → Underway held between before now input rest
+    → after ≡ next_all now (take taken rest) → Appends between holds (writes_all now (take taken rest))
+    → Underway held holds before after input (take (length rest - taken) (drop taken rest))
+underway_more held between holds before now after input rest taken so_far leads more =
+    let part : List ℕ = take taken rest in
+    let left : List ℕ = drop taken rest in
+    let parts : rest ≡ part ++ left = sym (take-append-drop taken rest) in
+    let joined = portions_join now part left in
+    rw (take_rest rest taken) (record {
+      written = so_far.written ++ writes_all now part;
+      appends = Appends-trans held between holds _ _ so_far.appends more;
+      writes = so_far.writes ∙ ap (λ (l : List ℕ). so_far.written ++ writes_all now l) parts
+          ∙ ap (λ (l : List ℕ). so_far.written ++ l) (joined.0 ∙ ap (λ (s : Stand). writes_all now part ++ writes_all s left) (sym leads))
+          ∙ sym (append_assoc so_far.written (writes_all now part) (writes_all after left));
+      leads = so_far.leads ∙ ap (next_all now) parts ∙ joined.1 ∙ ap (λ (s : Stand). next_all s left) (sym leads);
+    })
+
+-- all of it is written
+pub underway_end : (held holds : Option (List ℕ)) (before now : Stand) (input rest : List ℕ) → Underway held holds before now input rest → length rest ≡ 0
+    → (now ≡ next_all before input) × Appends held holds (writes_all before input)
+unfolding writes_all next_all
+underway_end held holds before now input [] so_far none =
+    let writes : writes_all before input ≡ so_far.written = rw append-nil at so_far.writes in
+    (sym so_far.leads, rw writes so_far.appends)
+underway_end held holds before now input (byte ∷ rest) so_far none = absurd (omega arith)
 
 -- a run that has not begun
 pub went_nowhere : (unread : Option (List ℕ)) (s : Stand) (held : Option (List ℕ)) → Went unread unread s s held held
@@ -68,9 +91,9 @@ went_more unread middle left before between after held keeps holds n one enough 
     (went_then unread middle left before between after held keeps holds one next, omega (arith, length-append one.bytes next.bytes))
 
 -- an input from its first line to its end
-listed_fresh : (unread left : Option (List ℕ)) (after : Stand) (held titled holds closed : Option (List ℕ))
+pub listed_whole : (unread left : Option (List ℕ)) (after : Stand) (held titled holds closed : Option (List ℕ))
     → Appends held titled header → WentOn unread left fresh after titled holds → Appends holds closed (closes after) → Listed unread left held closed
-listed_fresh unread left after held titled holds closed title run close =
+listed_whole unread left after held titled holds closed title run close =
     let bytes = run.went.bytes in
     record {
       bytes = bytes;
@@ -81,20 +104,7 @@ listed_fresh unread left after held titled holds closed title run close =
           (subst (λ (s : Stand). Appends holds closed (closes s)) run.went.stands close));
     }
 
--- the same, where the listing is told to begin afresh
-pub listed_whole : (unread left : Option (List ℕ)) (begun after : Stand) (held titled holds closed : Option (List ℕ))
-    → begun ≡ fresh → Appends held titled header → WentOn unread left begun after titled holds → Appends holds closed (closes after)
-    → Listed unread left held closed
-listed_whole unread left begun after held titled holds closed begins title run close =
-    listed_fresh unread left after held titled holds closed title
-    (subst (λ (s : Stand). WentOn unread left s after titled holds) begins run) close
-
 -- what a call that went well says, and what follows from that
 pub ok_then : {T E : Type 0} {P Q : Type 0} (r : Result T E) → (P → Q) → OnOk r P → OnOk r Q
 ok_then (Ok x) f p = f p
 ok_then (Err e) f p = tt
-
--- what a call that went well says under a condition that holds
-pub ok_given : {T E : Type 0} {P : Type 0} (Q : T → Type 0) (r : Result T E) → P → IfOk r (λ x. P → Q x) → IfOk r Q
-ok_given Q (Ok x) p q = q p
-ok_given Q (Err e) p q = tt

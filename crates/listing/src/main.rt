@@ -3,15 +3,15 @@
 // after it is a line too.
 #![tactic(auto)]
 
-ghost use Rattle.std.specs.Prelude.{◌≡◌, ◌++◌, ◌≤◌, ◌<◌, ℕ, List, length, take, IfOk, OnOk};
+ghost use Rattle.std.specs.Prelude.{◌≡◌, ◌≤◌, ◌<◌, length, take, vec_len, IfOk, OnOk};
 ghost use Rattle.std.specs.Io.KnownBytes.{Appends};
 ghost use Rattle.lister.specs.Stands.{stand_of, fresh};
-ghost use Rattle.lister.specs.Texts.{header, Answered};
+ghost use Rattle.lister.specs.Texts.{header};
 ghost use Rattle.lister.specs.Portions.{writes_all, next_all, closes};
 ghost use Rattle.listing.specs.Runs.{WentOnce, WentOn, Listed};
 
-use anyhow::{Context, Result, bail};
-use lister::{Lister, Written};
+use anyhow::{Context, Result};
+use lister::Lister;
 use std::alloc::Global;
 use std::io::{Read, Write};
 
@@ -21,143 +21,101 @@ const PORTION: usize = 65536;
 // The room for a line that is written by itself.
 const LINE: usize = 4096;
 
-// What became of a part of the input: where the listing stands, and how many bytes were taken.
-#[derive(Clone, Copy)]
-struct Taken {
+// A listing that is under way: where it stands, and the buffer for a part of what is written.
+#[derive(Drop)]
+struct Listing {
     lister: Lister,
-    taken: usize,
+    out: Vec<u8>,
+    ghost room: { 32 ≤ vec_len out },
 }
 
-// Where the listing stands after a read, and whether to read on.
-#[derive(Clone, Copy)]
-struct Turn {
-    lister: Lister,
-    goes_on: bool,
+impl Listing {
+    // Lists as many bytes as the buffer has room for, writes their listing, and gives how many they are.
+    fn list_some<W: Write>(&mut self, input: &[u8], writer: &mut W) -> Result<usize>
+        ensures taken_in_bounds { IfOk result (λ taken. taken ≤ length input.now) }
+        ensures taken_nonzero { IfOk result (λ taken. 0 < length input.now → 0 < taken) }
+        ensures stands { IfOk result (λ taken. stand_of self.new.lister ≡ next_all (stand_of self.old.lister) (take taken input.now)) }
+        ensures wrote { IfOk result (λ taken. Appends (W.contents writer.old) (W.contents writer.new)
+            (writes_all (stand_of self.old.lister) (take taken input.now))) }
+    {
+        let fed = lister::feed(self.lister, input, &mut self.out);
+        write(&self.out[..fed.written], writer)?;
+        self.lister = fed.lister;
+        Ok(fed.taken)
+    }
+
+    // Lists a portion: each turn takes as many bytes as there is room for, which no iterator tells before.
+    fn list_portion<W: Write>(&mut self, input: &[u8], writer: &mut W) -> Result<()>
+        ensures stands { OnOk result (stand_of self.new.lister ≡ next_all (stand_of self.old.lister) input.now) }
+        ensures wrote { OnOk result (Appends (W.contents writer.old) (W.contents writer.new) (writes_all (stand_of self.old.lister) input.now)) }
+    {
+        let mut rest = input;
+        while !rest.is_empty() {
+            let taken = self.list_some(rest, writer)?;
+            rest = &rest[taken..];
+        }
+        Ok(())
+    }
+
+    // Reads a portion and lists it, and says whether to read on. The end of the input is a read of no bytes.
+    fn list_read<R: Read, W: Write>(
+        &mut self,
+        reader: &mut R,
+        input: &mut [u8],
+        writer: &mut W,
+    ) -> Result<bool>
+        ensures { IfOk result (λ goes_on. 0 < length input.old
+            → WentOnce (R.remaining reader.old) (R.remaining reader.new) (stand_of self.old.lister) (stand_of self.new.lister)
+            (W.contents writer.old) (W.contents writer.new) goes_on) }
+    {
+        let n = reader.read(input).context("standard input")?;
+        self.list_portion(&input[..n], writer)?;
+        Ok(0 < n)
+    }
+
+    // Lists all that can be read into a lent buffer. A loop has to end, and nothing says that an input does: the turns are
+    // counted, up to a number that no run reaches.
+    fn list_reads<R: Read, W: Write>(
+        &mut self,
+        reader: &mut R,
+        input: &mut [u8],
+        writer: &mut W,
+    ) -> Result<()>
+        ensures { OnOk result (0 < length input.old
+            → WentOn (R.remaining reader.old) (R.remaining reader.new) (stand_of self.old.lister) (stand_of self.new.lister)
+            (W.contents writer.old) (W.contents writer.new)) }
+    {
+        for _ in 0..u64::MAX {
+            let goes_on = self.list_read(reader, input, writer)?;
+            if !goes_on {
+                return Ok(());
+            }
+        }
+        Ok(())
+    }
 }
 
-// Writes a part of the listing, or says why not.
+// Writes a part of the listing, or says why not. The other programs have such a function of their own: it is one call of the
+// library with a context.
 fn write<W: Write>(text: &[u8], writer: &mut W) -> Result<()>
     ensures { OnOk result (Appends (W.contents writer.old) (W.contents writer.new) text.now) }
 {
     writer.write_all(text).context("standard output")
 }
 
-// Lists as many bytes as the buffer has room for, and writes their listing.
-fn list_some<W: Write>(
-    lister: Lister,
-    input: &[u8],
-    out: &mut [u8],
-    writer: &mut W,
-) -> Result<Taken>
-    requires { 32 ≤ length out.old }
-    ensures taken_in_bounds { IfOk result (λ listed. listed.taken ≤ length input.now) }
-    ensures taken_nonzero { IfOk result (λ listed. 0 < length input.now → 0 < listed.taken) }
-    ensures stands { IfOk result (λ listed. stand_of listed.lister ≡ next_all (stand_of lister) (take listed.taken input.now)) }
-    ensures wrote { IfOk result (λ listed. Appends (W.contents writer.old) (W.contents writer.new)
-        (writes_all (stand_of lister) (take listed.taken input.now))) }
-{
-    let fed = lister::feed(lister, input, out);
-    write(&out[..fed.written], writer)?;
-    Ok(Taken {
-        lister: fed.lister,
-        taken: fed.taken,
-    })
-}
-
-// Lists a portion.
-fn list_portion<W: Write>(
-    lister: Lister,
-    input: &[u8],
-    out: &mut [u8],
-    writer: &mut W,
-) -> Result<Lister>
-    requires { 32 ≤ length out.old }
-    ensures stands { IfOk result (λ after. stand_of after ≡ next_all (stand_of lister) input.now) }
-    ensures wrote { OnOk result (Appends (W.contents writer.old) (W.contents writer.new) (writes_all (stand_of lister) input.now)) }
-{
-    let mut state = lister;
-    let mut at = 0;
-    while at < input.len() {
-        let listed = list_some(state, &input[at..], out, writer)?;
-        state = listed.lister;
-        at += listed.taken;
-    }
-    Ok(state)
-}
-
-// Reads a portion and lists it. The end of the input is a read of no bytes.
-fn list_read<R: Read, W: Write>(
-    lister: Lister,
-    reader: &mut R,
-    input: &mut [u8],
-    out: &mut [u8],
-    writer: &mut W,
-) -> Result<Turn>
-    requires { 32 ≤ length out.old }
-    ensures { IfOk result (λ turn. 0 < length input.old
-        → WentOnce (R.remaining reader.old) (R.remaining reader.new) (stand_of lister) (stand_of turn.lister)
-        (W.contents writer.old) (W.contents writer.new) turn.goes_on) }
-{
-    let n = reader.read(input).context("standard input")?;
-    let lister = list_portion(lister, &input[..n], out, writer)?;
-    Ok(Turn {
-        lister,
-        goes_on: 0 < n,
-    })
-}
-
-// Lists all that can be read into lent buffers. A loop has to end, and nothing says that an input does: the turns are
-// counted, up to a number that no run reaches.
-fn list_reads<R: Read, W: Write>(
-    lister: Lister,
-    reader: &mut R,
-    input: &mut [u8],
-    out: &mut [u8],
-    writer: &mut W,
-) -> Result<Lister>
-    requires { 32 ≤ length out.old }
-    ensures { IfOk result (λ after. 0 < length input.old
-        → WentOn (R.remaining reader.old) (R.remaining reader.new) (stand_of lister) (stand_of after)
-        (W.contents writer.old) (W.contents writer.new)) }
-{
-    let mut state = lister;
-    for _ in 0..u64::MAX {
-        let turn = list_read(state, reader, input, out, writer)?;
-        state = turn.lister;
-        if !turn.goes_on {
-            return Ok(state);
-        }
-    }
-    Ok(state)
-}
-
-// Lists all that can be read. The buffers are made once, so that an input of any length takes the same memory.
-fn list_all<R: Read, W: Write>(
-    alloc: Global,
-    lister: Lister,
-    reader: &mut R,
-    writer: &mut W,
-) -> Result<Lister>
-    ensures { IfOk result (λ after. WentOn (R.remaining reader.old) (R.remaining reader.new) (stand_of lister) (stand_of after)
+// Lists all that can be read, and gives where the listing then stands. The buffers are made once, so that an input of any
+// length takes the same memory.
+fn list_all<R: Read, W: Write>(alloc: Global, reader: &mut R, writer: &mut W) -> Result<Lister>
+    ensures { IfOk result (λ after. WentOn (R.remaining reader.old) (R.remaining reader.new) fresh (stand_of after)
         (W.contents writer.old) (W.contents writer.new)) }
 {
     let mut input = vec![in alloc; 0u8; PORTION]?;
-    let mut out = vec![in alloc; 0u8; PORTION]?;
-    list_reads(lister, reader, &mut input, &mut out, writer)
-}
-
-// Writes what was put at a buffer's start, if it was put there.
-fn write_put<W: Write>(answer: Written, out: &[u8], writer: &mut W) -> Result<()>
-    ensures { (buffer text : List ℕ) → Answered buffer text answer out.now
-        → OnOk result (Appends (W.contents writer.old) (W.contents writer.new) text) }
-{
-    let Written::Length(n) = answer else {
-        bail!("standard output: the buffer is too short");
+    let mut listing = Listing {
+        lister: lister::start(),
+        out: vec![in alloc; 0u8; PORTION]?,
     };
-    if out.len() < n {
-        bail!("standard output: the buffer is too short");
-    }
-    write(&out[..n], writer)
+    listing.list_reads(reader, &mut input, writer)?;
+    Ok(listing.lister)
 }
 
 // Writes the listing's first line.
@@ -165,8 +123,8 @@ fn write_title<W: Write>(writer: &mut W) -> Result<()>
     ensures { OnOk result (Appends (W.contents writer.old) (W.contents writer.new) header) }
 {
     let mut out = [0u8; LINE];
-    let answer = lister::title(&mut out);
-    write_put(answer, &out, writer)
+    let n = lister::title(&mut out).unwrap();
+    write(&out[..n], writer)
 }
 
 // Writes the end of the last line.
@@ -174,8 +132,8 @@ fn write_close<W: Write>(lister: Lister, writer: &mut W) -> Result<()>
     ensures { OnOk result (Appends (W.contents writer.old) (W.contents writer.new) (closes (stand_of lister))) }
 {
     let mut out = [0u8; LINE];
-    let answer = lister::close(lister, &mut out);
-    write_put(answer, &out, writer)
+    let n = lister::close(lister, &mut out).unwrap();
+    write(&out[..n], writer)
 }
 
 // Lists an input from its first byte to its end.
@@ -183,7 +141,7 @@ fn list<R: Read, W: Write>(alloc: Global, reader: &mut R, writer: &mut W) -> Res
     ensures { OnOk result (Listed (R.remaining reader.old) (R.remaining reader.new) (W.contents writer.old) (W.contents writer.new)) }
 {
     write_title(writer)?;
-    let lister = list_all(alloc, lister::start(), reader, writer)?;
+    let lister = list_all(alloc, reader, writer)?;
     write_close(lister, writer)
 }
 

@@ -1,9 +1,10 @@
 -- The mirror of the decoder: its register, and whether it is talking (document 01, "Packets and the handshake"; S8.4.2).
-use Rattle.std.specs.Prelude.{ℕ, ◌^◌, Bool, not, ◌||◌, List, [], ◌∷◌, ltb, eqb}
+use Rattle.std.specs.Prelude.{ℕ, ◌^◌, Bool, not, ◌||◌, List, [], ◌∷◌, ltb, eqb, Result, Ok, Err}
 use Rattle.std.specs.Int.Bits.{bit_xor}
 use Rattle.laws.specs.Choice.{pick, bit_of}
 use Rattle.laws.specs.Layouts.{shows}
 use Rattle.refusal.specs.Told.{number_of, number_unless, kept}
+use Rattle.refusal.specs.declared.Refusal.{Refusal}
 use Rattle.refusal.specs.declared.Refusal.TheVariants.{State}
 use Rattle.refusal.specs.declared.Refusal.TheVariants as refusals
 use Rattle.packet.specs.Names.{id_of, data_of, among, checksum_id, first_special_id, last_special_id}
@@ -58,6 +59,15 @@ sound m = ltb m.register (2 ^ 24)
 -- the answer to packets: after a 2 the mirror is as it was handed in
 abbrev pub answered : Mirror → Mirror → Mirrored
 answered m next = record { number = number_unless State (sound m); mirror = pick (sound m) next m }
+
+-- how what the code answers is told: the mirror, or the refusal's number and the mirror as it was before
+abbrev pub mirrored_as : Mirror → Result Mirror Refusal → Mirrored
+mirrored_as before (Ok m) = record { number = 0; mirror = m }
+mirrored_as before (Err r) = record { number = number_of r; mirror = before }
+
+-- what is told beside the refusal of a reset, which is handed no mirror
+abbrev pub fresh : Mirror
+fresh = record { register = 0; talking = 0 }
 
 -- "Reset: register = the 24 data bits of the part ID, not talking"; 7 for a packet that is no part ID
 abbrev pub reset_by : ℕ → Mirrored

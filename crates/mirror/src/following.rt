@@ -1,9 +1,9 @@
 // The mirror follows the decoder: after one packet, and after a run of them (document 01, "Packets and the
 // handshake"; S8.4.2).
 ghost use Rattle.std.specs.Prelude.{ℕ, ◌≡◌};
-ghost use Rattle.mirror.specs.Handshake.{summed, step_of, run_of, answered};
+ghost use Rattle.mirror.specs.Handshake.{summed, step_of, run_of, answered, mirrored_as};
 
-use crate::{DATA_VALUES, Mirror, Mirrored};
+use crate::{DATA_VALUES, Mirror};
 use packet::Packet;
 use refusal::Refusal;
 
@@ -11,11 +11,10 @@ use refusal::Refusal;
 fn summed(register: u32, bits: u32) -> u32
     ensures { result ≡ summed register bits }
 {
-    let id = bits >> 24;
-    if (Packet::FIRST_SPECIAL <= id) & (id <= Packet::LAST_SPECIAL) {
-        return register;
+    match bits >> 24 {
+        Packet::FIRST_SPECIAL..=Packet::LAST_SPECIAL => register,
+        _ => register ^ (bits % DATA_VALUES),
     }
-    register ^ (bits % DATA_VALUES)
 }
 
 // The register after a packet, whether the decoder talks or not: a checksum is not summed.
@@ -29,7 +28,8 @@ fn register_after(register: u32, bits: u32) -> u32
 }
 
 // Whether the decoder talks after a packet: a checksum wakes a silent one if it holds the register and does nothing to
-// one that talks, any other packet silences it.
+// one that talks, any other packet silences it. `talking` is a number and no bool, as the C interface hands it in: one that
+// is neither 0 nor 1 comes back from a checksum as it was.
 fn talking_after(register: u32, talking: u32, bits: u32) -> u32
     ensures { result ≡ (step_of (record { register = register; talking = talking }) bits).talking }
 {
@@ -42,58 +42,32 @@ fn talking_after(register: u32, talking: u32, bits: u32) -> u32
     (bits % DATA_VALUES == register) as u32
 }
 
-// The mirror after one packet. Here and in a run the register and whether the decoder talks are two numbers: a struct of
-// both would be packed into one register of the machine and taken apart again at every packet.
-pub fn step(mirror: Mirror, packet: Packet) -> Mirrored
-    ensures { result ≡ answered mirror (step_of mirror packet.bits) }
+// The mirror after one packet.
+pub fn step(mirror: Mirror, packet: Packet) -> Result<Mirror, Refusal>
+    ensures { mirrored_as mirror result ≡ answered mirror (step_of mirror packet.bits) }
 {
-    let register = mirror.register;
-    let talking = mirror.talking;
-    if register >= DATA_VALUES {
-        return Mirrored {
-            number: Refusal::State.number(),
-            mirror: Mirror { register, talking },
-        };
-    }
-    let bits = packet.bits;
-    let talking = talking_after(register, talking, bits);
-    let register = register_after(register, bits);
-    Mirrored {
-        number: 0,
-        mirror: Mirror { register, talking },
-    }
+    mirror.check()?;
+    Ok(Mirror {
+        register: register_after(mirror.register, packet.bits),
+        talking: talking_after(mirror.register, mirror.talking, packet.bits),
+    })
 }
 
-// The loop of a run: the register, and whether the decoder talks, packet by packet.
-fn stepped_through(register: u32, talking: u32, packets: &[u32]) -> Mirrored
-    ensures { result ≡ record { number = 0; mirror = run_of (record { register = register; talking = talking }) packets.now } }
+// The mirror after a run of packets. Here the register and whether the decoder talks are two numbers, and the loop is no
+// fold over a mirror: a struct of both would be packed into one register of the machine and taken apart again at every
+// packet.
+#[tactic(auto, unfolding(crate::specs::Handshake::run_of))]
+pub fn run(mirror: Mirror, packets: &[u32]) -> Result<Mirror, Refusal>
+    ensures { mirrored_as mirror result ≡ answered mirror (run_of mirror packets.now) }
 {
-    let mut register = register;
-    let mut talking = talking;
-    let mut i: usize = 0;
-    while i < packets.len() {
-        let bits = packets[i];
-        talking = talking_after(register, talking, bits);
-        register = register_after(register, bits);
-        i += 1;
+    mirror.check()?;
+    let Mirror {
+        mut register,
+        mut talking,
+    } = mirror;
+    for &packet in packets {
+        talking = talking_after(register, talking, packet);
+        register = register_after(register, packet);
     }
-    Mirrored {
-        number: 0,
-        mirror: Mirror { register, talking },
-    }
-}
-
-// The mirror after a run of packets.
-pub fn run(mirror: Mirror, packets: &[u32]) -> Mirrored
-    ensures { result ≡ answered mirror (run_of mirror packets.now) }
-{
-    let register = mirror.register;
-    let talking = mirror.talking;
-    if register >= DATA_VALUES {
-        return Mirrored {
-            number: Refusal::State.number(),
-            mirror: Mirror { register, talking },
-        };
-    }
-    stepped_through(register, talking, packets)
+    Ok(Mirror { register, talking })
 }

@@ -4,16 +4,18 @@ use mathlib.Core.Bool.{Bool, true, false, ◌&&◌, ◌||◌}
 use mathlib.Core.List.{List, [], ◌∷◌, map}
 use mathlib.Core.Path.{◌≡◌, refl, sym, ap, ◌∙◌}
 use native.Mathlib.Omega.{arith}
-use borrow.Author.Tests.{lt-ltb, le-ltb, leb-true, ne_eqb}
+use borrow.Author.Tests.{lt-ltb, le-ltb, leb-true, ltb-true, ne_eqb}
 use lib.Dec.{T, leb, ltb, eqb, eqb→eq}
 use lib.ListN.{length, get_or, length-append, length-replicate, length-map, get_or-replicate, get_or-append, get_or-eq_default}
 use lib.Seq.{get_or-append-add}
 use Rattle.laws.specs.Lists.{place_in, any_of}
-use Rattle.laws.proofs.Searches.{first_most}
 use Rattle.laws.proofs.Counting.{all_below, of_all_below}
-use Rattle.laws.proofs.Rows.{map_at}
+use Rattle.laws.proofs.Rows.{map_at, all_at}
 use Rattle.laws.proofs.Tests.{first_of, second_of}
-use Rattle.numeric.specs.Pages.{Set, standard_set, chinese_set, set_with, spaced}
+use Rattle.laws.specs.Choice.{pick}
+use Rattle.std.specs.Prelude.{Some, None, is_some}
+use Rattle.numeric.specs.Pages.{Set, standard_set, chinese_set, set_with, spaced, in_set}
+use Rattle.numeric.specs.Sets.{code_in}
 
 -- what holds of each set holds of the one that is chosen
 of_either : (holds : Set → Type 0) → holds chinese_set → holds standard_set → (chinese : Bool) → holds (set_with chinese)
@@ -29,20 +31,6 @@ sixteen_of = of_either (λ set. length set ≡ 16) refl refl
 pub space_of : (chinese : Bool) → place_in (set_with chinese) 32 ≡ 12
 unfolding standard_set chinese_set place_in
 space_of = of_either (λ set. place_in set 32 ≡ 12) refl refl
-
--- the digits' codes are their values
-pub digit_character : (chinese : Bool) (code : ℕ) → code < 10 → 48 + code ≡ get_or (set_with chinese) code 0
-unfolding standard_set chinese_set
-digit_character chinese code small =
-    eqb→eq _ _
-    (of_all_below (λ n. eqb (48 + n) (get_or (set_with chinese) n 0)) 10
-    (of_either (λ set. T (all_below (λ n. eqb (48 + n) (get_or set n 0)) 10)) tt tt chinese) code small)
-
--- a code over 15 is of no character
-pub no_character : (chinese : Bool) (code : ℕ) → 15 < code → 0 ≡ get_or (set_with chinese) code 0
-no_character chinese code large =
-    let past : length (set_with chinese) ≤ code = omega (arith, sixteen_of chinese) in
-    sym (get_or-eq_default (set_with chinese) 0 past)
 
 -- the code of a digit is its byte less that of 0
 pub digit_code : (chinese : Bool) (n : ℕ) → 48 ≤ n → n < 58 → n - 48 ≡ place_in (set_with chinese) n
@@ -63,15 +51,6 @@ unlike_none : (n : ℕ) (row : List ℕ) → Unlike n row → any_of (eqb n) row
 unfolding any_of
 unlike_none n [] none = refl
 unlike_none n (k ∷ row) (none, other) = rw (ne_eqb n k other, unlike_none n row none)
-
--- a code that is no digit's and none of the others is that of the space
-pub space_left : (code : ℕ) → 10 ≤ code → code < 16 → Unlike code (15 ∷ 14 ∷ 13 ∷ 11 ∷ 10 ∷ []) → code ≡ 12
-space_left code large small (((((_, ten), eleven), thirteen), fourteen), fifteen) =
-    let over-ten : 11 ≤ code = omega (arith, large, ten) in
-    let over-eleven : 12 ≤ code = omega (arith, over-ten, eleven) in
-    let below-fifteen : code < 15 = omega (arith, small, fifteen) in
-    let below-fourteen : code < 14 = omega (arith, below-fifteen, fourteen) in
-    omega (arith, over-eleven, below-fourteen, thirteen)
 
 -- whether a byte is a digit
 abbrev is_digit : ℕ → Bool
@@ -102,20 +81,35 @@ pub no_standard : (n : ℕ) → n < 256 → is_digit n ≡ false → Unlike n (9
 unfolding standard_set place_in any_of
 no_standard = no_place standard_set (91 ∷ 93 ∷ 45 ∷ 85 ∷ 63 ∷ 32 ∷ []) tt
 
--- a code is at most 16
-pub code_most : (chinese : Bool) (n : ℕ) → place_in (set_with chinese) n ≤ 16
-unfolding place_in
-code_most chinese n = omega (arith, first_most (eqb n) (set_with chinese), sixteen_of chinese)
+-- a place below 16 is a code of the set
+pub code_found : (chinese : Bool) (n code : ℕ) → code ≡ place_in (set_with chinese) n → code < 16 → Some code ≡ code_in (set_with chinese) n
+code_found chinese n code is small = rw (← is, sixteen_of chinese, lt-ltb code 16 small)
 
--- a code below 16 is in the set
-pub in_place : (chinese : Bool) (n code : ℕ) → code ≡ place_in (set_with chinese) n → code ≤ 15
-    → ltb (place_in (set_with chinese) n) (length (set_with chinese)) ≡ true
-in_place chinese n code is small = rw (← is, sixteen_of chinese) (lt-ltb code 16 (omega arith))
+-- the place 16 is of no character of the set
+pub no_code : (chinese : Bool) (n : ℕ) → 16 ≡ place_in (set_with chinese) n → None ≡ code_in (set_with chinese) n
+no_code chinese n past = rw (← past, sixteen_of chinese)
 
--- the code 16 is of no character of the set
-pub in_no_place : (chinese : Bool) (n code : ℕ) → code ≡ place_in (set_with chinese) n → 15 < code
-    → ltb (place_in (set_with chinese) n) (length (set_with chinese)) ≡ false
-in_no_place chinese n code is large = rw (← is, sixteen_of chinese) (le-ltb code 16 large)
+-- a set has a code for a character exactly if it has a place for it
+pub has_code : (set : Set) (c : ℕ) → is_some (code_in set c) ≡ ltb (place_in set c) (length set)
+has_code set c = by_test (ltb (place_in set c) (length set))
+  where
+    by_test : (good : Bool) → is_some (pick good (Some (place_in set c)) None) ≡ good
+    by_test true = refl
+    by_test false = refl
+
+-- each character of a text of the set has a code
+pub text_has : (set : Set) (text : List ℕ) (i : ℕ) → in_set set text ≡ true → i < length text
+    → code_in set (get_or text i 0) ≡ Some (place_in set (get_or text i 0))
+unfolding in_set
+text_has set text i known within = rw (all_at (λ c. ltb (place_in set c) (length set)) text i known within)
+
+-- a code below 16
+pub text_small : (chinese : Bool) (text : List ℕ) (i : ℕ) → in_set (set_with chinese) text ≡ true → i < length text
+    → place_in (set_with chinese) (get_or text i 0) < 16
+unfolding in_set
+text_small chinese text i known within =
+    let set = set_with chinese in
+    omega (arith, sixteen_of chinese, ltb-true (place_in set (get_or text i 0)) (length set) (all_at (λ c. ltb (place_in set c) (length set)) text i known within))
 
 module _ (set : Set) (text : List ℕ) (room i : ℕ) where
   -- a text and its spaces have the room's length

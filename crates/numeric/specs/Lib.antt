@@ -1,3 +1,4 @@
 pub mod Answers
 pub mod Pages
+pub mod Sets
 pub mod WritingPieces

@@ -6,7 +6,14 @@
 // where. What 02, item 6 asks of the two sets and of the spaces at the end is in proofs/Choices.
 #![tactic(auto)]
 
-// What writing and reading share: the choice of set, the head of a page, and its room.
+ghost use Rattle.std.specs.Prelude.{◌≡◌};
+ghost use Rattle.refusal.specs.Told.{told_by};
+ghost use Rattle.numeric.specs.Answers.{written_values, as_written, read_values, as_read};
+
+// The two sets of characters.
+mod sets;
+
+// What stands before the characters of a page, and how many there is room for.
 mod page;
 
 // A text as the message words of a page, with its K.
@@ -16,37 +23,43 @@ mod writing;
 mod reading;
 
 pub use reading::{character_of, read};
+use refusal::Refusal;
+pub use sets::CharacterSet;
 pub use writing::write;
 
 // 01: "w words (1 to 8)".
 pub const MOST_WORDS: usize = 8;
 
-// The characters that the codes of a page stand for: one of the two columns of Table 39. Nothing in a page says by which
-// its sender wrote it, so a pager is set to it.
-#[derive(Clone, Copy)]
-pub struct CharacterSet {}
-
-impl CharacterSet {
-    // Table 39 with the option off: digits, `?` for the spare code, `U`, space, `-`, `]`, `[`.
-    pub const STANDARD: u32 = 0;
-
-    // Table 39 with the option of the People's Republic of China on: A to E for `?`, `U`, `-`, `]`, `[`.
-    pub const CHINESE: u32 = 1;
-}
+// Flags as numbers: the C interface hands them in and out as they are.
 
 // What the head of a numbered page says: N, the message number, 0 to 63; R, whether the pager expects its
 // messages to be numbered; S, whether a special format shows it. All 0 with the other kinds.
 #[repr(C)]
-#[derive(Clone, Copy)]
+#[derive(Clone, Copy, Debug, Default, PartialEq, Eq)]
 pub struct Numbering {
     pub message_number: u32,
     pub retrieval: u32,
     pub special_format: u32,
 }
 
+// What was written of a page: K for its vector, and how many words.
+#[derive(Clone, Copy, Debug, Default, PartialEq, Eq)]
+pub struct PageWords {
+    pub check: u32,
+    pub words: usize,
+}
+
+// What was read of a page: what its head says, how many characters it has, and how many of them are spaces at its end.
+#[derive(Clone, Copy, Debug, Default, PartialEq, Eq)]
+pub struct PageText {
+    pub numbering: Numbering,
+    pub characters: usize,
+    pub spaces_at_end: usize,
+}
+
 // A page written: K for its vector, and how many words. Both are 0 after a refusal.
 #[repr(C)]
-#[derive(Clone, Copy)]
+#[derive(Clone, Copy, Debug, PartialEq, Eq)]
 pub struct Written {
     pub number: u32,
     pub check: u32,
@@ -56,10 +69,45 @@ pub struct Written {
 // A page read: what its head says, how many characters it has, and how many of them are spaces at its end. All are 0 after
 // a refusal.
 #[repr(C)]
-#[derive(Clone, Copy)]
+#[derive(Clone, Copy, Debug, PartialEq, Eq)]
 pub struct PageRead {
     pub number: u32,
     pub numbering: Numbering,
     pub characters: usize,
     pub spaces_at_end: usize,
+}
+
+// The C interface has the number beside the values.
+impl From<Result<PageWords, Refusal>> for Written {
+    ghost from_gives = { λ answer written. written ≡ as_written (told_by written_values answer) };
+
+    fn from(answer: Result<PageWords, Refusal>) -> Written {
+        let (number, page) = match answer {
+            Ok(page) => (0, page),
+            Err(refusal) => (refusal.number(), PageWords::default()),
+        };
+        Written {
+            number,
+            check: page.check,
+            words: page.words,
+        }
+    }
+}
+
+// As for `Written`.
+impl From<Result<PageText, Refusal>> for PageRead {
+    ghost from_gives = { λ answer read. read ≡ as_read (told_by read_values answer) };
+
+    fn from(answer: Result<PageText, Refusal>) -> PageRead {
+        let (number, page) = match answer {
+            Ok(page) => (0, page),
+            Err(refusal) => (refusal.number(), PageText::default()),
+        };
+        PageRead {
+            number,
+            numbering: page.numbering,
+            characters: page.characters,
+            spaces_at_end: page.spaces_at_end,
+        }
+    }
 }

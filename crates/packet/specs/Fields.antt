@@ -1,10 +1,9 @@
 -- The fields of each packet that is both built and read, as numbers in its table's order; and what building one answers.
-use Rattle.std.specs.Prelude.{ℕ, List, [], ◌∷◌, get_or}
+use Rattle.std.specs.Prelude.{ℕ, Bool, List, [], ◌∷◌, get_or}
 use Rattle.laws.specs.Layouts.{Layout, fields_of, shows, fit, packed}
 use Rattle.refusal.specs.Told.{number_unless, kept}
 use Rattle.refusal.specs.declared.Refusal.TheVariants as refusals
 use Rattle.packet.specs.declared.Built.{Built}
-use Rattle.packet.specs.declared.Draft.{Draft}
 use Rattle.packet.specs.declared.Checksum.{Checksum}
 use Rattle.packet.specs.declared.Configuration.{Configuration}
 use Rattle.packet.specs.declared.Control.{Control}
@@ -16,17 +15,13 @@ use Rattle.packet.specs.declared.UserAddress.{UserAddress}
 use Rattle.packet.specs.declared.AddressEnable.{AddressEnable}
 use Rattle.packet.specs.declared.PartId.{PartId}
 
--- whether the fields fit, and the packet that they make
-abbrev pub draft_by : Layout → List ℕ → Draft
-draft_by row values = record { fits = fit row values; bits = packed row values }
-
 -- 01's table, 7, "a field too large"; else the packet
-unfoldable pub built_of : Draft → Built
-built_of draft = record { number = number_unless refusals.Packet draft.fits; packet = record { bits = kept draft.fits draft.bits } }
+unfoldable pub built_of : Bool → ℕ → Built
+built_of fits bits = record { number = number_unless refusals.Packet fits; packet = record { bits = kept fits bits } }
 
 -- a packet as its table lays it out
 abbrev pub built_by : Layout → List ℕ → Built
-built_by row values = built_of (draft_by row values)
+built_by row values = built_of (fit row values) (packed row values)
 
 -- 01's table, 7: "not of that kind" or "a 0 bit set", so a bit that the packet's table prints is another
 abbrev pub number_by : Layout → ℕ → ℕ

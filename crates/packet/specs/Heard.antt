@@ -1,9 +1,11 @@
 -- Reading what the decoder sends (document 01, "Packets and the handshake"; S8.4.5, S8.4.9, S8.7).
-use Rattle.std.specs.Prelude.{ℕ, ◌+◌, ◌*◌, ◌/◌, ◌%◌, Bool, ◌&&◌, ◌||◌, List, leb, eqb, get_or}
+use Rattle.std.specs.Prelude.{ℕ, ◌+◌, ◌*◌, ◌/◌, ◌%◌, Bool, ◌&&◌, ◌||◌, List, leb, eqb, get_or, Result, Err}
 use Rattle.laws.specs.Choice.{pick}
 use Rattle.laws.specs.Layouts.{shows, fields_of}
 use Rattle.refusal.specs.Told.{number_of, number_unless, kept}
 use Rattle.refusal.specs.declared.Refusal.TheVariants as refusals
+use Rattle.refusal.specs.declared.Refusal.{Refusal}
+use Rattle.packet.specs.Reading.{unless}
 use Rattle.packet.specs.Names.{id_of, among, first_message_id, last_word_id}
 use Rattle.packet.specs.Tables.{part_id}
 use Rattle.packet.specs.Fields.{number_by, fields_by, as_part_id}
@@ -71,6 +73,10 @@ address_numbered n = is_index (get_or (fields_of address n) 3 0)
 -- 01's table: 7, then 8 for an index that is no address number
 abbrev pub address_refusal : Bool → Bool → ℕ
 address_refusal right numbered = pick right (number_unless refusals.Address numbered) (number_of refusals.Packet)
+
+-- the same as the reader asks it
+abbrev pub address_judged : ℕ → Result (Unit {0}) Refusal
+address_judged n = pick (address_right n) (unless refusals.Address (address_numbered n)) (Err refusals.Packet)
 
 -- the answer: the fields are told where neither is refused
 abbrev pub address_read : ℕ → AddressRead

@@ -2,8 +2,10 @@ pub mod Fields
 pub mod Heard
 pub mod HeardTables
 pub mod Names
+pub mod Reading
 pub mod Rule
 pub mod Sent
 pub mod Tables
+pub mod Tells
 pub mod VectorTables
 pub mod Vectors

@@ -1,20 +1,24 @@
 // What the host sends, read back into its fields (document 01, "Packets and the handshake"): checksum, configuration,
 // control and all frame mode (S8.4, S8.8), receiver lines and shut-down (S8.5), frames and user addresses (S8.6). A packet
 // whose ID is another's, or that has a bit set which its table prints as 0, is refused (7), and its fields read 0.
-ghost use Rattle.std.specs.Prelude.{◌≡◌};
-ghost use Rattle.packet.specs.Sent.{checksum_read, all_frame_mode_read, configuration_read, control_read};
-ghost use Rattle.packet.specs.Sent.{frame_assignment_read, user_address_read, address_enable_read, receiver_lines_read};
-ghost use Rattle.packet.specs.Sent.{shut_down_read};
+//
+// The structs with a number beside the fields differ only in a type and are not one generic struct: the C interface takes none.
+ghost use Rattle.std.specs.Prelude.{refl};
+ghost use Rattle.laws.specs.Layouts.{mask_of, is_printed, printed_bits};
+ghost use Rattle.packet.specs.Tables.{checksum, configuration, control, all_frame_mode, receiver_lines, shut_down};
+ghost use Rattle.packet.specs.Tables.{frame_assignment, user_address, address_enable};
+ghost use Rattle.packet.specs.Fields.{as_checksum, as_configuration, as_control, as_all_frame_mode, as_receiver_lines};
+ghost use Rattle.packet.specs.Fields.{as_shut_down, as_frame_assignment, as_user_address, as_address_enable};
 
+use crate::tables::Table;
 use crate::{
     AddressEnable, AllFrameMode, Checksum, Configuration, Control, FrameAssignment, Packet,
     ReceiverLines, ShutDown, UserAddress,
 };
-use refusal::{Refusal, kept};
 
 // The fields of a checksum packet (Table 9), or its refusal.
 #[repr(C)]
-#[derive(Clone, Copy)]
+#[derive(Clone, Copy, Debug, PartialEq, Eq)]
 pub struct ChecksumRead {
     pub number: u32,
     pub fields: Checksum,
@@ -22,7 +26,7 @@ pub struct ChecksumRead {
 
 // The fields of a configuration packet (Table 5), or its refusal.
 #[repr(C)]
-#[derive(Clone, Copy)]
+#[derive(Clone, Copy, Debug, PartialEq, Eq)]
 pub struct ConfigurationRead {
     pub number: u32,
     pub fields: Configuration,
@@ -30,7 +34,7 @@ pub struct ConfigurationRead {
 
 // The fields of a control packet (Table 11), or its refusal.
 #[repr(C)]
-#[derive(Clone, Copy)]
+#[derive(Clone, Copy, Debug, PartialEq, Eq)]
 pub struct ControlRead {
     pub number: u32,
     pub fields: Control,
@@ -38,7 +42,7 @@ pub struct ControlRead {
 
 // The fields of an all frame mode packet (Table 56), or its refusal.
 #[repr(C)]
-#[derive(Clone, Copy)]
+#[derive(Clone, Copy, Debug, PartialEq, Eq)]
 pub struct AllFrameModeRead {
     pub number: u32,
     pub fields: AllFrameMode,
@@ -46,7 +50,7 @@ pub struct AllFrameModeRead {
 
 // The fields of a receiver line control packet (Table 19), or its refusal.
 #[repr(C)]
-#[derive(Clone, Copy)]
+#[derive(Clone, Copy, Debug, PartialEq, Eq)]
 pub struct ReceiverLinesRead {
     pub number: u32,
     pub fields: ReceiverLines,
@@ -54,7 +58,7 @@ pub struct ReceiverLinesRead {
 
 // The fields of a receiver shut-down packet (Table 21), or its refusal.
 #[repr(C)]
-#[derive(Clone, Copy)]
+#[derive(Clone, Copy, Debug, PartialEq, Eq)]
 pub struct ShutDownRead {
     pub number: u32,
     pub fields: ShutDown,
@@ -62,7 +66,7 @@ pub struct ShutDownRead {
 
 // The fields of a frame assignment packet (Table 29), or its refusal.
 #[repr(C)]
-#[derive(Clone, Copy)]
+#[derive(Clone, Copy, Debug, PartialEq, Eq)]
 pub struct FrameAssignmentRead {
     pub number: u32,
     pub fields: FrameAssignment,
@@ -70,7 +74,7 @@ pub struct FrameAssignmentRead {
 
 // The fields of a user address assignment packet (Table 26), or its refusal.
 #[repr(C)]
-#[derive(Clone, Copy)]
+#[derive(Clone, Copy, Debug, PartialEq, Eq)]
 pub struct UserAddressRead {
     pub number: u32,
     pub fields: UserAddress,
@@ -78,74 +82,76 @@ pub struct UserAddressRead {
 
 // The fields of the user address enable packet (Table 27), or its refusal.
 #[repr(C)]
-#[derive(Clone, Copy)]
+#[derive(Clone, Copy, Debug, PartialEq, Eq)]
 pub struct AddressEnableRead {
     pub number: u32,
     pub fields: AddressEnable,
 }
 
-// The bits that the table of each packet prints, its ID and every 0: the table as a mask. Those of what the decoder sends
-// are in `heard`.
-pub const CHECKSUM_PRINTED: u32 = 0xFF00_0000; // Table 9
+// The checksum packet (Table 9).
+impl Table for Checksum {
+    ghost layout = { checksum };
 
-pub const CONFIGURATION_PRINTED: u32 = 0xFFFC_FC07; // Table 5
+    ghost fields = { as_checksum };
 
-pub const CONTROL_PRINTED: u32 = 0xFF00_8FAE; // Table 11
+    const MASK: u32 = 0xFF00_0000; // Table 9
 
-pub const ALL_FRAME_MODE_PRINTED: u32 = 0xFF3F_0000; // Table 56
+    ghost MASK = { mask_of is_printed checksum };
 
-pub const RECEIVER_LINES_PRINTED: u32 = 0xFFFF_0000; // Table 19
+    const PRINTED: u32 = Packet::CHECKSUM << 24;
 
-pub const SHUT_DOWN_PRINTED: u32 = 0xFE77_00C0; // Table 21
+    ghost PRINTED = { printed_bits checksum };
 
-pub const FRAME_ASSIGNMENT_PRINTED: u32 = 0xF8FF_0000; // Table 29
-
-pub const USER_ADDRESS_PRINTED: u32 = 0xF080_0000; // Table 26
-
-pub const ADDRESS_ENABLE_PRINTED: u32 = 0xFFFF_0000; // Table 27
-
-// Reads a checksum packet (Table 9).
-pub fn read_checksum(packet: Packet) -> ChecksumRead
-    ensures { result ≡ checksum_read packet.bits }
-{
-    let bits = packet.bits;
-    let good = bits & CHECKSUM_PRINTED == Packet::CHECKSUM << 24;
-    let bits = kept(good, bits);
-    ChecksumRead {
-        number: Refusal::Packet.unless(good),
-        fields: Checksum {
+    fn laid_out(bits: u32) -> Checksum {
+        Checksum {
             value: bits % 0x100_0000,
-        },
+        }
     }
+
+    ghost shown = { λ _. refl };
 }
 
-// Reads an all frame mode packet (Table 56).
-pub fn read_all_frame_mode(packet: Packet) -> AllFrameModeRead
-    ensures { result ≡ all_frame_mode_read packet.bits }
-{
-    let bits = packet.bits;
-    let good = bits & ALL_FRAME_MODE_PRINTED == Packet::ALL_FRAME_MODE << 24;
-    let bits = kept(good, bits);
-    AllFrameModeRead {
-        number: Refusal::Packet.unless(good),
-        fields: AllFrameMode {
+// The all frame mode packet (Table 56).
+impl Table for AllFrameMode {
+    ghost layout = { all_frame_mode };
+
+    ghost fields = { as_all_frame_mode };
+
+    const MASK: u32 = 0xFF3F_0000; // Table 56
+
+    ghost MASK = { mask_of is_printed all_frame_mode };
+
+    const PRINTED: u32 = Packet::ALL_FRAME_MODE << 24;
+
+    ghost PRINTED = { printed_bits all_frame_mode };
+
+    fn laid_out(bits: u32) -> AllFrameMode {
+        AllFrameMode {
             decrement: (bits >> 23) % 2,
             force: (bits >> 22) % 2,
             decrement_temporary: bits % 0x1_0000,
-        },
+        }
     }
+
+    ghost shown = { λ _. refl };
 }
 
-// Reads a configuration packet (Table 5).
-pub fn read_configuration(packet: Packet) -> ConfigurationRead
-    ensures { result ≡ configuration_read packet.bits }
-{
-    let bits = packet.bits;
-    let good = bits & CONFIGURATION_PRINTED == Packet::CONFIGURATION << 24;
-    let bits = kept(good, bits);
-    ConfigurationRead {
-        number: Refusal::Packet.unless(good),
-        fields: Configuration {
+// The configuration packet (Table 5).
+impl Table for Configuration {
+    ghost layout = { configuration };
+
+    ghost fields = { as_configuration };
+
+    const MASK: u32 = 0xFFFC_FC07; // Table 5
+
+    ghost MASK = { mask_of is_printed configuration };
+
+    const PRINTED: u32 = Packet::CONFIGURATION << 24;
+
+    ghost PRINTED = { printed_bits configuration };
+
+    fn laid_out(bits: u32) -> Configuration {
+        Configuration {
             oscillator: (bits >> 16) % 4,
             polarity: (bits >> 8) % 4,
             synchronous_mode: (bits >> 7) % 2,
@@ -153,110 +159,160 @@ pub fn read_configuration(packet: Packet) -> ConfigurationRead
             clock_output_disable: (bits >> 5) % 2,
             minute_timer: (bits >> 4) % 2,
             low_battery_polarity: (bits >> 3) % 2,
-        },
+        }
     }
+
+    ghost shown = { λ _. refl };
 }
 
-// Reads a control packet (Table 11).
-pub fn read_control(packet: Packet) -> ControlRead
-    ensures { result ≡ control_read packet.bits }
-{
-    let bits = packet.bits;
-    let good = bits & CONTROL_PRINTED == Packet::CONTROL << 24;
-    let bits = kept(good, bits);
-    ControlRead {
-        number: Refusal::Packet.unless(good),
-        fields: Control {
+// The control packet (Table 11).
+impl Table for Control {
+    ghost layout = { control };
+
+    ghost fields = { as_control };
+
+    const MASK: u32 = 0xFF00_8FAE; // Table 11
+
+    ghost MASK = { mask_of is_printed control };
+
+    const PRINTED: u32 = Packet::CONTROL << 24;
+
+    ghost PRINTED = { printed_bits control };
+
+    fn laid_out(bits: u32) -> Control {
+        Control {
             forced_frames: (bits >> 16) % 0x100,
             single_phase: (bits >> 14) % 2,
             phase: (bits >> 12) % 4,
             block_information: (bits >> 6) % 2,
             minute_timer_clear: (bits >> 4) % 2,
             on: bits % 2,
-        },
+        }
     }
+
+    ghost shown = { λ _. refl };
 }
 
-// Reads a frame assignment packet (Table 29).
-pub fn read_frame_assignment(packet: Packet) -> FrameAssignmentRead
-    ensures { result ≡ frame_assignment_read packet.bits }
-{
-    let bits = packet.bits;
-    let good = bits & FRAME_ASSIGNMENT_PRINTED == Packet::FIRST_FRAMES << 24;
-    let bits = kept(good, bits);
-    FrameAssignmentRead {
-        number: Refusal::Packet.unless(good),
-        fields: FrameAssignment {
+// The frame assignment packets (Table 29).
+impl Table for FrameAssignment {
+    ghost layout = { frame_assignment };
+
+    ghost fields = { as_frame_assignment };
+
+    const MASK: u32 = 0xF8FF_0000; // Table 29
+
+    ghost MASK = { mask_of is_printed frame_assignment };
+
+    const PRINTED: u32 = Packet::FIRST_FRAMES << 24;
+
+    ghost PRINTED = { printed_bits frame_assignment };
+
+    fn laid_out(bits: u32) -> FrameAssignment {
+        FrameAssignment {
             range: (bits >> 24) % 8,
             frames: bits % 0x1_0000,
-        },
+        }
     }
+
+    ghost shown = { λ _. refl };
 }
 
-// Reads a user address assignment packet (Table 26).
-pub fn read_user_address(packet: Packet) -> UserAddressRead
-    ensures { result ≡ user_address_read packet.bits }
-{
-    let bits = packet.bits;
-    let good = bits & USER_ADDRESS_PRINTED == Packet::FIRST_USER_ADDRESS << 24;
-    let bits = kept(good, bits);
-    UserAddressRead {
-        number: Refusal::Packet.unless(good),
-        fields: UserAddress {
+// The user address assignment packets (Table 26).
+impl Table for UserAddress {
+    ghost layout = { user_address };
+
+    ghost fields = { as_user_address };
+
+    const MASK: u32 = 0xF080_0000; // Table 26
+
+    ghost MASK = { mask_of is_printed user_address };
+
+    const PRINTED: u32 = Packet::FIRST_USER_ADDRESS << 24;
+
+    ghost PRINTED = { printed_bits user_address };
+
+    fn laid_out(bits: u32) -> UserAddress {
+        UserAddress {
             location: (bits >> 24) % 0x10,
             long_address: (bits >> 22) % 2,
             tone_only: (bits >> 21) % 2,
             word: bits % 0x20_0000,
-        },
+        }
     }
+
+    ghost shown = { λ _. refl };
 }
 
-// Reads the user address enable packet (Table 27).
-pub fn read_address_enable(packet: Packet) -> AddressEnableRead
-    ensures { result ≡ address_enable_read packet.bits }
-{
-    let bits = packet.bits;
-    let good = bits & ADDRESS_ENABLE_PRINTED == Packet::ADDRESS_ENABLE << 24;
-    let bits = kept(good, bits);
-    AddressEnableRead {
-        number: Refusal::Packet.unless(good),
-        fields: AddressEnable {
+// The user address enable packet (Table 27).
+impl Table for AddressEnable {
+    ghost layout = { address_enable };
+
+    ghost fields = { as_address_enable };
+
+    const MASK: u32 = 0xFFFF_0000; // Table 27
+
+    ghost MASK = { mask_of is_printed address_enable };
+
+    const PRINTED: u32 = Packet::ADDRESS_ENABLE << 24;
+
+    ghost PRINTED = { printed_bits address_enable };
+
+    fn laid_out(bits: u32) -> AddressEnable {
+        AddressEnable {
             enabled: bits % 0x1_0000,
-        },
+        }
     }
+
+    ghost shown = { λ _. refl };
 }
 
-// Reads a receiver line control packet (Table 19).
-pub fn read_receiver_lines(packet: Packet) -> ReceiverLinesRead
-    ensures { result ≡ receiver_lines_read packet.bits }
-{
-    let bits = packet.bits;
-    let good = bits & RECEIVER_LINES_PRINTED == Packet::RECEIVER_LINES << 24;
-    let bits = kept(good, bits);
-    ReceiverLinesRead {
-        number: Refusal::Packet.unless(good),
-        fields: ReceiverLines {
+// The receiver line control packet (Table 19).
+impl Table for ReceiverLines {
+    ghost layout = { receiver_lines };
+
+    ghost fields = { as_receiver_lines };
+
+    const MASK: u32 = 0xFFFF_0000; // Table 19
+
+    ghost MASK = { mask_of is_printed receiver_lines };
+
+    const PRINTED: u32 = Packet::RECEIVER_LINES << 24;
+
+    ghost PRINTED = { printed_bits receiver_lines };
+
+    fn laid_out(bits: u32) -> ReceiverLines {
+        ReceiverLines {
             forced: (bits >> 8) % 0x100,
             settings: bits % 0x100,
-        },
+        }
     }
+
+    ghost shown = { λ _. refl };
 }
 
-// Reads a receiver shut-down packet (Table 21).
-pub fn read_shut_down(packet: Packet) -> ShutDownRead
-    ensures { result ≡ shut_down_read packet.bits }
-{
-    let bits = packet.bits;
-    let good = bits & SHUT_DOWN_PRINTED == Packet::SHUT_DOWN_1 << 24;
-    let bits = kept(good, bits);
-    ShutDownRead {
-        number: Refusal::Packet.unless(good),
-        fields: ShutDown {
+// The receiver shut-down packets (Table 21).
+impl Table for ShutDown {
+    ghost layout = { shut_down };
+
+    ghost fields = { as_shut_down };
+
+    const MASK: u32 = 0xFE77_00C0; // Table 21
+
+    ghost MASK = { mask_of is_printed shut_down };
+
+    const PRINTED: u32 = Packet::SHUT_DOWN_1 << 24;
+
+    ghost PRINTED = { printed_bits shut_down };
+
+    fn laid_out(bits: u32) -> ShutDown {
+        ShutDown {
             setting: (bits >> 24) % 2,
             enable: (bits >> 23) % 2,
             low_battery_check: (bits >> 19) % 2,
             lines: (bits >> 8) % 0x100,
             time: bits % 0x40,
-        },
+        }
     }
+
+    ghost shown = { λ _. refl };
 }

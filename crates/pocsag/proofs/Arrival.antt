@@ -16,7 +16,7 @@ use Rattle.laws.proofs.Counting.{of_all_below}
 use Rattle.laws.proofs.Tests.{first_of, second_of}
 use Rattle.laws.proofs.Writing.{put_nothing, put_next, length_put, put_there}
 use Rattle.refusal.specs.Told.{given, number_told, value_told}
-use Rattle.pocsag.specs.declared.Mended.{Mended}
+use Rattle.pocsag.specs.Mending.{MendedTold}
 use Rattle.pocsag.specs.declared.Meaning.{Meaning}
 use Rattle.pocsag.specs.declared.Meaning.TheVariants as means
 use Rattle.pocsag.specs.declared.PocsagReader.{PocsagReader}
@@ -58,15 +58,15 @@ run_word r lent word words =
     by_end false here later = refl
 
 -- the same, where it is known what the word was mended to and what it means
-run_meant : (r : PocsagReader) (lent : List ℕ) (word : ℕ) (words : List ℕ) (m : Mended) (meaning : Meaning)
+run_meant : (r : PocsagReader) (lent : List ℕ) (word : ℕ) (words : List ℕ) (m : MendedTold) (meaning : Meaning)
     → as_mended (mended_of word) ≡ m → meaning_of r.left m ≡ meaning
     → pages_in r lent (word ∷ words) ≡ ended_at r lent meaning ++ pages_in (reader_after (length lent) m.bits r meaning) (lent_after r meaning lent) words
 run_meant r lent word words m meaning is means =
     run_word r lent word words
-    ∙ ap (λ (k : Mended). ran k (meaning_of r.left k)) is
+    ∙ ap (λ (k : MendedTold). ran k (meaning_of r.left k)) is
     ∙ ap (ran m) means
   where
-    ran : Mended → Meaning → List Ended
+    ran : MendedTold → Meaning → List Ended
     ran k meaning = ended_at r lent meaning ++ pages_in (reader_after (length lent) k.bits r meaning) (lent_after r meaning lent) words
 
 -- ---- sync words
@@ -156,7 +156,7 @@ other_takes room bits message address function r false false false true other = 
 other_takes room bits message address function r false false false false other = refl
 
 -- such a word of a batch takes one place
-other_moves : (room : ℕ) (r : PocsagReader) (m : Mended) → 1 ≤ r.left → r.left ≤ 16
+other_moves : (room : ℕ) (r : PocsagReader) (m : MendedTold) → 1 ≤ r.left → r.left ≤ 16
     → (m.number ≡ 0 → m.word ≡ sync_word → ⊥) → (reader_after room m.bits r (meaning_of r.left m)).left ≡ r.left - 1
 other_moves room r m some most other =
     ap (λ (meaning : Meaning). (reader_after room m.bits r meaning).left) (means_in_batch r.left some most m)
@@ -350,7 +350,7 @@ end_hands_out syncs left address function words mended word sent lent more few g
     rest : List ℕ
     rest = batched (syncs_left left syncs) (to_come left - 1) more
 
-    read : Mended
+    read : MendedTold
     read = mended_as sent reads.bits
 
     Heard : Type 0

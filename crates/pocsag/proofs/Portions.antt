@@ -14,7 +14,7 @@ use Rattle.pocsag.specs.declared.Meaning.TheVariants as means
 use Rattle.pocsag.specs.declared.PocsagReader.{PocsagReader}
 use Rattle.pocsag.specs.declared.PocsagPage.{PocsagPage}
 use Rattle.pocsag.specs.declared.PocsagHeard.{PocsagHeard}
-use Rattle.pocsag.specs.declared.Step.{Step}
+use Rattle.pocsag.specs.Batches.{StepTold}
 use Rattle.pocsag.specs.Mending.{mended_of, as_mended}
 use Rattle.pocsag.specs.Batches.{meaning_of, page_ended, lent_after}
 use Rattle.pocsag.specs.Hearing.{step_of, stored_of, tells, heard_at, after, heard_of, lent_heard}
@@ -53,7 +53,7 @@ one_word r lent word words =
     by_end false page later same = ap (λ (row : List ℕ). record { page = page; message = take page.words row } ∷ later) (sym (same refl))
 
 -- a word that has nothing to tell ends no page
-silent_none : (s : Step) (memory : List ℕ) → tells s ≡ false → told s.page memory ≡ []
+silent_none : (s : StepTold) (memory : List ℕ) → tells s ≡ false → told s.page memory ≡ []
 silent_none s memory = by_tests (eqb s.number 0) (eqb s.page.is_ended 0) _
   where
     by_tests : (a b : Bool) (page : List Ended) → not (a && b) ≡ false → pick b [] page ≡ []

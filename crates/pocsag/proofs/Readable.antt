@@ -3,7 +3,7 @@ use Prim.Native.Nat.{ℕ, ◌^◌, ◌≤◌}
 use mathlib.Core.Bool.{Bool, true, false, not}
 use mathlib.Core.List.{List, [], ◌∷◌}
 use mathlib.Core.Logic.{⊎_elim, inl}
-use mathlib.Core.Path.{◌≡◌, refl, ◌∙◌}
+use mathlib.Core.Path.{◌≡◌, refl, sym, ap, ◌∙◌}
 use native.Mathlib.Omega.{arith}
 use borrow.Author.Tests.{leb-true, leb-false, lt-ltb, le-ltb, ltb-false, not-false}
 use lib.Dec.{leb, ltb}
@@ -14,9 +14,12 @@ use Rattle.laws.specs.Numerals.{number, digits, are_digits}
 use Rattle.laws.proofs.Numerals.{length_digits}
 use Rattle.laws.proofs.Writing.{length_put}
 use Rattle.refusal.specs.declared.Refusal.TheVariants as refusals
-use Rattle.refusal.specs.Told.{Told, told, given, ask, number_told, number_unless}
-use Rattle.refusal.proofs.Laws.{passed, plain_ask}
-use Rattle.pocsag.specs.Texts.{is_kind, message_bits, width_of, character_of, room_of, text_in, fill_at_end, read_of, as_text}
+use Rattle.refusal.specs.declared.Refusal.{Refusal}
+use Rattle.refusal.specs.Told.{Told, told, refused, given, ask, number_of, number_told, number_unless}
+use Rattle.refusal.proofs.Laws.{passed, plain_ask, number_positive}
+use Rattle.pocsag.specs.declared.TextKind.{TextKind}
+use Rattle.pocsag.specs.declared.TextKind.TheVariants.{Numeric, NumericChinese, SevenBit}
+use Rattle.pocsag.specs.Texts.{is_kind, kind_number, message_bits, width_of, character_of, room_of, text_in, fill_at_end, read_of}
 
 -- the words have twenty bits, and there is room for their characters
 pub record Readable (kind lent : ℕ) (words : List ℕ) : Type 0 where
@@ -54,6 +57,18 @@ read_plain kind lent words some =
     (plain_ask (not (are_digits (2 ^ message_bits) words)) refusals.Damaged _
     (plain_ask (ltb lent (room_of kind (length words))) refusals.Room (read_told kind words) (inl refl))))
 
+-- and a refusal of that number is what is told
+pub refused_alone : (kind lent : ℕ) (words : List ℕ) (r : Refusal) → number_of r ≡ number_told (read_of kind lent words)
+    → refused r ≡ read_of kind lent words
+refused_alone kind lent words r e =
+    ap (λ (n : ℕ). told n []) e ∙ sym (read_plain kind lent words (λ none. omega (arith, number_positive r, e, none)))
+
+-- a kind that the code has is one that a caller may choose
+pub kind_known : (kind : TextKind) → is_kind (kind_number kind) ≡ true
+kind_known Numeric = refl
+kind_known NumericChinese = refl
+kind_known SevenBit = refl
+
 module _ (kind : ℕ) (words lent : List ℕ) where
   -- a text that is written keeps the lent memory's length
   pub text_fits : room_of kind (length words) ≤ length lent → length (put lent 0 (text_in kind words)) ≡ length lent
@@ -73,8 +88,3 @@ room_asked kind lent words = by_room (leb (room_of kind (length words)) lent) re
         → number_unless refusals.Room fits ≡ number_told (ask (ltb lent (room_of kind (length words))) refusals.Room (read_told kind words))
     by_room true e = rw (le-ltb lent (room_of kind (length words)) (leb-true _ _ e))
     by_room false e = rw (lt-ltb lent (room_of kind (length words)) (leb-false _ _ e))
-
--- the room and the fill at the end are the answer
-pub as_told : (kind : ℕ) (words : List ℕ) (characters fill : ℕ) → characters ≡ room_of kind (length words) → fill ≡ fill_at_end kind (text_in kind words)
-    → record { number = 0; characters = characters; fill_at_end = fill } ≡ as_text (read_told kind words)
-as_told kind words characters fill room end = rw (room, end)

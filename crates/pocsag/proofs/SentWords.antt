@@ -5,7 +5,7 @@ use mathlib.Core.Path.{◌≡◌, refl, sym, ap, ◌∙◌}
 use native.Mathlib.Omega.{arith}
 use borrow.Author.Tests.{ne_eqb, le-leb, lt-leb, le-ltb, leb-true}
 use lib.Pow.{shr-shr}
-use Rattle.pocsag.specs.declared.Mended.{Mended}
+use Rattle.pocsag.specs.Mending.{MendedTold}
 use Rattle.pocsag.specs.declared.Meaning.TheVariants as means
 use Rattle.pocsag.specs.Codewords.{sent_word}
 use Rattle.pocsag.specs.Batches.{sync_word, idle_word, is_message, turned, message_in, function_in, frame_of, address_in, awaits_sync, in_batch, meaning_of}
@@ -60,7 +60,7 @@ module _ (bits : ℕ) (small : bits < 2 ^ 20) where
 -- ---- what a word means at its place
 
 -- a word as it was mended, with so many bits changed
-abbrev pub mended_as : ℕ → ℕ → Mended
+abbrev pub mended_as : ℕ → ℕ → MendedTold
 mended_as word bits = record { number = 0; word = word; bits = bits }
 
 -- no word of a batch is still to come: the sync word
@@ -74,7 +74,7 @@ module _ (left : ℕ) (some : 1 ≤ left) (most : left ≤ 16) where
   within = rw (ne_eqb left 0 (λ e. omega (arith, e)), le-ltb 16 left most)
 
   -- a word is then one of a batch
-  pub means_in_batch : (m : Mended) → meaning_of left m ≡ in_batch left m
+  pub means_in_batch : (m : MendedTold) → meaning_of left m ≡ in_batch left m
   unfolding meaning_of
   means_in_batch m = rw within
 

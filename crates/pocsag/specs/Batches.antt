@@ -3,8 +3,8 @@ use Rattle.std.specs.Prelude.{ℕ, ◌+◌, ◌-◌, ◌*◌, ◌/◌, ◌%◌, 
 use Rattle.laws.specs.Choice.{pick}
 use Rattle.laws.specs.Numerals.{number, digits}
 use Rattle.refusal.specs.declared.Refusal.TheVariants.{TooLong, NoCall, BeyondRepair, NoSync}
-use Rattle.refusal.specs.Told.{given, ask, number_of, number_told, number_unless}
-use Rattle.pocsag.specs.declared.Mended.{Mended}
+use Rattle.refusal.specs.Told.{given, ask, number_of, number_told, number_by, number_unless}
+use Rattle.pocsag.specs.Mending.{MendedTold}
 use Rattle.pocsag.specs.declared.Meaning.{Meaning}
 use Rattle.pocsag.specs.declared.Meaning.TheVariants as means
 use Rattle.pocsag.specs.declared.PocsagReader.{PocsagReader}
@@ -57,11 +57,11 @@ abbrev pub awaits_sync : ℕ → Bool
 awaits_sync left = eqb left 0 || ltb 16 left
 
 -- where no word of a batch is still to come, a word is the sync word, or the sync is lost
-abbrev pub at_sync : Mended → Meaning
+abbrev pub at_sync : MendedTold → Meaning
 at_sync m = pick (not (eqb m.number 0)) means.SyncDamaged (pick (eqb m.word sync_word) means.Sync means.SyncMissing)
 
 -- a word within a batch
-abbrev pub in_batch : ℕ → Mended → Meaning
+abbrev pub in_batch : ℕ → MendedTold → Meaning
 in_batch left m =
     pick (not (eqb m.number 0)) means.Damaged
     (pick (eqb m.word sync_word) means.SyncEarly
@@ -69,7 +69,7 @@ in_batch left m =
     (pick (is_message m.word) (means.Message (message_in m.word)) (means.Address (address_in left m.word) (function_in m.word)))))
 
 -- a word at its place
-unfoldable pub meaning_of : ℕ → Mended → Meaning
+unfoldable pub meaning_of : ℕ → MendedTold → Meaning
 meaning_of left m = pick (awaits_sync left) (at_sync m) (in_batch left m)
 
 -- ---- what is told of a word
@@ -208,8 +208,18 @@ lent_after r (means.Message bits) lent = kept_bits r bits lent
 
 -- ---- one word
 
+-- what one word does: its number, the page that ends at it, and where the reading is after it
+pub record StepTold : Type 0 where
+  pub number : ℕ
+  pub page : PocsagPage
+  pub reader : PocsagReader
+
+-- how the code's step is told
+abbrev pub step_told : Step → StepTold
+step_told s = record { number = number_by s.told; page = s.page; reader = s.reader }
+
 -- what one word does, by what it was mended to
-abbrev pub step_by : ℕ → PocsagReader → Mended → Step
+abbrev pub step_by : ℕ → PocsagReader → MendedTold → StepTold
 step_by lent r m =
     let meaning = meaning_of r.left m in
     record {
@@ -219,5 +229,5 @@ step_by lent r m =
     }
 
 -- the lent memory after it
-abbrev pub stored_by : PocsagReader → Mended → List ℕ → List ℕ
+abbrev pub stored_by : PocsagReader → MendedTold → List ℕ → List ℕ
 stored_by r m lent = lent_after r (meaning_of r.left m) lent

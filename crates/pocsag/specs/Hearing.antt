@@ -4,12 +4,11 @@ use Rattle.laws.specs.Choice.{pick}
 use Rattle.pocsag.specs.declared.PocsagReader.{PocsagReader}
 use Rattle.pocsag.specs.declared.PocsagPage.{PocsagPage}
 use Rattle.pocsag.specs.declared.PocsagHeard.{PocsagHeard}
-use Rattle.pocsag.specs.declared.Step.{Step}
 use Rattle.pocsag.specs.Mending.{mended_of, as_mended}
-use Rattle.pocsag.specs.Batches.{no_page, page_of, step_by, stored_by}
+use Rattle.pocsag.specs.Batches.{StepTold, no_page, page_of, step_by, stored_by}
 
 -- what a received word does
-abbrev pub step_of : ℕ → PocsagReader → ℕ → Step
+abbrev pub step_of : ℕ → PocsagReader → ℕ → StepTold
 step_of lent r word = step_by lent r (as_mended (mended_of word))
 
 -- the lent memory after it
@@ -17,11 +16,11 @@ abbrev pub stored_of : PocsagReader → ℕ → List ℕ → List ℕ
 stored_of r word lent = stored_by r (as_mended (mended_of word)) lent
 
 -- whether a word has something to tell: a number, or a page that ended
-abbrev pub tells : Step → Bool
+abbrev pub tells : StepTold → Bool
 tells s = not (eqb s.number 0 && eqb s.page.is_ended 0)
 
 -- the answer after a word that has something to tell
-abbrev pub heard_at : Step → PocsagHeard
+abbrev pub heard_at : StepTold → PocsagHeard
 heard_at s = record { number = s.number; taken = 1; page = s.page; reader = s.reader }
 
 -- the answer where no word has

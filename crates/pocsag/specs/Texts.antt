@@ -1,17 +1,31 @@
 -- The text of a page (02, item 5: "numeric or seven-bit text"): what its message words say, and what is told of it. A message word here is twenty bits,
 -- the first that was sent the lowest.
-use Rattle.std.specs.Prelude.{ℕ, ◌*◌, ◌/◌, ◌^◌, Bool, not, ◌||◌, List, [], ◌∷◌, map, leb, ltb, eqb, length, get_or}
+use Rattle.std.specs.Prelude.{ℕ, ◌*◌, ◌/◌, ◌^◌, ◌<◌, ◌≡◌, Bool, not, ◌||◌, List, [], ◌∷◌, map, leb, ltb, eqb, length, get_or, Result, MatchResult}
 use Rattle.laws.specs.Choice.{pick}
 use Rattle.laws.specs.Lists.{last_that}
 use Rattle.laws.specs.Numerals.{number, digits, are_digits}
+use Rattle.refusal.specs.declared.Refusal.{Refusal}
 use Rattle.refusal.specs.declared.Refusal.TheVariants.{Room, Packet, Damaged}
 use Rattle.refusal.specs.Told.{Told, given, ask, number_told, value_told, written_by}
 use Rattle.numeric.specs.Pages.{set_of, is_space}
+use Rattle.pocsag.specs.declared.TextKind.{TextKind}
+use Rattle.pocsag.specs.declared.TextKind.TheVariants.{Numeric, NumericChinese, SevenBit}
+use Rattle.pocsag.specs.declared.TextRead.{TextRead}
 use Rattle.pocsag.specs.declared.PocsagText.{PocsagText}
 
 -- the kinds that a caller may choose: 0 and 1 numeric in the set with the option off or on, 2 of seven-bit characters
 abbrev pub is_kind : ℕ → Bool
 is_kind kind = leb kind 2
+
+-- the number of a kind
+abbrev pub kind_number : TextKind → ℕ
+kind_number Numeric = 0
+kind_number NumericChinese = 1
+kind_number SevenBit = 2
+
+-- a number is turned into the kind that has it, or is refused with 7
+abbrev pub KindOf : ℕ → Result TextKind Refusal → Type 0
+KindOf n kind = MatchResult kind (λ k. kind_number k ≡ n) (λ refusal. (refusal ≡ Packet) × (2 < n))
 
 -- whether a kind is that of seven-bit characters
 abbrev pub is_text : ℕ → Bool
@@ -57,6 +71,10 @@ read_of kind lent words =
 -- what the lent bytes are then
 abbrev pub text_after : ℕ → List ℕ → List ℕ → List ℕ
 text_after kind words lent = written_by (read_of kind (length lent) words) lent (text_in kind words)
+
+-- the values of a text that was read
+abbrev pub text_values : TextRead → List ℕ
+text_values text = text.characters ∷ text.fill_at_end ∷ []
 
 -- the answer: the number, how many characters, how many of them at the end are fill
 abbrev pub as_text : Told → PocsagText

@@ -3,7 +3,7 @@
 // 02, item 5: "A table of 1,024 entries gives for each remainder the one or two wrong bits among 31, or none." An entry is the
 // place of the lower wrong bit and 32 times that of the higher, counted in the word, whose lowest bit is the parity bit; 0
 // stands for no bit. The rows were written by `write_pocsag_table` of the second program. What is believed of them is not that
-// program but one test over all entries, which is computed in the proofs of `mend` and `hear`.
+// program but one test over all entries, which is computed in the proof of `laid_out`.
 pub(crate) const TABLE: [u16; 1024] = [
     0, 1, 2, 65, 3, 97, 98, 0, 4, 129, 130, 0, 131, 916, 0, 886, 5, 161, 162, 756, 163, 0, 0, 0,
     164, 812, 949, 0, 0, 0, 919, 427, 6, 193, 194, 0, 195, 0, 789, 814, 196, 0, 0, 0, 0, 843, 0, 0,

@@ -1,3 +1,4 @@
+pub mod Addresses
 pub mod Digits
 pub mod Divided
 pub mod Examples

@@ -10,9 +10,8 @@ use Rattle.laws.specs.Lists.{all}
 use Rattle.laws.specs.Numerals.{are_digits}
 use Rattle.laws.proofs.Tests.{first_of, second_of}
 use Rattle.pocsag_lister.specs.declared.Token.{Token}
-use Rattle.pocsag_lister.specs.declared.Found.{Found}
-use Rattle.pocsag_lister.specs.Inputs.{word_found}
-use Rattle.pocsag_lister.specs.RawWords.{shifted_byte, words_in}
+use Rattle.pocsag_lister.specs.Inputs.{Found, word_found}
+use Rattle.pocsag_lister.specs.RawWords.{shifted_byte, taken_raw, words_in}
 use Rattle.pocsag_lister.specs.Collecting.{found_in}
 
 -- four bytes push out whatever was there before them
@@ -21,7 +20,7 @@ four_bytes : (value a b c d : ℕ) → a < 256 → b < 256 → c < 256
 four_bytes value a b c d small-a small-b small-c = omega arith
 
 -- the same, by recursion on the bytes
-raw_from : (bytes : List ℕ) (t : Token) → t.count ≡ 0 → are_digits 256 bytes ≡ true → found_in true t bytes ≡ map word_found (words_in bytes)
+raw_from : (bytes : List ℕ) (t : Token) → t.count ≡ 0 → are_digits 256 bytes ≡ true → found_in taken_raw t bytes ≡ map word_found (words_in bytes)
 unfolding found_in words_in all
 raw_from [] t none small = refl
 raw_from (a ∷ []) t none small = rw none
@@ -37,5 +36,5 @@ raw_from (a ∷ b ∷ c ∷ d ∷ bytes) t none small =
     (raw_from bytes _ refl (second_of (ltb d 256) _ after-c)))
 
 -- what is found in bytes, from the first byte of a word on
-pub raw_found : (t : Token) (bytes : List ℕ) → t.count ≡ 0 → are_digits 256 bytes ≡ true → found_in true t bytes ≡ map word_found (words_in bytes)
+pub raw_found : (t : Token) (bytes : List ℕ) → t.count ≡ 0 → are_digits 256 bytes ≡ true → found_in taken_raw t bytes ≡ map word_found (words_in bytes)
 raw_found t bytes = raw_from bytes t

@@ -1,10 +1,10 @@
 -- Codewords as bytes: four to a word, the highest first.
-use Rattle.std.specs.Prelude.{ℕ, ◌+◌, ◌*◌, ◌%◌, ◌^◌, false, List, [], ◌∷◌, ltb, eqb}
+use Rattle.std.specs.Prelude.{ℕ, ◌+◌, ◌*◌, ◌%◌, ◌^◌, List, [], ◌∷◌, ltb, eqb, Option, Some, None}
 use Rattle.laws.specs.Choice.{pick}
 use Rattle.refusal.specs.declared.Refusal.TheVariants.{Size}
-use Rattle.refusal.specs.Told.{number_of}
 use Rattle.pocsag_lister.specs.declared.Token.{Token}
-use Rattle.pocsag_lister.specs.declared.Found.{Found}
+use Rattle.pocsag_lister.specs.declared.Left.{Left}
+use Rattle.pocsag_lister.specs.declared.Left.TheVariants as lefts
 use Rattle.pocsag_lister.specs.declared.Taken.{Taken}
 use Rattle.pocsag_lister.specs.Inputs.{one_more, nothing, word_found}
 
@@ -19,27 +19,25 @@ begun t byte =
       line = t.line;
       place = one_more t.place;
       «at» = pick (eqb t.count 0) t.place t.«at»;
-      number = t.number;
+      refusal = t.refusal;
       count = t.count + 1;
       value = shifted_byte t.value byte;
     }
 
 -- after the fourth byte of a word
 abbrev pub after_word : Token → Token
-after_word t = record { line = t.line; place = one_more t.place; «at» = 0; number = t.number; count = 0; value = 0 }
+after_word t = record { line = t.line; place = one_more t.place; «at» = 0; refusal = t.refusal; count = 0; value = 0 }
 
 -- a byte of an input of bytes: the fourth makes a word
 abbrev pub taken_raw : Token → ℕ → Taken
 taken_raw t byte =
     pick (ltb t.count 3)
     (record { token = begun t byte; found = nothing })
-    (record { token = after_word t; found = word_found (shifted_byte t.value byte) })
+    (record { token = after_word t; found = Some (word_found (shifted_byte t.value byte)) })
 
 -- what is left where the input ends: one to three bytes are no word, and are told by 9 and the place of the first
-abbrev pub left_over : Token → Found
-left_over t =
-    pick (eqb t.count 0) nothing
-    (record { is_word = false; word = 0; number = number_of Size; line = 0; place = t.«at» })
+abbrev pub left_over : Token → Option Left
+left_over t = pick (eqb t.count 0) None (Some (lefts.Bytes Size t.«at»))
 
 -- the words that bytes make, four to a word and the highest first; bytes left over make none
 unfoldable pub words_in : List ℕ → List ℕ

@@ -1,13 +1,14 @@
 -- Codewords as text: runs of eight hexadecimal digits between blanks, in any layout.
-use Rattle.std.specs.Prelude.{ℕ, ◌+◌, ◌-◌, ◌*◌, ◌%◌, ◌^◌, Bool, true, not, ◌&&◌, ◌||◌, leb, ltb, eqb}
+use Rattle.std.specs.Prelude.{ℕ, ◌+◌, ◌-◌, ◌*◌, ◌%◌, ◌^◌, Bool, not, ◌&&◌, ◌||◌, leb, ltb, eqb, Option, Some, None, Err, is_some}
 use Prim.Native.Char.{code}
 use Rattle.laws.specs.Choice.{pick}
+use Rattle.refusal.specs.declared.Refusal.{Refusal}
 use Rattle.refusal.specs.declared.Refusal.TheVariants.{Size, Character}
-use Rattle.refusal.specs.Told.{number_of}
 use Rattle.pocsag_lister.specs.declared.Token.{Token}
-use Rattle.pocsag_lister.specs.declared.Found.{Found}
 use Rattle.pocsag_lister.specs.declared.Taken.{Taken}
-use Rattle.pocsag_lister.specs.Inputs.{one_more, nothing, word_found, no_word}
+use Rattle.pocsag_lister.specs.declared.Left.{Left}
+use Rattle.pocsag_lister.specs.declared.Left.TheVariants as lefts
+use Rattle.pocsag_lister.specs.Inputs.{Found, one_more, nothing, word_found}
 
 -- ---- a character
 
@@ -35,7 +36,7 @@ counted count = pick (ltb count 9) (count + 1) count
 
 -- whether a byte is the first of its run that is no hexadecimal digit
 abbrev pub goes_wrong : Token → ℕ → Bool
-goes_wrong t byte = eqb t.number 0 && not (is_hex byte)
+goes_wrong t byte = not (is_some t.refusal) && not (is_hex byte)
 
 -- a run with one character more: the place that is told is that of the first character, and of the first that is no hexadecimal digit where one is
 abbrev pub grown : Token → ℕ → Token
@@ -44,22 +45,36 @@ grown t byte =
       line = t.line;
       place = one_more t.place;
       «at» = pick (eqb t.count 0 || goes_wrong t byte) t.place t.«at»;
-      number = pick (goes_wrong t byte) (number_of Character) t.number;
+      refusal = pick (goes_wrong t byte) (Some Character) t.refusal;
       count = counted t.count;
       value = pick (is_hex byte) (shifted t.value (hex_value byte)) t.value;
     }
 
--- a run that is no word, by its number, its line and its place in the line
-abbrev pub wrong_run : Token → ℕ → Found
-wrong_run t n = record { is_word = true; word = no_word; number = n; line = t.line; place = t.«at» }
+-- a run that is no word, by its refusal, its line and its place in the line
+abbrev pub wrong_run : Token → Refusal → Found
+wrong_run t r = Err (record { refusal = r; line = t.line; place = t.«at» })
+
+-- a run of some characters: 18 where one is no hexadecimal digit, 9 where they are not eight, else a word
+abbrev pub run_by : Option Refusal → Token → Found
+run_by (Some r) t = wrong_run t r
+run_by None t = pick (not (eqb t.count 8)) (wrong_run t Size) (word_found t.value)
+
+-- the run that was read so far, as it ends
+abbrev pub run : Token → Found
+run t = run_by t.refusal t
 
 -- what a run is where it ends: nothing where it has no character, 18 where one is no hexadecimal digit, 9 where they are not eight, else a word
-abbrev pub finished : Token → Found
-finished t =
-    pick (eqb t.count 0) nothing
-    (pick (not (eqb t.number 0)) (wrong_run t t.number)
-    (pick (not (eqb t.count 8)) (wrong_run t (number_of Size))
-    (word_found t.value)))
+abbrev pub finished : Token → Option Found
+finished t = pick (eqb t.count 0) nothing (Some (run t))
+
+-- what is left where a text ends
+abbrev pub left_of_run : Option Found → Option Left
+left_of_run None = None
+left_of_run (Some f) = Some (lefts.Run f)
+
+-- what is left where a text ends: the run that no blank ended
+abbrev pub left_of_text : Token → Option Left
+left_of_text t = left_of_run (finished t)
 
 -- after a blank: no run, and after a line feed the next line
 abbrev pub after_blank : Token → ℕ → Token
@@ -68,7 +83,7 @@ after_blank t byte =
       line = pick (eqb byte (code "\n")) (one_more t.line) t.line;
       place = pick (eqb byte (code "\n")) 0 (one_more t.place);
       «at» = 0;
-      number = 0;
+      refusal = None;
       count = 0;
       value = 0;
     }

@@ -1,11 +1,13 @@
-// What the bytes of an input are read to: what is found in them, and where the reading stands at the start.
+// What the bytes of an input are read to: where the reading is at the start, and the word that is heard for a run.
 ghost use Rattle.std.specs.Prelude.{◌≡◌};
-ghost use Rattle.laws.specs.Choice.{pick};
-ghost use Rattle.pocsag_lister.specs.Inputs.{one_more, nothing, word_found, start};
+ghost use Rattle.pocsag_lister.specs.Inputs.{start, word_heard};
 
-use crate::{Found, Token};
+use crate::{Token, WrongRun};
 
-// Where the reading stands before the first byte.
+// The word that is heard for a run of characters that is none. It is beyond repair.
+const NO_WORD: u32 = 0x0000_0001;
+
+// Where the reading is before the first byte.
 pub fn start() -> Token
     ensures { result ≡ start }
 {
@@ -13,48 +15,15 @@ pub fn start() -> Token
         line: 1,
         place: 0,
         at: 0,
-        number: 0,
+        refusal: None,
         count: 0,
         value: 0,
     }
 }
 
-// One more, as far as 64 bits can count.
-pub fn one_more(n: u64) -> u64
-    ensures { result ≡ one_more n }
+// The word that is heard for what was found: the word itself, or for a run of characters that is none one beyond repair.
+pub fn word_heard(found: Result<u32, WrongRun>) -> u32
+    ensures { result ≡ word_heard found }
 {
-    if n < u64::MAX { n + 1 } else { n }
-}
-
-// One of two numbers.
-pub(crate) fn either(test: bool, number: u64, other: u64) -> u64
-    ensures { result ≡ pick test number other }
-{
-    if test { number } else { other }
-}
-
-// Nothing is found.
-pub fn nothing() -> Found
-    ensures { result ≡ nothing }
-{
-    Found {
-        is_word: false,
-        word: 0,
-        number: 0,
-        line: 0,
-        place: 0,
-    }
-}
-
-// A word is found.
-pub(crate) fn word_found(word: u32) -> Found
-    ensures { result ≡ word_found word }
-{
-    Found {
-        is_word: true,
-        word,
-        number: 0,
-        line: 0,
-        place: 0,
-    }
+    found.unwrap_or(NO_WORD)
 }

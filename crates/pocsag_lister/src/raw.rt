@@ -2,8 +2,7 @@
 ghost use Rattle.std.specs.Prelude.{◌≡◌, ◌<◌};
 ghost use Rattle.pocsag_lister.specs.RawWords.{shifted_byte, begun, after_word, taken_raw, left_over};
 
-use crate::finding::{either, nothing, one_more, word_found};
-use crate::{Found, Taken, Token};
+use crate::{Left, Taken, Token};
 use refusal::Refusal;
 
 // The number of a word's bytes after one byte more.
@@ -13,32 +12,34 @@ fn shifted_byte(value: u32, byte: u8) -> u32
     value % 0x100_0000 * 256 + byte as u32
 }
 
-// Where the reading stands after one of the first three bytes of a word.
+// Where the reading is after one of the first three bytes of a word.
 fn begun(token: Token, byte: u8) -> Token
     requires { token.count < 3 }
     ensures { result ≡ begun token byte }
 {
     Token {
-        line: token.line,
-        place: one_more(token.place),
-        at: either(token.count == 0, token.place, token.at),
-        number: token.number,
+        place: token.place.saturating_add(1),
+        at: if token.count == 0 {
+            token.place
+        } else {
+            token.at
+        },
         count: token.count + 1,
         value: shifted_byte(token.value, byte),
+        ..token
     }
 }
 
-// Where the reading stands after the fourth byte of a word.
+// Where the reading is after the fourth byte of a word.
 fn after_word(token: Token) -> Token
     ensures { result ≡ after_word token }
 {
     Token {
-        line: token.line,
-        place: one_more(token.place),
+        place: token.place.saturating_add(1),
         at: 0,
-        number: token.number,
         count: 0,
         value: 0,
+        ..token
     }
 }
 
@@ -49,27 +50,24 @@ pub(crate) fn take_raw(token: Token, byte: u8) -> Taken
     if token.count < 3 {
         return Taken {
             token: begun(token, byte),
-            found: nothing(),
+            found: None,
         };
     }
     Taken {
         token: after_word(token),
-        found: word_found(shifted_byte(token.value, byte)),
+        found: Some(Ok(shifted_byte(token.value, byte))),
     }
 }
 
 // What is left where the input ends: one to three bytes are no word.
-pub(crate) fn left_over(token: Token) -> Found
+pub(crate) fn left_over(token: Token) -> Option<Left>
     ensures { result ≡ left_over token }
 {
     if token.count == 0 {
-        return nothing();
+        return None;
     }
-    Found {
-        is_word: false,
-        word: 0,
-        number: Refusal::Size.number(),
-        line: 0,
+    Some(Left::Bytes {
+        refusal: Refusal::Size,
         place: token.at,
-    }
+    })
 }

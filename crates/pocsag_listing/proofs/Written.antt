@@ -1,5 +1,5 @@
 -- What writes write, one after the other, and a text that is shown byte by byte.
-use Rattle.std.proofs.Common.{ℕ, ◌+◌, ◌<◌, List, [], ◌∷◌, ◌++◌, length, take, get_or, Result, Ok, Err, OnOk, append-nil}
+use Rattle.std.proofs.Common.{ℕ, ◌+◌, ◌<◌, List, [], ◌∷◌, ◌++◌, length, take, get_or, Result, Ok, Err, OnOk, MatchResult, ◌≡◌, subst, append-nil}
 use Rattle.std.proofs.lemmas.List.{take_more}
 use Rattle.std.specs.declared.option.Option.{Option}
 use Rattle.std.specs.Io.KnownBytes.{Appends}
@@ -12,6 +12,12 @@ pub written_then : {T E : Type 0} (r : Result T E) (held between holds : Option 
     → Appends held between xs → OnOk r (Appends between holds ys) → OnOk r (Appends held holds (xs ++ ys))
 written_then (Ok x) held between holds xs ys first then = Appends-trans held between holds xs ys first then
 written_then (Err e) held between holds xs ys first then = tt
+
+-- what was written stays so where an error is given its context
+pub written_in : {T E F : Type 0} (r : Result T E) (s : Result T F) (bad : F → Type 0) (wrote : Type 0)
+    → MatchResult s (λ x. r ≡ Ok x) bad → OnOk r wrote → OnOk s wrote
+written_in r (Ok x) bad wrote same done = subst (λ answer. OnOk answer wrote) same done
+written_in r (Err e) bad wrote same done = tt
 
 -- a text of no byte is shown as nothing
 pub shown_none : (held : Option (List ℕ)) (text : List ℕ) → Appends held held (shown (take 0 text))

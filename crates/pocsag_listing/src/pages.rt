@@ -1,19 +1,42 @@
 // A page as it is listed: the kind that its text is read by, and its line.
+//
+// A page has a number and not a Result, since `pocsag` answers the C interface's structs as they are.
 ghost use Rattle.std.specs.Prelude.{◌≡◌, ◌++◌, OnOk};
 ghost use Rattle.std.specs.Io.KnownBytes.{Appends};
 ghost use Rattle.capcode.specs.Text.{digits};
-ghost use Rattle.pocsag_lister.specs.Pages.{kind_of};
-ghost use Rattle.pocsag_listing.specs.Said.{kind_shown, before_fill, text_shown, head, counts, fields, refused_line, read_as, text_as, page_line, page_remark, page_meaning, place, begun, explained_line, page_told};
+ghost use Rattle.pocsag_lister.specs.Pages.{kind_chosen};
+ghost use Rattle.pocsag_listing.specs.Said.{kind_shown, before_fill, text_shown, head, fields, refused_line, read_as, text_as, page_line, page_remark, place, begun, explained_line, page_told};
 
 use crate::Options;
-use crate::writing::{put, put_after, put_first_shown, put_line_end, put_sentence};
-use anyhow::Result;
-use pocsag::{PocsagPage, PocsagText};
+use crate::writing::{first, put, put_meaning, put_shown};
+use anyhow::{Context, Result};
+use pocsag::{PocsagPage, TextKind, TextRead};
 use pocsag_lister::Kind;
 use refusal::Refusal;
 use std::io::Write;
 
+// The memory of a listing: the message words of the open page, and the text that is read from them.
+#[derive(Drop)]
+pub struct Memory {
+    pub words: Vec<u32>,
+    pub text: Vec<u8>,
+}
+
+impl Memory {
+    // Reads the text of a page of so many words; if they are not there it is empty.
+    fn read(&mut self, kind: TextKind, words: usize) -> TextRead
+        ensures told { result ≡ read_as kind words self.old.words.items self.old.text.items }
+        ensures text { self.new.text.items ≡ text_as kind words self.old.words.items self.old.text.items }
+    {
+        pocsag::read_as(kind, first(&self.words, words), &mut self.text).unwrap_or(TextRead {
+            characters: 0,
+            fill_at_end: 0,
+        })
+    }
+}
+
 // Puts an address.
+// No `{:07}`: of an address over 9999999 that shows more than the seven digits that are promised.
 fn put_address<W: Write>(writer: &mut W, address: u32) -> Result<()>
     ensures { OnOk result (Appends (W.contents writer.old) (W.contents writer.new) (digits 7 address)) }
 {
@@ -21,6 +44,7 @@ fn put_address<W: Write>(writer: &mut W, address: u32) -> Result<()>
 }
 
 // Puts what a page is listed as.
+// No Display of `Kind`: it would be this match in another crate, for this one place.
 fn put_kind<W: Write>(writer: &mut W, kind: Kind) -> Result<()>
     ensures { OnOk result (Appends (W.contents writer.old) (W.contents writer.new) (kind_shown kind)) }
 {
@@ -31,29 +55,15 @@ fn put_kind<W: Write>(writer: &mut W, kind: Kind) -> Result<()>
     }
 }
 
-// Reads the text of a page of so many words; where they are not there it is empty.
-fn read_text(kind: u32, words: usize, lent: &[u32], text: &mut [u8]) -> PocsagText
-    ensures told { result ≡ read_as kind words lent.now text.old }
-    ensures buffer { text.new ≡ text_as kind words lent.now text.old }
-{
-    if words < lent.len() {
-        return pocsag::read(kind, &lent[..words], text);
-    }
-    pocsag::read(kind, lent, text)
-}
-
-// How many characters stand before the fill.
-fn before_fill(read: PocsagText) -> usize
+// How many characters there are before the fill.
+fn before_fill(read: TextRead) -> usize
     ensures { result ≡ before_fill read }
 {
-    if read.fill_at_end <= read.characters {
-        read.characters - read.fill_at_end
-    } else {
-        0
-    }
+    read.characters.saturating_sub(read.fill_at_end)
 }
 
-// Puts a blank and so many characters of a text, where there are any.
+// Puts a blank and so many characters of a text, if there are any.
+// The whole text with a count, and no slice: the lines that are promised speak of both (`text_shown`, `begun`).
 fn put_text<W: Write>(writer: &mut W, text: &[u8], count: usize) -> Result<()>
     ensures { OnOk result (Appends (W.contents writer.old) (W.contents writer.new) (text_shown text.now count)) }
 {
@@ -61,7 +71,7 @@ fn put_text<W: Write>(writer: &mut W, text: &[u8], count: usize) -> Result<()>
         return Ok(());
     }
     put(writer, b" ")?;
-    put_first_shown(writer, text, count)
+    put_shown(writer, first(text, count))
 }
 
 // Puts an address and a function.
@@ -69,39 +79,30 @@ fn put_head<W: Write>(writer: &mut W, page: PocsagPage) -> Result<()>
     ensures { OnOk result (Appends (W.contents writer.old) (W.contents writer.new) (head page)) }
 {
     put_address(writer, page.address)?;
-    put_after(writer, b" ", page.function as u64)
+    write!(writer, " {}", page.function).context("standard output")
 }
 
-// Puts how many bits were mended, and how many characters at the end are fill.
-fn put_counts<W: Write>(writer: &mut W, mended: u32, fill: usize) -> Result<()>
-    ensures { OnOk result (Appends (W.contents writer.old) (W.contents writer.new) (counts mended fill)) }
-{
-    put_after(writer, b" ", mended as u64)?;
-    put_after(writer, b" ", fill as u64)
-}
-
-// Puts all that stands before the text of a page.
-fn put_fields<W: Write>(writer: &mut W, page: PocsagPage, kind: u32, fill: usize) -> Result<()>
+// Puts all that comes before the text of a page.
+fn put_fields<W: Write>(writer: &mut W, page: PocsagPage, kind: TextKind, fill: usize) -> Result<()>
     ensures { OnOk result (Appends (W.contents writer.old) (W.contents writer.new) (fields page kind fill)) }
 {
     put_head(writer, page)?;
-    put_kind(writer, pocsag_lister::listed_as(kind, page.words))?;
-    put_counts(writer, page.mended, fill)
+    put_kind(writer, pocsag_lister::listed_kind(kind, page.words))?;
+    write!(writer, " {} {fill}", page.mended).context("standard output")
 }
 
-// Puts the line of a page that was handed out.
+// Puts the line of a page that is delivered.
 fn put_page<W: Write>(
     writer: &mut W,
     page: PocsagPage,
-    kind: u32,
-    lent: &[u32],
-    text: &mut [u8],
+    kind: TextKind,
+    memory: &mut Memory,
 ) -> Result<()>
-    ensures { OnOk result (Appends (W.contents writer.old) (W.contents writer.new) (page_line page kind lent.now text.old)) }
+    ensures { OnOk result (Appends (W.contents writer.old) (W.contents writer.new) (page_line page kind memory.old.words.items memory.old.text.items)) }
 {
-    let read = read_text(kind, page.words, lent, text);
+    let read = memory.read(kind, page.words);
     put_fields(writer, page, kind, read.fill_at_end)?;
-    put_text(writer, text, before_fill(read))?;
+    put_text(writer, &memory.text, before_fill(read))?;
     put(writer, b"\n")
 }
 
@@ -110,27 +111,17 @@ fn put_refused<W: Write>(writer: &mut W, page: PocsagPage) -> Result<()>
     ensures { OnOk result (Appends (W.contents writer.old) (W.contents writer.new) (refused_line page)) }
 {
     put_head(writer, page)?;
-    put_after(writer, b" REFUSED ", page.number as u64)?;
-    put_line_end(writer, b" ", page.words as u64)
+    writeln!(writer, " REFUSED {} {}", page.number, page.words).context("standard output")
 }
 
-// Puts what else a number stands for.
-fn put_remark<W: Write>(writer: &mut W, number: u32) -> Result<()>
-    ensures { OnOk result (Appends (W.contents writer.old) (W.contents writer.new) (page_remark number)) }
+// What else the number of a page's refusal is for.
+fn remark(number: u32) -> &'static str
+    ensures { result.now ≡ page_remark number }
 {
     if number == Refusal::NoSync.number() {
-        return put(writer, b", or the words ended");
+        return ", or the words ended";
     }
-    Ok(())
-}
-
-// Puts what the refusal of a page means.
-fn put_meaning<W: Write>(writer: &mut W, number: u32) -> Result<()>
-    ensures { OnOk result (Appends (W.contents writer.old) (W.contents writer.new) (page_meaning number)) }
-{
-    put(writer, b": ")?;
-    put_sentence(writer, number)?;
-    put_remark(writer, number)
+    ""
 }
 
 // Puts which page went wrong, and at which of its words.
@@ -139,7 +130,7 @@ fn put_place<W: Write>(writer: &mut W, page: PocsagPage) -> Result<()>
 {
     put(writer, b"page ")?;
     put_address(writer, page.address)?;
-    put_after(writer, b", message word ", page.words as u64)
+    write!(writer, ", message word {}", page.words).context("standard output")
 }
 
 // Puts what came of a page before it went wrong.
@@ -158,16 +149,15 @@ fn put_begun<W: Write>(writer: &mut W, text: &[u8], count: usize) -> Result<()>
 fn put_explained<W: Write>(
     writer: &mut W,
     page: PocsagPage,
-    kind: u32,
-    lent: &[u32],
-    text: &mut [u8],
+    kind: TextKind,
+    memory: &mut Memory,
 ) -> Result<()>
-    ensures { OnOk result (Appends (W.contents writer.old) (W.contents writer.new) (explained_line page kind lent.now text.old)) }
+    ensures { OnOk result (Appends (W.contents writer.old) (W.contents writer.new) (explained_line page kind memory.old.words.items memory.old.text.items)) }
 {
-    let read = read_text(kind, page.words, lent, text);
+    let read = memory.read(kind, page.words);
     put_place(writer, page)?;
-    put_meaning(writer, page.number)?;
-    put_begun(writer, text, read.characters)
+    put_meaning(writer, page.number, remark(page.number))?;
+    put_begun(writer, &memory.text, read.characters)
 }
 
 // Lists a page that ended.
@@ -175,18 +165,17 @@ pub(crate) fn put_ended<W: Write>(
     writer: &mut W,
     page: PocsagPage,
     options: Options,
-    lent: &[u32],
-    text: &mut [u8],
+    memory: &mut Memory,
 ) -> Result<()>
-    ensures { OnOk result (Appends (W.contents writer.old) (W.contents writer.new) (page_told page options.is_explained (kind_of options.kind page.function) lent.now text.old)) }
+    ensures { OnOk result (Appends (W.contents writer.old) (W.contents writer.new) (page_told page options.is_explained (kind_chosen options.kind page.function) memory.old.words.items memory.old.text.items)) }
 {
-    let kind = pocsag_lister::kind_of(options.kind, page.function);
+    let kind = pocsag_lister::kind_chosen(options.kind, page.function);
     if page.number == 0 {
-        return put_page(writer, page, kind, lent, text);
+        return put_page(writer, page, kind, memory);
     }
     put_refused(writer, page)?;
-    if !options.is_explained {
-        return Ok(());
+    if options.is_explained {
+        return put_explained(writer, page, kind, memory);
     }
-    put_explained(writer, page, kind, lent, text)
+    Ok(())
 }

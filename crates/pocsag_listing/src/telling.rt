@@ -1,288 +1,155 @@
-// What is told of words: the pages that end, and the words that are refused. Words that are refused with the same number,
-// one after the other, are told in one line, which is put before anything else that is told after them.
-ghost use Rattle.std.specs.Prelude.{◌+◌, ◌≤◌, ◌<◌, length, OnOk};
-ghost use Rattle.std.specs.Io.KnownBytes.{Appends};
-ghost use Rattle.pocsag_listing.specs.Said.{span, meaning, words_line, words_meaning, characters_line, characters_meaning, bytes_line, bytes_meaning};
+// What is reported of words: the pages that end, and the words that are refused. Words that are refused with the same number,
+// one after the other, are reported in one line, which is put before anything else that is reported after them.
+//
+// `is_ended` and the numbers of words and pages are no Option and no Result, since `pocsag` answers the C interface's structs
+// as they are.
+ghost use Rattle.std.specs.Prelude.{◌≤◌, ◌<◌, length, OnOk};
+ghost use Rattle.std.specs.Io.KnownBytes.{Appends, Keeps};
+ghost use Rattle.pocsag_listing.specs.Said.{title, waiting_told};
 
-use crate::pages::put_ended;
-use crate::writing::{put, put_after, put_line_end, put_sentence};
-use crate::{Course, Options};
+use crate::lines::{Row, Unit, report_row, report_run};
+use crate::pages::{Memory, put_ended};
+use crate::writing::{flush, put, rest};
+use crate::{Options, Totals};
 use anyhow::Result;
 use pocsag::{PocsagHeard, PocsagPage, PocsagReader};
-use pocsag_lister::{Found, Token, one_more};
+use pocsag_lister::{Token, WrongRun};
+use refusal::Refusal;
 use std::io::Write;
 
-// Puts a number, or the first and the last of several.
-fn put_span<W: Write>(
-    writer: &mut W,
-    one: &[u8],
-    several: &[u8],
-    to: &[u8],
-    first: u64,
-    last: u64,
-) -> Result<()>
-    ensures { OnOk result (Appends (W.contents writer.old) (W.contents writer.new) (span one.now several.now to.now first last)) }
+// A listing: where it is written, and how; the memory that it needs; how far the words are read; the refused words that are
+// not reported yet, if there are any; and what there was so far.
+#[derive(Drop)]
+pub struct Listing<W: Write + Drop> {
+    pub writer: W,
+    pub options: Options,
+    pub memory: Memory,
+    pub reader: PocsagReader,
+    pub waiting: Option<Row>,
+    pub totals: Totals,
+}
+
+impl<W: Write + Drop> Listing<W> {
+    // Puts the title.
+    pub(crate) fn put_title(&mut self) -> Result<()>
+        ensures { OnOk result (Appends (W.contents self.old.writer) (W.contents self.new.writer) title) }
+    {
+        put(
+            &mut self.writer,
+            b"ADDRESS FUNCTION KIND MENDED FILL TEXT\n",
+        )
+    }
+
+    // Hears words, and reports what there is to report. If they are the one that is heard for a run of characters that is no
+    // word, the run is reported and not the word. Each turn tells how many words it took.
+    pub(crate) fn hear(&mut self, run: Option<WrongRun>, words: &[u32]) -> Result<()> {
+        let mut left = words;
+        while !left.is_empty() {
+            let heard = hear(self.reader, left, &mut self.memory.words);
+            self.report_heard(run, heard)?;
+            left = rest(left, heard.taken);
+        }
+        Ok(())
+    }
+
+    // Reports what was heard up to a word.
+    fn report_heard(&mut self, run: Option<WrongRun>, heard: PocsagHeard) -> Result<()> {
+        self.reader = heard.reader;
+        self.totals.words = self.totals.words.saturating_add(heard.taken as u64);
+        self.report_page(heard.page)?;
+        if heard.number == 0 {
+            return Ok(());
+        }
+        self.report_word(run, heard.number)
+    }
+
+    // Reports a page, if one ended.
+    fn report_page(&mut self, page: PocsagPage) -> Result<()> {
+        if page.is_ended == 0 {
+            return Ok(());
+        }
+        self.report_waiting()?;
+        put_ended(&mut self.writer, page, self.options, &mut self.memory)?;
+        self.totals.count_page(page);
+        Ok(())
+    }
+
+    // Reports the word that was heard last, which is refused.
+    fn report_word(&mut self, run: Option<WrongRun>, number: u32) -> Result<()> {
+        let word = self.totals.words.saturating_sub(1);
+        self.totals.refused_words = self.totals.refused_words.saturating_add(1);
+        match run {
+            Some(run) => {
+                self.report_waiting()?;
+                report_run(&mut self.writer, run, word, self.options.is_explained)
+            }
+            None => self.report_later(number, word),
+        }
+    }
+
+    // Keeps a word to be reported, after those that are kept or as the first.
+    fn report_later(&mut self, number: u32, word: u64) -> Result<()> {
+        match self.waiting {
+            Some(row) if row.goes_on(number, word) => {
+                self.waiting = Some(Row { last: word, ..row });
+                Ok(())
+            }
+            _ => {
+                self.report_waiting()?;
+                self.waiting = Some(Row {
+                    unit: Unit::Word,
+                    first: word,
+                    last: word,
+                    number,
+                });
+                Ok(())
+            }
+        }
+    }
+
+    // Reports the refused words that are not reported yet, if there are any.
+    fn report_waiting(&mut self) -> Result<()>
+        ensures { OnOk result (Appends (W.contents self.old.writer) (W.contents self.new.writer) (waiting_told self.old.options.is_explained self.old.waiting)) }
+    {
+        match self.waiting.take() {
+            Some(row) => report_row(&mut self.writer, row, self.options.is_explained),
+            None => Ok(()),
+        }
+    }
+
+    // Reports the bytes that are left at the end of an input and make no word.
+    pub(crate) fn report_bytes(&mut self, token: Token, refusal: Refusal) -> Result<()> {
+        self.report_waiting()?;
+        let row = Row {
+            unit: Unit::Byte,
+            first: token.at,
+            last: token.place.saturating_sub(1),
+            number: refusal.number(),
+        };
+        report_row(&mut self.writer, row, self.options.is_explained)?;
+        self.totals.left = token.count;
+        Ok(())
+    }
+
+    // Reports what there is after the last word: the page that is still open, and the words that are not reported yet.
+    pub(crate) fn close(&mut self) -> Result<()> {
+        self.report_page(pocsag::close(self.reader))?;
+        self.report_waiting()?;
+        self.flush()
+    }
+
+    // Writes all that was kept.
+    pub(crate) fn flush(&mut self) -> Result<()>
+        ensures { Keeps (W.contents self.old.writer) (W.contents self.new.writer) }
+    {
+        flush(&mut self.writer)
+    }
+}
+
+// Hears words up to the first that has something to report.
+fn hear(reader: PocsagReader, words: &[u32], lent: &mut [u32]) -> PocsagHeard
+    requires { 0 < length words.now }
+    ensures { (0 < result.taken) × (result.taken ≤ length words.now) }
 {
-    if first == last {
-        return put_after(writer, one, first);
-    }
-    put_after(writer, several, first)?;
-    put_after(writer, to, last)
-}
-
-// Puts what a refusal means after what it is of, and how it is mended.
-fn put_meaning<W: Write>(writer: &mut W, number: u32, hint: &[u8]) -> Result<()>
-    ensures { OnOk result (Appends (W.contents writer.old) (W.contents writer.new) (meaning number hint.now)) }
-{
-    put(writer, b": ")?;
-    put_sentence(writer, number)?;
-    put(writer, hint)
-}
-
-// Puts the line of refused words.
-fn put_words<W: Write>(writer: &mut W, first: u64, last: u64, number: u32) -> Result<()>
-    ensures { OnOk result (Appends (W.contents writer.old) (W.contents writer.new) (words_line first last number)) }
-{
-    put_span(writer, b"WORD ", b"WORDS ", b" TO ", first, last)?;
-    put_line_end(writer, b" REFUSED ", number as u64)
-}
-
-// Puts what their refusal means, if that is asked for.
-fn put_words_meaning<W: Write>(
-    writer: &mut W,
-    options: Options,
-    first: u64,
-    last: u64,
-    number: u32,
-) -> Result<()>
-    ensures { OnOk result (Appends (W.contents writer.old) (W.contents writer.new) (words_meaning options.is_explained first last number)) }
-{
-    if !options.is_explained {
-        return Ok(());
-    }
-    put_span(writer, b"word ", b"words ", b" to ", first, last)?;
-    put_meaning(writer, number, b"\n")
-}
-
-// Tells the refused words that are not told yet, if there are any.
-pub(crate) fn tell_words<W: Write>(
-    course: Course,
-    options: Options,
-    writer: &mut W,
-) -> Result<Course> {
-    let number = course.run_number;
-    if number == 0 {
-        return Ok(course);
-    }
-    put_words(writer, course.run_first, course.run_last, number)?;
-    put_words_meaning(writer, options, course.run_first, course.run_last, number)?;
-    let mut next = course;
-    next.run_number = 0;
-    Ok(next)
-}
-
-// Puts the line of a run of characters that is no word.
-fn put_line<W: Write>(writer: &mut W, mark: Found) -> Result<()>
-    ensures { OnOk result (Appends (W.contents writer.old) (W.contents writer.new) (characters_line mark)) }
-{
-    put_after(writer, b"LINE ", mark.line)?;
-    put_after(writer, b" REFUSED ", mark.number as u64)?;
-    put_line_end(writer, b" ", mark.place)
-}
-
-// Puts what its refusal means, if that is asked for.
-fn put_line_meaning<W: Write>(
-    writer: &mut W,
-    options: Options,
-    mark: Found,
-    word: u64,
-) -> Result<()>
-    ensures { OnOk result (Appends (W.contents writer.old) (W.contents writer.new) (characters_meaning options.is_explained mark word)) }
-{
-    if !options.is_explained {
-        return Ok(());
-    }
-    put_after(writer, b"line ", mark.line)?;
-    put_after(writer, b", place ", mark.place)?;
-    put_meaning(writer, mark.number, b": a word is eight hexadecimal digits")?;
-    put_line_end(writer, b"; it stands as word ", word)
-}
-
-// Tells a run of characters that is no word.
-fn tell_line<W: Write>(
-    course: Course,
-    options: Options,
-    mark: Found,
-    word: u64,
-    writer: &mut W,
-) -> Result<Course> {
-    let before = tell_words(course, options, writer)?;
-    put_line(writer, mark)?;
-    put_line_meaning(writer, options, mark, word)?;
-    Ok(before)
-}
-
-// Counts a word as the last of those that are to be told, or as the first.
-fn tell_later<W: Write>(
-    course: Course,
-    options: Options,
-    number: u32,
-    word: u64,
-    writer: &mut W,
-) -> Result<Course> {
-    if (course.run_number == number) & (one_more(course.run_last) == word) {
-        let mut longer = course;
-        longer.run_last = word;
-        return Ok(longer);
-    }
-    let mut next = tell_words(course, options, writer)?;
-    next.run_number = number;
-    next.run_first = word;
-    next.run_last = word;
-    Ok(next)
-}
-
-// Tells a word that is refused.
-fn tell_word<W: Write>(
-    course: Course,
-    options: Options,
-    mark: Found,
-    number: u32,
-    word: u64,
-    writer: &mut W,
-) -> Result<Course> {
-    if number == 0 {
-        return Ok(course);
-    }
-    let mut counted = course;
-    counted.refused_words = one_more(course.refused_words);
-    if mark.number == 0 {
-        return tell_later(counted, options, number, word, writer);
-    }
-    tell_line(counted, options, mark, word, writer)
-}
-
-// Tells a page, if one ended.
-pub(crate) fn tell_page<W: Write>(
-    course: Course,
-    options: Options,
-    page: PocsagPage,
-    lent: &[u32],
-    text: &mut [u8],
-    writer: &mut W,
-) -> Result<Course> {
-    if page.is_ended == 0 {
-        return Ok(course);
-    }
-    let before = tell_words(course, options, writer)?;
-    put_ended(writer, page, options, lent, text)?;
-    let mut next = before;
-    next.pages = one_more(before.pages);
-    if page.number != 0 {
-        next.refused_pages = one_more(before.refused_pages);
-    }
-    Ok(next)
-}
-
-// So many more, as far as 64 bits can count.
-fn so_many_more(n: u64, more: usize) -> u64 {
-    if more as u64 <= u64::MAX - n {
-        n + more as u64
-    } else {
-        u64::MAX
-    }
-}
-
-// The number before, or 0.
-fn one_less(n: u64) -> u64 {
-    if n == 0 { 0 } else { n - 1 }
-}
-
-// Tells what was heard up to a word.
-fn tell_heard<W: Write>(
-    course: Course,
-    options: Options,
-    mark: Found,
-    heard: PocsagHeard,
-    lent: &[u32],
-    text: &mut [u8],
-    writer: &mut W,
-) -> Result<Course> {
-    let words = so_many_more(course.words, heard.taken);
-    let mut taken = course;
-    taken.reader = heard.reader;
-    taken.words = words;
-    let paged = tell_page(taken, options, heard.page, lent, text, writer)?;
-    tell_word(paged, options, mark, heard.number, one_less(words), writer)
-}
-
-// Hears the words from a place on, up to the first that has something to tell.
-fn hear_from(reader: PocsagReader, words: &[u32], at: usize, lent: &mut [u32]) -> PocsagHeard
-    requires { at < length words.now }
-    ensures { (0 < result.taken) × (at + result.taken ≤ length words.now) }
-{
-    pocsag::hear(reader, &words[at..], lent)
-}
-
-// Hears words, and tells what there is to tell. Where they are the one that stands for a run of characters that is no word,
-// the run is told and not the word.
-pub(crate) fn hear_words<W: Write>(
-    course: Course,
-    options: Options,
-    mark: Found,
-    words: &[u32],
-    lent: &mut [u32],
-    text: &mut [u8],
-    writer: &mut W,
-) -> Result<Course> {
-    let mut state = course;
-    let mut at = 0;
-    while at < words.len() {
-        let heard = hear_from(state.reader, words, at, lent);
-        state = tell_heard(state, options, mark, heard, lent, text, writer)?;
-        at += heard.taken;
-    }
-    Ok(state)
-}
-
-// Tells the bytes that are left where an input ends and make no word.
-pub(crate) fn tell_bytes<W: Write>(
-    course: Course,
-    options: Options,
-    token: Token,
-    number: u32,
-    writer: &mut W,
-) -> Result<Course> {
-    let mut next = tell_words(course, options, writer)?;
-    let first = token.at;
-    let last = one_less(token.place);
-    put_bytes(writer, first, last, number)?;
-    put_bytes_meaning(writer, options, first, last, number)?;
-    next.left = token.count;
-    Ok(next)
-}
-
-// Puts the line of bytes that make no word.
-fn put_bytes<W: Write>(writer: &mut W, first: u64, last: u64, number: u32) -> Result<()>
-    ensures { OnOk result (Appends (W.contents writer.old) (W.contents writer.new) (bytes_line first last number)) }
-{
-    put_span(writer, b"BYTE ", b"BYTES ", b" TO ", first, last)?;
-    put_line_end(writer, b" REFUSED ", number as u64)
-}
-
-// Puts what their refusal means, if that is asked for.
-fn put_bytes_meaning<W: Write>(
-    writer: &mut W,
-    options: Options,
-    first: u64,
-    last: u64,
-    number: u32,
-) -> Result<()>
-    ensures { OnOk result (Appends (W.contents writer.old) (W.contents writer.new) (bytes_meaning options.is_explained first last number)) }
-{
-    if !options.is_explained {
-        return Ok(());
-    }
-    put_span(writer, b"byte ", b"bytes ", b" to ", first, last)?;
-    put_meaning(writer, number, b": a word is four bytes\n")
+    pocsag::hear(reader, words, lent)
 }

@@ -1,10 +1,10 @@
 // What is written: each text goes to a writer, which keeps it until there is no room for more.
-ghost use Rattle.std.specs.Prelude.{◌++◌, take, OnOk};
-ghost use Rattle.std.specs.Fmt.{decimal};
+// The other programs have such functions of their own: each is one call of the library with a context, and one crate for them
+// would be no plainer.
+ghost use Rattle.std.specs.Prelude.{◌≡◌, take, drop, OnOk};
 ghost use Rattle.std.specs.Io.KnownBytes.{Appends, Keeps};
-ghost use Rattle.refusal.specs.Sentences.{sentence_at};
 ghost use Rattle.lister.specs.Lines.{shown_byte, shown};
-ghost use Rattle.pocsag_listing.specs.Said.{numbered, line_end};
+ghost use Rattle.pocsag_listing.specs.Said.{meaning};
 
 use anyhow::{Context, Result};
 use std::io::Write;
@@ -23,29 +23,25 @@ pub(crate) fn put<W: Write>(writer: &mut W, text: &[u8]) -> Result<()>
     writer.write_all(text).context("standard output")
 }
 
-// Puts so many bytes of a row, or all where it has no more.
-pub(crate) fn put_first<W: Write>(writer: &mut W, row: &[u8], count: usize) -> Result<()>
-    ensures { OnOk result (Appends (W.contents writer.old) (W.contents writer.new) (take count row.now)) }
+// The first of a row, so many or all if it has no more.
+pub(crate) fn first<T>(row: &[T], count: usize) -> &[T]
+    ensures { result.now ≡ take count row.now }
 {
-    if count < row.len() {
-        return put(writer, &row[..count]);
-    }
-    put(writer, row)
+    row.get(..count).unwrap_or(row)
 }
 
-// Puts a number in decimal digits.
-pub(crate) fn put_number<W: Write>(writer: &mut W, n: u64) -> Result<()>
-    ensures { OnOk result (Appends (W.contents writer.old) (W.contents writer.new) (decimal n)) }
+// The rest of a row, after so many.
+pub(crate) fn rest<T>(row: &[T], count: usize) -> &[T]
+    ensures { result.now ≡ drop count row.now }
 {
-    write!(writer, "{n}").context("standard output")
+    row.get(count..).unwrap_or(&[])
 }
 
 // Puts a byte as it is shown.
 fn put_byte<W: Write>(writer: &mut W, byte: u8) -> Result<()>
     ensures { OnOk result (Appends (W.contents writer.old) (W.contents writer.new) (shown_byte byte)) }
 {
-    let shown = pocsag_lister::shown_byte(byte);
-    put_first(writer, &shown.bytes, shown.size)
+    put(writer, pocsag_lister::shown_byte(byte).as_slice())
 }
 
 // Puts a text as it is shown.
@@ -58,36 +54,10 @@ pub(crate) fn put_shown<W: Write>(writer: &mut W, text: &[u8]) -> Result<()>
     Ok(())
 }
 
-// Puts so many bytes of a text as they are shown, or all where it has no more.
-pub(crate) fn put_first_shown<W: Write>(writer: &mut W, text: &[u8], count: usize) -> Result<()>
-    ensures { OnOk result (Appends (W.contents writer.old) (W.contents writer.new) (shown (take count text.now))) }
-{
-    if count < text.len() {
-        return put_shown(writer, &text[..count]);
-    }
-    put_shown(writer, text)
-}
-
-// Puts a number after a text.
-pub(crate) fn put_after<W: Write>(writer: &mut W, text: &[u8], n: u64) -> Result<()>
-    ensures { OnOk result (Appends (W.contents writer.old) (W.contents writer.new) (numbered text.now n)) }
-{
-    put(writer, text)?;
-    put_number(writer, n)
-}
-
-// Puts a number after a text, and ends the line.
-pub(crate) fn put_line_end<W: Write>(writer: &mut W, text: &[u8], n: u64) -> Result<()>
-    ensures { OnOk result (Appends (W.contents writer.old) (W.contents writer.new) (line_end text.now n)) }
-{
-    put_after(writer, text, n)?;
-    put(writer, b"\n")
-}
-
-// Puts what a refusal means.
-pub(crate) fn put_sentence<W: Write>(writer: &mut W, number: u32) -> Result<()>
-    ensures { OnOk result (Appends (W.contents writer.old) (W.contents writer.new) (sentence_at number)) }
+// Puts what a refusal means after what it is of, and what there is to add.
+pub(crate) fn put_meaning<W: Write>(writer: &mut W, number: u32, hint: &str) -> Result<()>
+    ensures { OnOk result (Appends (W.contents writer.old) (W.contents writer.new) (meaning number hint.now)) }
 {
     let sentence = refusal::in_words(number);
-    put_first(writer, &sentence.bytes, sentence.length)
+    write!(writer, ": {sentence}{hint}").context("standard output")
 }

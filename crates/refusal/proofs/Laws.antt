@@ -19,7 +19,7 @@ use Rattle.refusal.specs.declared.Refusal.TheVariants.{DigitBeforeLetter, Leadin
 use Rattle.refusal.specs.Told.{number_of, number_unless, Told, told, refused, refused_at, given, ask, number_told, written_by}
 
 -- the refusal of a number; in the places of 0 and of 22 to 24, which no refusal has, stands Room
-abbrev of_number : ℕ → Refusal
+abbrev pub of_number : ℕ → Refusal
 of_number n =
     get_or
     (Room ∷ Room ∷ State ∷ Text ∷ «Type» ∷ Range ∷ Offset ∷ Packet ∷ Address ∷ Size ∷ Damaged ∷ Checksum ∷ Full

@@ -1,8 +1,6 @@
 -- The sentences for people: what a refusal means, and where a CAPCODE's text goes wrong. They stand here and nowhere else.
-use Rattle.std.specs.Prelude.{ℕ, zero, suc, ◌-◌, Bool, List, [], ◌∷◌, ◌++◌, eqb, length, get_or, take, drop, replicate}
-use Rattle.laws.specs.Lists.{first_that}
+use Rattle.std.specs.Prelude.{ℕ, List, [], ◌∷◌, get_or}
 use Rattle.laws.specs.Texts.{bytes_of}
-use Rattle.refusal.specs.declared.Sentence.{Sentence}
 
 -- a row of the table: row n is that of refusal n up to 39, some of which have no sentence yet; the rows from 40 on are those of a text that goes wrong
 unfoldable pub sentences : List (List ℕ)
@@ -51,35 +49,3 @@ sentences =
 -- the sentence of a row; none where the table has no such row
 abbrev pub sentence_at : ℕ → List ℕ
 sentence_at row = get_or sentences row []
-
--- a sentence in 96 places, zeros after it, and how many bytes it has
-abbrev pub in_places : List ℕ → Sentence
-in_places sentence = record { bytes = sentence ++ replicate (96 - length sentence) 0; length = length sentence }
-
--- ---- pieces: how a row is found in the table
-
--- whether a byte is a line feed, which ends a row
-abbrev pub is_feed : ℕ → Bool
-is_feed byte = eqb byte 10
-
--- how many bytes of a text stand before its first line feed; all of them where it has none
-abbrev pub line_end : List ℕ → ℕ
-line_end text = first_that is_feed text
-
--- the first line of a text, without its line feed
-abbrev pub first_line : List ℕ → List ℕ
-first_line text = take (line_end text) text
-
--- what a text has after its first line
-abbrev pub after_line : List ℕ → List ℕ
-after_line text = drop (suc (line_end text)) text
-
--- what a text has after so many lines
-unfoldable pub lines_from : ℕ → List ℕ → List ℕ
-lines_from zero text = text
-lines_from (suc n) text = lines_from n (after_line text)
-
--- rows as one text, a line feed after each
-unfoldable pub joined : List (List ℕ) → List ℕ
-joined [] = []
-joined (row ∷ rows) = row ++ 10 ∷ joined rows

@@ -1,5 +1,5 @@
 -- How every answer is told: 01's number, and the values that come with it.
-use Rattle.std.specs.Prelude.{ℕ, List, [], ◌∷◌, Bool, true, false, eqb, get_or}
+use Rattle.std.specs.Prelude.{ℕ, List, [], ◌∷◌, Bool, true, false, eqb, get_or, Result, Ok, Err}
 use Rattle.laws.specs.Choice.{pick}
 use Rattle.laws.specs.Lists.{put}
 use Rattle.refusal.specs.declared.Refusal.{Refusal}
@@ -80,6 +80,16 @@ number_told (told n values) = n
 -- one of the values that are told, 0 where it is not told
 abbrev pub value_told : Told → ℕ → ℕ
 value_told (told n values) place = get_or values place 0
+
+-- how what the code answers is told: what it gives, as values, or its refusal
+abbrev pub told_by : {A : Type 0} → (A → List ℕ) → Result A Refusal → Told
+told_by values (Ok a) = given (values a)
+told_by values (Err r) = refused r
+
+-- the number of what the code answers: 0, or its refusal's
+abbrev pub number_by : {A : Type 0} → Result A Refusal → ℕ
+number_by (Ok a) = 0
+number_by (Err r) = number_of r
 
 -- what a lent buffer holds after an answer: the text at its start, or after a refusal what it held
 abbrev pub written_by : Told → List ℕ → List ℕ → List ℕ

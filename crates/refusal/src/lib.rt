@@ -10,92 +10,56 @@ mod sentences;
 
 pub use sentences::in_words;
 
-// A sentence for a person: so many bytes, and zeros after them.
-#[derive(Clone, Copy)]
-pub struct Sentence {
-    pub bytes: [u8; 96],
-    pub length: usize,
-}
-
-impl Sentence {
-    // Rows of the table that tell where a CAPCODE's text goes wrong, and how to mend it.
-    pub const EMPTY_LINE: u32 = 40;
-
-    pub const NO_LETTER: u32 = 41;
-
-    pub const TOO_FEW_OF_SEVEN: u32 = 42;
-
-    pub const TOO_FEW_OF_TEN: u32 = 43;
-
-    pub const TOO_MANY_OF_SEVEN: u32 = 44;
-
-    pub const TOO_MANY_OF_TEN: u32 = 45;
-
-    pub const BYTE_ORDER_MARK: u32 = 46;
-
-    pub const BLANK_AT_THE_END: u32 = 47;
-
-    pub const BLANK: u32 = 48;
-
-    pub const LOWER_CASE: u32 = 49;
-
-    pub const LETTER_O: u32 = 50;
-
-    pub const DIGITS_BEFORE: u32 = 51;
-
-    pub const CHARACTER: u32 = 52;
-}
-
 // One refusal. When each is given is said by 01's table, and from 19 on by 02; the order in which several are asked is in
 // specs/Told.
-#[derive(Clone, Copy)]
+#[derive(Clone, Copy, Debug, PartialEq, Eq)]
 pub enum Refusal {
     // A lent buffer is too short for what is to stand in it.
-    Room,
+    Room = 1,
     // A register or a record that was handed back is outside its limits.
-    State,
+    State = 2,
     // A CAPCODE text that is not in the form, and the byte where it goes wrong is no digit; a letter that no CAPCODE has.
-    Text,
+    Text = 3,
     // A CAPCODE of an all-phase letter, I to L or Z.
-    Type,
+    Type = 4,
     // An address, or words, of no accepted range.
-    Range,
+    Range = 5,
     // An address below the offset of its letter.
-    Offset,
+    Offset = 6,
     // A packet that is not to be sent or of another kind, a field too large, a bit set that is printed as 0.
-    Packet,
+    Packet = 7,
     // An address number over 31.
-    Address,
+    Address = 8,
     // Too few or too many words, too many addresses, or a span outside the limits.
-    Size,
+    Size = 9,
     // A word in error.
-    Damaged,
+    Damaged = 10,
     // K is not the sum of the words.
-    Checksum,
+    Checksum = 11,
     // No slot or no call is free.
-    Full,
+    Full = 12,
     // A later fragment, or a drop, where no chain of its key is open.
-    NoChain,
+    NoChain = 13,
     // A fragment that is not the next one; an address, a vector or a word of a call that has it.
-    OutOfTurn,
+    OutOfTurn = 14,
     // A text that is longer than the room for it.
-    TooLong,
+    TooLong = 15,
     // The last fragment came, and the total is not that of the message.
-    Signature,
+    Signature = 16,
     // A vector or a word of no open call.
-    NoCall,
+    NoCall = 17,
     // A character that is not in the set or is over 7FH, or ETX in a text to write.
-    Character,
+    Character = 18,
     // A CAPCODE text that goes wrong at a digit before its letter.
-    DigitBeforeLetter,
+    DigitBeforeLetter = 19,
     // A CAPCODE text that begins with a 4, which no CAPCODE does: no digit means 4.
-    LeadingFour,
+    LeadingFour = 20,
     // A CAPCODE text that goes wrong at a digit after its letter, or stops too soon.
-    DigitAfterLetter,
+    DigitAfterLetter = 21,
     // A POCSAG word with more wrong bits than can be mended; a page with such a word in it.
-    BeyondRepair,
+    BeyondRepair = 25,
     // A POCSAG word that does not follow a sync word; a page whose end was not heard.
-    NoSync,
+    NoSync = 26,
 }
 
 impl Refusal {
@@ -103,34 +67,10 @@ impl Refusal {
     pub fn number(self) -> u32
         ensures { result ≡ number_of self }
     {
-        match self {
-            Refusal::Room => 1,
-            Refusal::State => 2,
-            Refusal::Text => 3,
-            Refusal::Type => 4,
-            Refusal::Range => 5,
-            Refusal::Offset => 6,
-            Refusal::Packet => 7,
-            Refusal::Address => 8,
-            Refusal::Size => 9,
-            Refusal::Damaged => 10,
-            Refusal::Checksum => 11,
-            Refusal::Full => 12,
-            Refusal::NoChain => 13,
-            Refusal::OutOfTurn => 14,
-            Refusal::TooLong => 15,
-            Refusal::Signature => 16,
-            Refusal::NoCall => 17,
-            Refusal::Character => 18,
-            Refusal::DigitBeforeLetter => 19,
-            Refusal::LeadingFour => 20,
-            Refusal::DigitAfterLetter => 21,
-            Refusal::BeyondRepair => 25,
-            Refusal::NoSync => 26,
-        }
+        self as u32
     }
 
-    // The number told: this refusal's unless the test holds.
+    // The number told: this refusal's unless the test holds. It stays as it is, since docs/PROMISES.md names it.
     pub fn unless(self, good: bool) -> u32
         ensures { result ≡ number_unless self good }
     {
@@ -141,7 +81,7 @@ impl Refusal {
     }
 }
 
-// A number told with an answer: itself, and 0 after a refusal.
+// A number told with an answer: itself, and 0 where it is not told, as the fields of the C interface are.
 pub fn kept(good: bool, number: u32) -> u32
     ensures { result ≡ kept good number }
 {

@@ -1,5 +1,10 @@
 -- All words of a row asked at once: whether each is below a power of two is asked of their bits taken together.
-use Rattle.std.proofs.Common.{◌≡◌, ℕ, ◌+◌, ◌^◌, ◌<◌, Bool, true, false, ◌&&◌, ltb, List, length, get_or, drop, refl, arith, ltb-false, ltb-true, le-ltb, lt-ltb}
+use Rattle.std.proofs.Common.{◌≡◌, ℕ, ◌+◌, ◌/◌, ◌^◌, ◌<◌, ◌≤◌, sym, nat_eq, Bool, true, false, ◌&&◌, ltb, List, length, get_or, drop, refl, arith, ltb-false, ltb-true, le-ltb, lt-ltb, ◌∙◌}
+use borrow.Author.Tests.{eq-eqb, ne_eqb, le-leb}
+use native.Mathlib.Nat.{div-eq_of_lt, pow-le-pow_right}
+use Rattle.std.proofs.lemmas.Nat.{le-div}
+use lib.Dec.{leb}
+use lib.Pow.{pow_pos}
 use lib.Bits.{bit_or, or_lt, or_add_and, and_le_l, and_le_r}
 use Rattle.laws.specs.Numerals.{are_digits}
 use Rattle.laws.proofs.Rows.{all_turn}
@@ -18,3 +23,19 @@ module _ (k : ℕ) (row : List ℕ) (bits i : ℕ) where
   pub asked_more : i < length row
       → (ltb (bit_or bits (get_or row i 0)) (2 ^ k) && are_digits (2 ^ k) (drop (i + 1) row)) ≡ (ltb bits (2 ^ k) && are_digits (2 ^ k) (drop i row))
   asked_more within = rw (or_below k bits (get_or row i 0)) (all_turn (λ digit. ltb digit (2 ^ k)) row i (ltb bits (2 ^ k)) within)
+
+-- a number fits so many bits exactly if nothing is left of it without them
+pub nothing_left : (k n : ℕ) → nat_eq (n / 2 ^ k) 0 ≡ ltb n (2 ^ k)
+nothing_left k n = by_test (ltb n (2 ^ k)) refl
+  where
+    by_test : (fits : Bool) → ltb n (2 ^ k) ≡ fits → nat_eq (n / 2 ^ k) 0 ≡ fits
+    by_test true e = eq-eqb (n / 2 ^ k) 0 (div-eq_of_lt (ltb-true n (2 ^ k) e))
+    by_test false e =
+        let some : 1 ≤ n / 2 ^ k = le-div 1 n (2 ^ k) (pow_pos k) (omega (arith, ltb-false n (2 ^ k) e)) in
+        ne_eqb (n / 2 ^ k) 0 (λ none. omega arith)
+
+-- a number of 32 bits fits any more
+pub wide_fits : (k n : ℕ) → 32 ≤ k → n < 2 ^ 32 → leb 32 k ≡ ltb n (2 ^ k)
+wide_fits k n wide fits =
+    let far : 2 ^ 32 ≤ 2 ^ k = pow-le-pow_right (omega arith) wide in
+    le-leb 32 k wide ∙ sym (lt-ltb n (2 ^ k) (omega arith))

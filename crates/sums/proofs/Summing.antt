@@ -1,7 +1,8 @@
 -- A row summed from the front, with more bits than are asked for; K as 0; how many bits of a sum are asked for.
-use Rattle.std.proofs.Common.{◌≡◌, ℕ, ◌+◌, ◌*◌, ◌/◌, ◌%◌, ◌^◌, ◌<◌, ◌≤◌, List, [], ◌∷◌, length, get_or, drop, sym, refl, ap, ◌∙◌, ap₂, lt_of_le_of_lt, add-zero, add_assoc, mod-eq_of_lt, div-mul-le_self, add-one, arith, drop_of_length-le}
+use Rattle.std.proofs.Common.{◌≡◌, ℕ, ◌+◌, ◌*◌, ◌/◌, ◌%◌, ◌^◌, ◌<◌, ◌-◌, ◌≤◌, List, [], ◌∷◌, length, get_or, take, drop, sym, refl, ap, ◌∙◌, ap₂, lt_of_le_of_lt, add-zero, add_assoc, mod-eq_of_lt, div-mul-le_self, add-one, arith, drop_of_length-le}
 use native.Mathlib.Nat.{mod-add-mod}
 use lib.Pow.{mod-mod-pow}
+use lib.Seq.{take_all}
 use Rattle.laws.specs.Lists.{sum_by}
 use Rattle.laws.proofs.Rows.{sum_from}
 use Rattle.sums.specs.Sums.{groups_of, binary_sum, unkeyed, folded}
@@ -29,10 +30,10 @@ cleared_fits held word fits = mod-eq_of_lt (lt_of_le_of_lt (div-mul-le_self word
 
 -- K as 0 changes the first word alone
 pub unkeyed_sum : (held : ℕ) (words : List ℕ) → 0 < length words → get_or words 0 0 < 2 ^ 32
-    → groups_of (get_or words 0 0 / 2 ^ held * 2 ^ held % 2 ^ 32) + binary_sum (drop 1 words) ≡ binary_sum (unkeyed held words)
+    → groups_of (get_or words 0 0 / 2 ^ held * 2 ^ held % 2 ^ 32) + binary_sum (take (length words - 1) (drop 1 words)) ≡ binary_sum (unkeyed held words)
 unfolding sum_by
 unkeyed_sum held [] some fits = absurd (omega arith)
-unkeyed_sum held (first ∷ rest) some fits = rw (cleared_fits held first fits)
+unkeyed_sum held (first ∷ rest) some fits = rw (cleared_fits held first fits, take_all (length (first ∷ rest) - 1) rest (omega arith))
 
 -- no word has no sum
 pub empty_sum : (held : ℕ) (words : List ℕ) → length words ≡ 0 → binary_sum (unkeyed held words) ≡ 0

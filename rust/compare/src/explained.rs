@@ -58,14 +58,13 @@ pub fn compare(listing: &[String], count: u64, seed: u64) -> Result<String, Stri
     ))
 }
 
-/// The rows of the table, from the text of its source: there a row ends with a
-/// line feed that is written out, and the next one stands in a line of its own.
+/// The rows of the table, from the text of its source: each is a text in a line of its own.
 fn sentences_of(source: &str) -> Option<Vec<String>> {
-    let (_, after_name) = source.split_once("\nconst TABLE: ")?;
-    let (_, after_start) = after_name.split_once("= *b\"\\\n")?;
-    let (table, _) = after_start.split_once("\";")?;
-    let joined = table.replace("\\\n", "");
-    let rows: Vec<String> = joined.split_terminator("\\n").map(str::to_string).collect();
+    let (_, after_name) = source.split_once("\nconst SENTENCES: ")?;
+    let (_, after_start) = after_name.split_once("= [\n")?;
+    let (table, _) = after_start.split_once("];")?;
+    let row = |line: &str| Some(line.trim().strip_prefix('"')?.strip_suffix("\",")?.to_string());
+    let rows: Vec<String> = table.lines().map(row).collect::<Option<_>>()?;
     let has_words = |row: usize| rows.get(row).is_some_and(|words| !words.is_empty());
     ROWS.into_iter().all(has_words).then_some(rows)
 }

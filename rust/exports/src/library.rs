@@ -58,7 +58,7 @@ const GROUPS: [(&str, &str, &str, &str); 9] = [
 ];
 
 /// The file of the sentences for people, and the constant in it that is their table, a line for each.
-const SENTENCES: (&str, &str) = ("crates/refusal/src/sentences.rt", "TABLE");
+const SENTENCES: (&str, &str) = ("crates/refusal/src/sentences.rt", "SENTENCES");
 
 /// The name, what it is, and the crate and constant that it is.
 const LIMITS: [(&str, &str, &str, &str); 6] = [
@@ -201,10 +201,10 @@ pub fn group(tree: &Tree, of: &str, owner: &str) -> Result<Vec<Constant>, String
     Ok(own)
 }
 
-/// The text of a table's row, from its line in the source, where a line feed is written after it. It is one that any
-/// language writes as it is, and has no blank before it, which would not be part of the table.
+/// The text of a table's row, from its line in the source. It is one that any language writes as it is, and has no blank
+/// before it.
 fn plain_row(line: &str) -> Option<&str> {
-    let row = line.strip_suffix("\\n\\").or(line.strip_suffix("\\n\";"))?;
+    let row = line.strip_prefix('"')?.strip_suffix("\",")?;
     let is_plain = row.bytes().all(|byte| matches!(byte, b' '..=b'~') && !matches!(byte, b'\\' | b'"'));
     (is_plain && !row.starts_with(' ')).then_some(row)
 }

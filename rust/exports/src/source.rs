@@ -68,7 +68,7 @@ pub struct Source {
     pub items: BTreeSet<String>,
     pub structs: Vec<Struct>,
     pub constants: Vec<Constant>,
-    /// The lines of a constant that is a text, as they are written, by its name.
+    /// The lines of a constant that is a row of texts, as they are written, by its name.
     pub texts: BTreeMap<String, Vec<String>>,
     pub functions: Vec<Function>,
     /// The comment of an enum's variant, by `Enum::Variant`.
@@ -79,14 +79,14 @@ pub struct Source {
 const EXPORT: &str = "pub extern \"C\" fn ";
 const KEEPS_NAME: &str = "#[unsafe(no_mangle)]";
 
-/// How the first line of a constant ends that is a text, whose own lines follow.
-const TEXT: &str = " = *b\"\\";
+/// How the first line of a constant ends that is a row of texts, which follow, a line each.
+const TEXTS: &str = "] = [";
 
-/// How the last line of such a text ends.
-const TEXT_END: &str = "\";";
+/// The line that ends such a row.
+const TEXTS_END: &str = "];";
 
 /// How the lines of items begin that have a name, without their `pub`.
-const ITEMS: [&str; 7] = ["struct ", "enum ", "const fn ", "const ", "fn ", "extern \"C\" fn ", "type "];
+const ITEMS: [&str; 8] = ["struct ", "enum ", "trait ", "const fn ", "const ", "fn ", "extern \"C\" fn ", "type "];
 
 /// A number as it is written in the source.
 pub fn number(text: &str) -> Option<u64> {
@@ -184,17 +184,21 @@ impl Reader<'_> {
         Ok(())
     }
 
-    /// An enum stays in Rattle; what is said of its variants goes with their numbers.
+    /// An enum stays in Rattle; what is said of its variants goes with their numbers, which stand beside them or in an arm.
     fn enumeration(&mut self, name: &str) {
         self.comment.clear();
         for line in self.lines.by_ref().take_while(|line| *line != "}") {
-            match line.trim().strip_prefix("//") {
-                Some(comment) => self.comment.push(comment.trim().to_string()),
-                None => {
-                    let variant = format!("{name}::{}", line.trim().trim_end_matches(','));
-                    self.read.variants.insert(variant, std::mem::take(&mut self.comment));
-                }
+            let line = line.trim().trim_end_matches(',');
+            if let Some(comment) = line.strip_prefix("//") {
+                self.comment.push(comment.trim().to_string());
+                continue;
             }
+            let (variant, value) = line.split_once(" = ").unwrap_or((line, ""));
+            if let Some(value) = number(value) {
+                let (of, comment) = (Some(name.to_string()), Vec::new());
+                self.read.constants.push(Constant { of, name: variant.to_string(), comment, value });
+            }
+            self.read.variants.insert(format!("{name}::{variant}"), std::mem::take(&mut self.comment));
         }
     }
 
@@ -209,23 +213,16 @@ impl Reader<'_> {
         Ok(())
     }
 
-    /// The lines of a text, with the one that ends it.
-    fn text(&mut self) -> Vec<String> {
-        let mut lines = Vec::new();
-        for line in self.lines.by_ref() {
-            lines.push(line.to_string());
-            if line.ends_with(TEXT_END) {
-                break;
-            }
-        }
-        lines
+    /// The lines of a row of texts.
+    fn texts(&mut self) -> Vec<String> {
+        self.lines.by_ref().take_while(|line| *line != TEXTS_END).map(|line| line.trim().to_string()).collect()
     }
 
-    /// `NAME: type = value;`, where the value is a number or a text.
+    /// `NAME: type = value;`, where the value is a number or a row of texts.
     fn constant(&mut self, text: &str) {
         let comment = self.comment();
-        if let Some((name, _)) = text.strip_suffix(TEXT).and_then(|first| first.split_once(':')) {
-            let lines = self.text();
+        if let Some((name, _)) = text.strip_suffix(TEXTS).and_then(|first| first.split_once(": [&str; ")) {
+            let lines = self.texts();
             self.read.texts.insert(name.to_string(), lines);
             return;
         }
@@ -415,18 +412,18 @@ mod tests {
 
     #[test]
     fn only_what_belongs_to_a_type_is_its_number() {
-        let text = "impl Kind {\n            Kind::First => 1,\n            Other::First => 2,\n}\n\n\
+        let text = "enum Beside {\n    One = 0x10,\n    None,\n}\n\nimpl Kind {\n            Kind::First => 1,\n            Other::First => 2,\n}\n\n\
             fn inside() -> u32 {\n    const WITHIN: u32 = 3;\n            Kind::Second => 4,\n}\n";
         let read = read(text).unwrap();
         let numbers: Vec<(&str, u64)> = read.constants.iter().map(|known| (&known.name[..], known.value)).collect();
-        assert_eq!(numbers, [("First", 1)]);
+        assert_eq!(numbers, [("One", 16), ("First", 1)]);
     }
 
     #[test]
     fn the_lines_of_a_text_are_no_items() {
-        let text = "const TABLE: [u8; 9] = *b\"\\\n\\n\\\nmod none\\n\\\n// none\\n\";\n\nconst AFTER: u32 = 5;\n";
+        let text = "const TABLE: [&str; 3] = [\n    \"\",\nmod none\n    \"// none\",\n];\n\nconst AFTER: u32 = 5;\n";
         let read = read(text).unwrap();
-        assert_eq!(read.texts["TABLE"], ["\\n\\", "mod none\\n\\", "// none\\n\";"]);
+        assert_eq!(read.texts["TABLE"], ["\"\",", "mod none", "\"// none\","]);
         assert_eq!((read.modules.len(), read.constants.len(), read.constants[0].value), (0, 1, 5));
         assert_eq!(read.items.iter().collect::<Vec<_>>(), ["AFTER", "TABLE"]);
     }

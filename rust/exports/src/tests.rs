@@ -217,7 +217,7 @@ const REFUSALS: &str = "// Refusals.\nmod sentences;\n\npub enum Refusal {\n    
 
 /// The sentences of a table whose lines in the source these are.
 fn sentences_of(table: &str) -> Result<Vec<String>, String> {
-    let table = format!("// Sentences.\nconst TABLE: [u8; 50] = *b\"\\\n{table}\n\nfn after() {{\n}}\n");
+    let table = format!("// Sentences.\nconst SENTENCES: [&str; 5] = [\n{table}];\n\nfn after() {{\n}}\n");
     sentences_beside(&[("refusal/src/lib.rt", REFUSALS), ("refusal/src/sentences.rt", &table)])
 }
 
@@ -229,7 +229,7 @@ fn sentences_beside(files: &[(&str, &str)]) -> Result<Vec<String>, String> {
 
 #[test]
 fn a_refusal_has_its_sentence_at_the_place_of_its_number() {
-    let table = "\\n\\\nthe text's room is too short\\n\\\nuse no // such state\\n\\\n\\n\\\nwrite \\n\";";
+    let table = "    \"\",\n    \"the text's room is too short\",\n    \"use no // such state\",\n    \"\",\n    \"write \",\n";
     let sentences = sentences_of(table).unwrap();
     assert_eq!(sentences, ["", "the text's room is too short", "use no // such state"]);
     let part = module("Sums.", "", "mortisevane_sum(word: u32) -> u32");
@@ -243,23 +243,23 @@ fn a_refusal_has_its_sentence_at_the_place_of_its_number() {
 #[test]
 fn a_table_that_does_not_tell_each_refusal_is_refused() {
     let path = "crates/refusal/src/sentences.rt";
-    let missing = format!("{path}: there is no table TABLE of the sentences for people");
+    let missing = format!("{path}: there is no table SENTENCES of the sentences for people");
     let without = REFUSALS.replace("mod sentences;\n", "");
     assert_eq!(sentences_beside(&[("refusal/src/lib.rt", &without)]), Err(missing.clone()));
-    let number = "// Sentences.\nconst TABLE: u32 = 5;\n";
+    let number = "// Sentences.\nconst SENTENCES: u32 = 5;\n";
     let files = [("refusal/src/lib.rt", REFUSALS), ("refusal/src/sentences.rt", number)];
     assert_eq!(sentences_beside(&files), Err(missing));
-    let silent = Err(format!("{path}: refusal 2, State, has no sentence in TABLE"));
-    assert_eq!(sentences_of("\\n\\\ntoo short\\n\";"), silent);
-    assert_eq!(sentences_of("\\n\\\ntoo short\\n\\\n\\n\\\nwrite\\n\";"), silent);
+    let silent = Err(format!("{path}: refusal 2, State, has no sentence in SENTENCES"));
+    assert_eq!(sentences_of("\"\",\n\"too short\",\n"), silent);
+    assert_eq!(sentences_of("\"\",\n\"too short\",\n\"\",\n\"write\",\n"), silent);
 }
 
 #[test]
 fn a_row_that_is_not_plain_text_is_refused() {
     let rows = ["a \\x41", "a \\\"word\\\"", "a\ttab", "no caf\u{e9}", " a blank before it", "two\\nrows"];
-    for row in rows.map(|row| format!("{row}\\n\\")).iter().map(String::as_str).chain(["no line feed\\", ""]) {
-        let told = sentences_of(&format!("\\n\\\ntoo short\\n\\\n{row}\nno state\\n\";")).unwrap_err();
-        assert_eq!(told, format!("crates/refusal/src/sentences.rt: row 2 of TABLE is not plain text: {row}"));
+    for row in rows.map(|row| format!("\"{row}\",")).iter().map(String::as_str).chain(["\"no end", "no text,"]) {
+        let told = sentences_of(&format!("\"\",\n\"too short\",\n{row}\n\"no state\",\n")).unwrap_err();
+        assert_eq!(told, format!("crates/refusal/src/sentences.rt: row 2 of SENTENCES is not plain text: {row}"));
     }
 }
 

@@ -7,15 +7,16 @@ use native.Mathlib.Nat.{zero-add}
 use native.Mathlib.Numerals.{add-one}
 use native.Mathlib.Omega.{arith}
 use borrow.Author.Tests.{lt-ltb, le-ltb}
-use lib.Dec.{eqb}
 use lib.ListN.{length, get_or, take, length-append}
 use lib.Seq.{length-take-le, take-suc, take_all}
 use Rattle.laws.specs.Choice.{pick}
 use Rattle.laws.specs.Lists.{those}
 use Rattle.laws.proofs.Lists.{those_snoc, those_most}
 use Rattle.laws.proofs.Writing.{put_one, put_on}
+use Rattle.refusal.specs.declared.Refusal.{Refusal}
 use Rattle.refusal.specs.declared.Refusal.TheVariants.{Room, State}
-use Rattle.refusal.specs.Told.{Told, refused, given, number_told}
+use Rattle.refusal.specs.Told.{refused, given, number_told, number_of}
+use Rattle.refusal.proofs.Laws.{number_some}
 use Rattle.call.specs.declared.Call.{Call}
 use Rattle.call.specs.declared.Calls.{Calls}
 use Rattle.call.specs.Calls.{blank, fresh, opens, sound}
@@ -71,12 +72,17 @@ module _ (row : List Call) (memory : List ℕ) (i : ℕ) where
 -- ---- the lines of the answer
 
 module _ (s : Calls) (memory : List ℕ) where
-  -- what is listed, and the records then, are known by what is told
-  pub ended_so : (count : ℕ) (t : Told) → length s.calls ≡ count → end_of s memory ≡ t
-      → as_end t (pick (eqb (number_told t) 0) (listed count (incomplete_in (opens s) memory)) (fresh count)) (pick (eqb (number_told t) 0) (fresh count) s)
-      ≡ as_end (end_of s memory) (ended_with s memory) (ended_in s memory)
+  -- where nothing is refused, the incomplete calls are listed, and no call is open then
+  pub ended_good : length s.calls ≡ 8 → 0 ≡ number_told (end_of s memory)
+      → record { number = 0; incomplete = listed 8 (incomplete_in (opens s) memory); calls = fresh 8 } ≡ as_end (end_of s memory) (ended_with s memory) (ended_in s memory)
   unfolding ended_with ended_in
-  ended_so count t many is = rw (many, is)
+  ended_good many none = rw (many, ← none)
+
+  -- where it is refused, none is listed, and the records stay
+  pub ended_refused : (r : Refusal) → length s.calls ≡ 8 → number_of r ≡ number_told (end_of s memory)
+      → record { number = number_of r; incomplete = fresh 8; calls = s } ≡ as_end (end_of s memory) (ended_with s memory) (ended_in s memory)
+  unfolding ended_with ended_in
+  ended_refused r many is = rw (many, ← is, number_some r)
 
   -- 2: the records are not sound
   pub end_unsound : sound (opens s) ≡ false → end_of s memory ≡ refused State

@@ -1,13 +1,12 @@
 -- 01's table, 2, slot by slot as the code asks it.
-use Prim.Native.Nat.{ℕ, ◌+◌, ◌-◌, ◌<◌}
+use Prim.Native.Nat.{ℕ, ◌+◌, ◌<◌}
 use mathlib.Core.Bool.{Bool, true, false, not, ◌&&◌}
 use mathlib.Core.List.{List}
 use mathlib.Core.Path.{◌≡◌, refl, ap}
-use native.Mathlib.Omega.{arith}
-use borrow.Author.Tests.{eq-eqb, ne_eqb, lt-ltb, le-ltb}
-use lib.ListN.{length, get_or, drop, length-drop}
+use borrow.Author.Tests.{eq-eqb, ne_eqb}
+use lib.ListN.{length, get_or, drop}
 use Rattle.chain.specs.declared.Chain.{Chain}
-use Rattle.chain.specs.Chains.{blank, is_open, is_sound, find, holds, sound}
+use Rattle.chain.specs.Chains.{blank, is_open, is_sound, holds, sound}
 use Rattle.chain.proofs.Records.{sound_from}
 
 -- an open slot whose key is met again spoils the row
@@ -21,15 +20,11 @@ leaves good opened met rest sane alone = rw (sane, alone)
 
 module _ (row : List Chain) (slot : ℕ) (within : slot < length row) where
   -- the record of the slot
-  abbrev here : Chain
+  abbrev pub here : Chain
   here = get_or row slot blank
 
-  -- the place where its key is found again; the row's length where it is not
-  abbrev pub Again : ℕ
-  Again = slot + 1 + find here.address here.message_number (drop (slot + 1) row)
-
   -- whether its key is found again
-  abbrev met : Bool
+  abbrev pub met : Bool
   met = holds here.address here.message_number (drop (slot + 1) row)
 
   -- a slot that is not sound: the row is not
@@ -42,20 +37,13 @@ module _ (row : List Chain) (slot : ℕ) (within : slot < length row) where
       rw (sound_from row slot within) (leaves (is_sound here) (is_open here) met (sound (drop (slot + 1) row)) good (rw (eq-eqb here.is_open 0 shut)))
 
   -- an open slot whose key is found after it: the row is not sound
-  pub twice : (here.is_open ≡ 0 → ⊥) → Again < length row → sound (drop slot row) ≡ false
+  pub twice : (here.is_open ≡ 0 → ⊥) → met ≡ true → sound (drop slot row) ≡ false
   twice opened found =
-      let left : length (drop (slot + 1) row) ≡ length row - (slot + 1) = length-drop (slot + 1) row in
       rw (sound_from row slot within)
-      (spoils (is_sound here) (is_open here) met (sound (drop (slot + 1) row)) (ap not (ne_eqb here.is_open 0 opened))
-      (lt-ltb (find here.address here.message_number (drop (slot + 1) row)) (length (drop (slot + 1) row)) (omega arith)))
+      (spoils (is_sound here) (is_open here) met (sound (drop (slot + 1) row)) (ap not (ne_eqb here.is_open 0 opened)) found)
 
   -- an open slot whose key is not found after it: those after it are still to be asked
-  pub alone : is_sound here ≡ true → (here.is_open ≡ 0 → ⊥) → Again ≡ length row → sound (drop slot row) ≡ sound (drop (slot + 1) row)
+  pub alone : is_sound here ≡ true → (here.is_open ≡ 0 → ⊥) → met ≡ false → sound (drop slot row) ≡ sound (drop (slot + 1) row)
   alone good opened none =
-      let left : length (drop (slot + 1) row) ≡ length row - (slot + 1) = length-drop (slot + 1) row in
       rw (sound_from row slot within)
-      (leaves (is_sound here) (is_open here) met (sound (drop (slot + 1) row)) good
-      (rw (
-        ne_eqb here.is_open 0 opened,
-        le-ltb (find here.address here.message_number (drop (slot + 1) row)) (length (drop (slot + 1) row)) (omega arith),
-      )))
+      (leaves (is_sound here) (is_open here) met (sound (drop (slot + 1) row)) good (rw (ne_eqb here.is_open 0 opened, none)))

@@ -2,21 +2,27 @@
 use Prim.Native.Nat.{ℕ, ◌*◌, ◌≤◌, ◌<◌}
 use mathlib.Core.Bool.{Bool, true, false}
 use mathlib.Core.List.{List, []}
-use mathlib.Core.Path.{◌≡◌, refl, ap, ◌∙◌}
+use mathlib.Core.Path.{◌≡◌, refl, sym, ap, ◌∙◌}
+use native.Mathlib.Omega.{arith}
 use borrow.Author.Tests.{ne_eqb, lt-ltb, le-ltb, le-leb, lt-leb}
 use lib.Dec.{eqb}
 use lib.ListN.{length}
 use Rattle.laws.specs.Choice.{pick}
+use Rattle.std.specs.Prelude.{Result, Ok, Err, IfOk, IfErr}
+use Rattle.refusal.specs.declared.Refusal.{Refusal}
 use Rattle.refusal.specs.declared.Refusal.TheVariants.{NoChain}
-use Rattle.refusal.specs.Told.{Told, told, given, ask, number_told}
+use Rattle.refusal.specs.Told.{Told, told, refused, given, ask, number_of, number_told, told_by}
+use Rattle.refusal.proofs.Laws.{number_positive}
+use Rattle.fragment.specs.declared.FragmentHeading.{FragmentHeading}
+use Rattle.fragment.specs.FlatAnswers.{of_heading, as_heading}
 use Rattle.fragment.specs.Answers.{heading_of}
-use Rattle.fragment.proofs.Laws.{accepted, good_passes, bad_stops}
+use Rattle.fragment.proofs.Laws.{accepted, good_passes, bad_stops, heading_told_lem}
 use Rattle.chain.specs.declared.Chain.{Chain}
 use Rattle.chain.specs.declared.ChainStep.{ChainStep}
 use Rattle.chain.specs.Chains.{sound}
 use Rattle.chain.specs.Steps.{heading_in, row_after}
 use Rattle.chain.specs.Answers.{when_heard, step_of, chains_after, buffer_after, as_step}
-use Rattle.chain.specs.JoiningPieces.{orphan, join_of, joined_row, joined_bytes}
+use Rattle.chain.specs.JoiningPieces.{Heard, orphan, join_of, joined_row, joined_bytes}
 
 module _ (row : List Chain) (address : ℕ) (words : List ℕ) where
   module _ (lent : ℕ) where
@@ -65,6 +71,28 @@ module _ (row : List Chain) (address : ℕ) (words : List ℕ) where
         → as_step (told n []) row ≡ as_step (step_of lent row address words) (chains_after lent row address words)
     unfolding step_of chains_after
     early n some stops = rw (stops _, stops (given []), ne_eqb n 0 some)
+
+  module _ (lent : ℕ) (room : length row * 1008 ≤ lent) (right : sound row ≡ true) (small : address ≤ 31) where
+    -- a fragment that its own heading refuses is refused so
+    pub heard_refused : (r : Result FragmentHeading Refusal) → told_by of_heading r ≡ heading_of words
+        → IfErr r (λ e. (rest : Told) → when_heard lent row address words rest ≡ refused e)
+    heard_refused (Ok h) says = tt
+    heard_refused (Err e) says =
+        let number : number_of e ≡ number_told (heading_of words) = ap number_told says in
+        λ rest. no-fragment lent room right small (λ none. omega (arith, number, none, number_positive e)) rest ∙ ap (λ (n : ℕ). told n []) (sym number)
+
+    -- any other can be joined
+    pub heard_good : (r : Result FragmentHeading Refusal) → told_by of_heading r ≡ heading_of words → IfOk r (λ h. Heard lent row address words h)
+    heard_good (Err e) says = tt
+    heard_good (Ok h) says =
+        let good : number_told (heading_of words) ≡ 0 = ap number_told (sym says) in
+        record {
+          room = room;
+          right = right;
+          small = small;
+          good = good;
+          says = ap as_heading (says ∙ heading_told_lem words ((accepted words).0 good));
+        }
 
   module _ (buffer : List ℕ) (r : ChainStep) where
     -- a fragment that is refused before it is joined changes no record, and no byte

@@ -1,5 +1,6 @@
 -- A fragment written word by word, and fragments one after the other.
-use Rattle.std.proofs.Common.{◌≡◌, ℕ, zero, suc, ◌+◌, ◌-◌, ◌*◌, ◌<◌, ◌≤◌, min, Bool, true, List, [], ◌∷◌, ◌++◌, length, get_or, take, drop, set, sym, refl, ap, ◌∙◌, ⊎_elim, append-nil, eq-or-lt_of_le, mul-le-mul_left, div-le_self, add-one, arith, length-drop, drop_of_length-le, length-take, length-take-le}
+use Rattle.std.proofs.Common.{◌≡◌, ℕ, zero, suc, ◌+◌, ◌-◌, ◌*◌, ◌<◌, ◌≤◌, min, Bool, true, List, [], ◌∷◌, ◌++◌, length, get_or, take, drop, set, sym, refl, ap, ◌∙◌, ⊎_elim, append-nil, eq-or-lt_of_le, mul-le-mul_left, div-le_self, add-one, arith, length-drop, length-set, drop_of_length-le, length-take, length-take-le}
+use borrow.Rule.Slice.PartMut.{put_mid}
 use mathlib.Core.List.{flatten}
 use Rattle.laws.specs.Layouts.{fit, packed}
 use Rattle.laws.specs.Lists.{put}
@@ -35,12 +36,10 @@ module _ (row : List ℕ) where
       let none : size - i ≡ 0 = omega arith in
       rw none (sym (put_nothing words i))
 
--- words that fill all after the first
-after_first : (words others : List ℕ) → length words ≡ 1 + length others → put words 1 others ≡ get_or words 0 0 ∷ others
-after_first [] others e = absurd (omega arith)
-after_first (word ∷ words) others e =
-    ap (λ (rest : List ℕ). word ∷ (others ++ rest)) (drop_of_length-le (word ∷ words) {i = 1 + length others} (omega arith))
-    ∙ ap (λ (rest : List ℕ). word ∷ rest) (append-nil others)
+-- words that fill all of a part
+whole : (words others : List ℕ) → length words ≡ length others → put words 0 others ≡ others
+whole words others e =
+    ap (λ (rest : List ℕ). others ++ rest) (drop_of_length-le words {i = 0 + length others} (omega arith)) ∙ append-nil others
 
 -- so many words hold three times as many cells
 pub body_length : (row : List ℕ) (place size : ℕ) → place + 3 * size ≤ length row → length (words_of (take (3 * size) (drop place row))) ≡ size
@@ -50,9 +49,21 @@ body_length row place size inside =
     omega (arith, words_length cells (omega arith))
 
 -- the words after the first of a fragment
-pub body_written : (row words : List ℕ) (place : ℕ) → 1 ≤ length words → place + 3 * (length words - 1) ≤ length row
-    → put words 1 (words_of (take (3 * (length words - 1)) (drop place row))) ≡ get_or words 0 0 ∷ words_of (take (3 * (length words - 1)) (drop place row))
-body_written row words place some inside = after_first words _ (omega (arith, body_length row place (length words - 1) inside))
+pub body_written : (row words : List ℕ) (place : ℕ) → place + 3 * length words ≤ length row
+    → put words 0 (words_of (take (3 * length words) (drop place row))) ≡ words_of (take (3 * length words) (drop place row))
+body_written row words place inside = whole words _ (sym (body_length row place (length words) inside))
+
+-- a first word stored, and the words after it written
+pub head_and_rest : (words others : List ℕ) (head : ℕ) → 1 ≤ length words
+    → put_mid 1 (length (set words 0 head) - 1) (set words 0 head) others ≡ head ∷ others
+head_and_rest [] others head some = absurd (omega arith)
+head_and_rest (word ∷ words) others head some =
+    ap (λ (rest : List ℕ). head ∷ (others ++ rest)) (drop_of_length-le words {i = suc (length words) - 1} (omega arith))
+    ∙ ap (λ (rest : List ℕ). head ∷ rest) (append-nil others)
+
+-- how many words are after the first
+pub rest_length : (words : List ℕ) (head : ℕ) → length (take (length (set words 0 head) - 1) (drop 1 (set words 0 head))) ≡ length words - 1
+rest_length words head = simp (length-take, length-drop, length-set) (omega arith)
 
 module _ (first : Bool) (head cells : List ℕ) (fits : fit (head_of first) (head ++ 0 ∷ []) ≡ true) where
   -- K below the numbers of the first word

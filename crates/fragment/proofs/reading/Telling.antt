@@ -45,6 +45,16 @@ module _ (words lent : List ℕ) where
         by_test true more = refl
         by_test false more = absurd (more refl)
 
+    -- and it is refused as that is
+    pub text_full : (number_told (text_of (length lent) words) ≡ 0 → ⊥) → text_of (length lent) words ≡ refused Room
+    unfolding text_of
+    text_full some = by_test (ltb (length lent) (length (text_in words))) some
+      where
+        by_test : (full : Bool) → (number_told (ask full Room (given (length (text_in words) ∷ []))) ≡ 0 → ⊥)
+            → ask full Room (given (length (text_in words) ∷ [])) ≡ refused Room
+        by_test true more = refl
+        by_test false more = absurd (more refl)
+
     -- a good fragment is told as its heading where its text is not refused
     pub read_given : number_told (text_of (length lent) words) ≡ 0 → read_of (length lent) words ≡ heading_of words
     read_given none =

@@ -1,5 +1,6 @@
 -- The cells of words: the text in them, how much it is, and their sum, word by word.
-use Rattle.std.proofs.Common.{◌≡◌, ℕ, ◌+◌, ◌-◌, ◌*◌, ◌/◌, ◌%◌, ◌<◌, ◌≤◌, Bool, true, false, not, eqb, List, [], ◌∷◌, ◌++◌, length, get_or, drop, refl, ap, ◌∙◌, add-one, arith, length-append, length-drop, drop_of_length-le, drop-cons, eq-eqb, ne_eqb}
+use Rattle.std.proofs.Common.{◌≡◌, ℕ, zero, suc, ◌+◌, ◌-◌, ◌*◌, ◌/◌, ◌%◌, ◌<◌, ◌≤◌, Bool, true, false, not, eqb, List, [], ◌∷◌, ◌++◌, length, get_or, take, drop, refl, ap, ◌∙◌, add-one, arith, length-append, drop_of_length-le, drop-cons, eq-eqb, ne_eqb}
+use Rattle.std.proofs.lemmas.Slice.{between_to_end}
 use Rattle.laws.specs.Choice.{pick, bit_of}
 use Rattle.laws.specs.Lists.{sum_by}
 use Rattle.laws.specs.Numerals.{digits}
@@ -8,7 +9,7 @@ use Rattle.laws.proofs.Rows.{sum_join}
 use Rattle.sums.specs.Sums.{whole}
 use Rattle.fragment.proofs.Cells.{cells_length, text_join, text_no_longer}
 use Rattle.fragment.specs.Fragments.{etx, cells_in, cells_of, cells_after_head, without_fill}
-use Rattle.fragment.specs.Cells.{unsigned, text_from}
+use Rattle.fragment.specs.Cells.{unsigned, plain_text, text_from}
 
 -- a cell that is no fill is a character more
 text_more : (cell : ℕ) (cells : List ℕ) → length (without_fill (cell ∷ cells)) ≡ bit_of (not (eqb cell etx)) + length (without_fill cells)
@@ -74,15 +75,30 @@ pub text_end : (words : List ℕ) (i : ℕ) → length words ≤ i → without_f
 unfolding cells_of without_fill
 text_end words i done = rw (drop_of_length-le words done)
 
--- the text that a second word begins
-pub text_from_lem : (second : ℕ) (words : List ℕ) → text_from second words ≡ without_fill (cells_in second) ++ without_fill (cells_of (drop 2 words))
+-- the text of a word, then that of the words after it
+pub text_cons : (word : ℕ) (words : List ℕ) → plain_text (word ∷ words) ≡ without_fill (cells_in word) ++ plain_text words
 unfolding cells_of
-text_from_lem second words = text_join (cells_in second) _
+text_cons word words = text_join (cells_in word) (cells_of words)
 
--- how long the text is that a second word begins
-pub length_from : (second : ℕ) (words : List ℕ)
-    → length (text_from second words) ≡ length (without_fill (cells_in second)) + length (without_fill (cells_of (drop 2 words)))
-length_from second words = ap length (text_from_lem second words) ∙ length-append (without_fill (cells_in second)) _
+-- how long it is
+pub length_cons : (word : ℕ) (words : List ℕ) → length (plain_text (word ∷ words)) ≡ length (without_fill (cells_in word)) + length (plain_text words)
+length_cons word words = ap length (text_cons word words) ∙ length-append (without_fill (cells_in word)) _
+
+-- the text of so many words, then that of the others
+pub text_parts : (count : ℕ) (words : List ℕ) → length (plain_text (take count words)) + length (plain_text (drop count words)) ≡ length (plain_text words)
+unfolding cells_of without_fill
+text_parts zero words = omega arith
+text_parts (suc count) [] = refl
+text_parts (suc count) (word ∷ words) =
+    omega (arith, length_cons word (take count words), length_cons word words, text_parts count words)
+
+-- the words from a place on, as a part of a row
+pub tail : (place : ℕ) (words : List ℕ) → take (length words - place) (drop place words) ≡ drop place words
+tail place words = between_to_end words place (length words) (omega arith)
+
+-- three characters a word are never too few
+pub text_most : (words : List ℕ) → length (plain_text words) ≤ 3 * length words
+text_most words = omega (arith, text_no_longer (cells_of words), cells_length words)
 
 -- a word's cells added
 abbrev pub cell_sum : ℕ → ℕ
@@ -93,12 +109,6 @@ pub sum_words : (words : List ℕ) → sum_by whole (cells_of words) ≡ sum_by 
 unfolding sum_by cells_of
 sum_words [] = refl
 sum_words (word ∷ words) = sum_join whole (cells_in word) (cells_of words) ∙ rw (sum_words words)
-
--- three characters a word after the first are never too few
-pub text_most : (second : ℕ) (words : List ℕ) → 2 ≤ length words → length (text_from second words) ≤ 3 * (length words - 1)
-text_most second words two =
-    let row = second ∷ drop 2 words in
-    omega (arith, text_no_longer (cells_of row), cells_length row, length-drop 2 words)
 
 -- the signature is the first cell of the second word
 pub signature_cell : (words : List ℕ) → 2 ≤ length words → get_or (cells_after_head words) 0 0 ≡ get_or words 1 0 % 128

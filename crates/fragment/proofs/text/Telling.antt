@@ -9,8 +9,8 @@ use Rattle.refusal.proofs.Laws.{given_writes}
 use Rattle.fragment.specs.Fragments.{is_first, cells_in, cells_of, without_fill, text_in}
 use Rattle.fragment.specs.Answers.{text_of, text_after}
 use Rattle.fragment.proofs.Laws.{text_told, text_accepted}
-use Rattle.fragment.specs.Cells.{text_from}
-use Rattle.fragment.proofs.text.Cells.{text_from_lem, length_from}
+use Rattle.fragment.specs.Cells.{plain_text}
+use Rattle.fragment.proofs.text.Cells.{text_cons, length_cons}
 
 -- fewer than two words have no text
 no_text : (words : List ℕ) → length words < 2 → text_in words ≡ []
@@ -23,16 +23,16 @@ no_text (head ∷ []) short = by_test (is_first (head ∷ []))
     by_test false = refl
 no_text (head ∷ second ∷ words) short = absurd (omega arith)
 
--- the text of a second word, then that of the words after it: how long it is, and where it stands
+-- the text of a word, then that of the words after it: how long it is, and where it stands
 pub joined : (second next end : ℕ) (words lent after last : List ℕ)
     → next ≡ 0 + length (without_fill (cells_in second)) → after ≡ put lent 0 (without_fill (cells_in second))
-    → end ≡ next + length (without_fill (cells_of (drop 2 words))) → last ≡ put after next (without_fill (cells_of (drop 2 words)))
-    → (end ≡ length (text_from second words)) × (last ≡ put lent 0 (text_from second words))
+    → end ≡ next + length (plain_text words) → last ≡ put after next (plain_text words)
+    → (end ≡ length (plain_text (second ∷ words))) × (last ≡ put lent 0 (plain_text (second ∷ words)))
 joined second next end words lent after last there is ends holds = (
-  omega (arith, length_from second words),
+  omega (arith, length_cons second words),
   holds
       ∙ put_on lent after (without_fill (cells_in second)) _ 0 next (omega arith) is there
-      ∙ ap (put lent 0) (sym (text_from_lem second words)),
+      ∙ ap (put lent 0) (sym (text_cons second words)),
 )
 
 module _ (words lent : List ℕ) where

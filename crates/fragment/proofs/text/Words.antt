@@ -1,24 +1,21 @@
--- The words after the second written one after the other, with or without fill: those so far, and those still to come.
+-- Words written one after the other, with or without fill: those so far, and those still to come.
 use Rattle.std.proofs.Common.{◌≡◌, ℕ, ◌+◌, ◌<◌, ◌≤◌, List, length, get_or, drop, sym, refl, ap, ◌∙◌, arith}
 use Rattle.laws.specs.Lists.{put}
 use Rattle.laws.proofs.Writing.{put_nothing, put_on, length_put}
-use Rattle.fragment.specs.Fragments.{cells_in, cells_of, without_fill}
+use Rattle.fragment.specs.Fragments.{cells_in, without_fill}
+use Rattle.fragment.specs.Cells.{plain_text}
 use Rattle.fragment.proofs.text.Cells.{text_next, length_next, text_end}
-
--- the text from a word on
-abbrev text_at : List ℕ → ℕ → List ℕ
-text_at words i = without_fill (cells_of (drop i words))
 
 module _ (words lent : List ℕ) (from : ℕ) where
   -- the text before a word is written: with that still to come the buffer holds all, and its end is the end of all
   pub record Begun (text : List ℕ) (at i : ℕ) : Type 0 where
     pub kept : length text ≡ length lent
-    pub room : at + length (text_at words i) ≤ length text
-    pub place : at + length (text_at words i) ≡ from + length (text_at words 2)
-    pub holds : put text at (text_at words i) ≡ put lent from (text_at words 2)
+    pub room : at + length (plain_text (drop i words)) ≤ length text
+    pub place : at + length (plain_text (drop i words)) ≡ from + length (plain_text words)
+    pub holds : put text at (plain_text (drop i words)) ≡ put lent from (plain_text words)
 
   -- no word is written yet
-  pub begun_none : from + length (text_at words 2) ≤ length lent → Begun lent from 2
+  pub begun_none : from + length (plain_text words) ≤ length lent → Begun lent from 0
   begun_none room = record { kept = refl; room = room; place = refl; holds = refl }
 
   -- the next word has room
@@ -41,7 +38,7 @@ module _ (words lent : List ℕ) (from : ℕ) where
 
   -- after the last word all is written
   pub begun_all : (text : List ℕ) (at i : ℕ) → Begun text at i → length words ≤ i
-      → (at ≡ from + length (text_at words 2)) × (text ≡ put lent from (text_at words 2))
+      → (at ≡ from + length (plain_text words)) × (text ≡ put lent from (plain_text words))
   begun_all text at i so_far done =
       let none = text_end words i done in
       (omega (arith, ap length none), sym (put_nothing text at) ∙ ap (put text at) (sym none) ∙ so_far.holds)

@@ -7,7 +7,7 @@ use native.Mathlib.Omega.{arith}
 use lib.Dec.{eqb, ltb}
 use lib.ListN.{length, length-append, get_or}
 use Rattle.laws.specs.Choice.{pick}
-use Rattle.refusal.specs.Told.{Told, told, number_told}
+use Rattle.refusal.specs.Told.{Told, told}
 use Rattle.capcode.specs.Words.{words_of}
 use Rattle.capcode.specs.Text.{digits}
 use Rattle.capcode.specs.Reads.{read_of}
@@ -49,7 +49,3 @@ verdict_by_short (told n values) =
 pub verdict_short : (text : List ℕ) → length (verdict_of text) ≤ 23
 unfolding verdict_of
 verdict_short text = verdict_by_short (read_of text)
-
--- the end of an accepted text has 23
-pub accepted_size : (answer : Told) → eqb (number_told answer) 0 ≡ true → length (verdict_by answer ++ line_feed ∷ []) ≡ 23
-accepted_size (told n values) e = rw e (omega (arith, accepted_length values, length-append (accepted_end values) (line_feed ∷ [])))

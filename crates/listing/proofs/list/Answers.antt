@@ -4,4 +4,4 @@ use Rattle.listing.proofs.list.Goals as goal
 
 pub returns : goal.returns
 returns g c =
-    ok_then c.write_close.result (listed_whole _ _ _ _ _ _ _ _ c.start.ensures c.in_ok-write_title.ensures c.in_ok-lister.ensures) c.write_close.ensures
+    ok_then c.write_close.result (listed_whole _ _ _ _ _ _ _ c.in_ok-write_title.ensures c.in_ok-lister.ensures) c.write_close.ensures

@@ -73,3 +73,6 @@ module _ (words : List ℕ) (at place : ℕ) (good : undamaged words ≡ true) (
 -- the bits after the head and so many characters
 pub after_characters : (n head i place : ℕ) → place ≡ head + 4 * i → n / 2 ^ place ≡ n / 2 ^ head / 16 ^ i
 after_characters n head i place e = rw (e, ← shr-shr n head (4 * i), ← pow_mul 2 4 i)
+
+-- where a code ends: within its word, in the last word, or in the next
+pub ruleset code_ends = (code_within, code_last, code_over)

@@ -13,12 +13,15 @@ use Rattle.laws.specs.Layouts.{size, fit}
 use Rattle.laws.specs.Lists.{put, place_in}
 use Rattle.laws.specs.Numerals.{number, digits, are_digits}
 use Rattle.laws.proofs.Numerals.{digits_next, length_digits, pow_mul, six_from}
-use Rattle.laws.proofs.Writing.{length_put, put_next, put_nothing}
+use Rattle.laws.proofs.Writing.{put_next, put_nothing}
 use Rattle.sums.specs.Sums.{six_bits}
 use Rattle.numeric.specs.Pages.{Set, head_of, words_for, spaced, words_with, check_of, in_word, page_of, in_set}
 use Rattle.numeric.specs.WritingPieces.{three_from}
-use Rattle.numeric.proofs.Bits.{above_of, check_small, codes_are, row_with, some_word}
-use Rattle.numeric.proofs.Laws.{Usable, spaced_known}
+use Rattle.laws.proofs.Layouts.{packed_lt}
+use Rattle.numeric.proofs.Bits.{above_of, check_small, codes_are, row_with, some_word, laid_head, page_length, room_enough}
+use Rattle.numeric.proofs.Codes.{text_has, text_small, text_code, space_of, space_code, no_more}
+use Rattle.numeric.proofs.Heads.{head_power}
+use Rattle.numeric.proofs.Laws.{Usable, spaced_known, usable_set}
 
 -- the codes of a text of the set, and of its spaces, are four bits each
 pub spaced_codes : (set : Set) (room : ℕ) (text : List ℕ) → Usable set → in_set set text ≡ true
@@ -103,14 +106,15 @@ module _ (characters : Set) (numbered : Bool) (flags text lent : List ℕ) where
   unfolding words_with
   zeroed_length = length_digits (2 ^ 21) (words_for numbered (length text)) _
 
-  -- written, they leave the lent words as many as they were
-  pub zeroed_fits : words_for numbered (length text) ≤ length lent → length (put lent 0 (zeroed characters numbered flags text)) ≡ length lent
-  zeroed_fits enough = length_put lent (zeroed characters numbered flags text) 0 (omega (arith, zeroed_length))
-
   -- K is taken of the words with K as 0
-  pub k_taken : six_bits (take (words_for numbered (length text)) (put lent 0 (zeroed characters numbered flags text))) ≡ check_of characters numbered flags text
+  k_taken : six_bits (take (words_for numbered (length text)) (put lent 0 (zeroed characters numbered flags text))) ≡ check_of characters numbered flags text
   unfolding check_of
   k_taken = ap six_bits (take_at (zeroed characters numbered flags text) _ (words_for numbered (length text)) zeroed_length)
+
+  -- as the code takes it, of as many words as were written
+  pub k_known : (count k : ℕ) (written : List ℕ) → count ≡ words_for numbered (length text) → written ≡ put lent 0 (zeroed characters numbered flags text)
+      → k ≡ six_bits (take count written) → k ≡ check_of characters numbered flags text
+  k_known count k written many is e = e ∙ ap₂ (λ (n : ℕ) (words : List ℕ). six_bits (take n words)) many is ∙ k_taken
 
   module _ (fits : fit (head_of numbered) (flags ++ 0 ∷ []) ≡ true) where
     -- any K5 with K4 is added to the first
@@ -127,3 +131,17 @@ module _ (characters : Set) (numbered : Bool) (flags text lent : List ℕ) where
         × (set words 0 (get_or words 0 0 + in_word (check_of characters numbered flags text)) ≡ put lent 0 (page_of characters numbered flags text))
     unfolding page_of
     k_added = keyed (in_word (check_of characters numbered flags text)) (check_small characters numbered flags text)
+
+-- ---- what the methods of a draft stand on
+
+-- the codes of a page: of its text, of the spaces after it, and after the room none
+pub ruleset page_codes = (text_has, text_small, text_code, space_of, space_code, no_more, room_enough)
+
+-- six codes at once
+pub ruleset six_at_once = (six_row, spaced_codes, usable_set)
+
+-- the head and the codes after it
+pub ruleset head_and_codes = (first_is, packed_lt, laid_head, head_power)
+
+-- K and the number of words
+pub ruleset written_page = (k_known, page_length)

@@ -1,18 +1,14 @@
 -- `signature` meets its contract: the sum so far and what is still to come, modulo 128.
-use Rattle.std.proofs.Common.{ℕ, ◌+◌, ◌-◌, ◌%◌, drop, sym, ap, ◌∙◌, arith}
-use Rattle.laws.specs.Lists.{sum_by}
+use Rattle.std.proofs.Common.{ℕ, ◌-◌, sym, ap, ◌∙◌, arith}
 use Rattle.sums.specs.Sums.{whole}
 use Rattle.sums.proofs.Summing.{one_more, none_left}
 use Rattle.sums.proofs.signature.Goals as goal
 
-pub loop-i-preserved : goal.loop-i-preserved
-loop-i-preserved c = let turn = c in
-    let row = turn.args.characters.now in
-    ap (λ (n : ℕ). (n + sum_by whole (drop (turn.loop-i.i + 1) row)) % 128) c.wrapping_add_u32-sum.ensures.value
-    ∙ one_more whole row 25 7 turn.loop-i.sum turn.loop-i.i (omega arith)
-    ∙ turn.loop-i.invariant
+pub loop-character-preserved : goal.loop-character-preserved
+loop-character-preserved c =
+    one_more whole c.args.characters.now 25 7 c.loop-character.sum c.loop-character.character-index (omega arith) ∙ c.loop-character.invariant
 
 pub returns : goal.returns
-returns c = let turn = c in
-    let row = turn.args.characters.now in
-    ap (λ (n : ℕ). 127 - n) (sym (none_left whole row 25 7 turn.loop-i.sum turn.loop-i.i (omega arith)) ∙ turn.loop-i.invariant)
+returns c =
+    ap (λ (n : ℕ). 127 - n)
+    (sym (none_left whole c.args.characters.now 25 7 c.loop-character.sum c.loop-character.character-index (omega arith)) ∙ c.loop-character.invariant)

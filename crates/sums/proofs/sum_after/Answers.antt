@@ -5,17 +5,13 @@ use Rattle.sums.specs.Sums.{groups_of}
 use Rattle.sums.proofs.Summing.{one_more, none_left}
 use Rattle.sums.proofs.sum_after.Goals as goal
 
-pub loop-i-preserved : goal.loop-i-preserved
-loop-i-preserved c = let turn = c in
-    let row = turn.args.words.now in
-    ap (λ (n : ℕ). (n + sum_by groups_of (drop (turn.loop-i.i + 1) row)) % 1024)
-    (c.wrapping_add_u32-sum.ensures.value ∙ ap (λ (n : ℕ). (turn.loop-i.sum + n) % 2 ^ 32) c.groups.ensures.sum)
-    ∙ one_more groups_of row 22 10 turn.loop-i.sum turn.loop-i.i (omega arith)
-    ∙ turn.loop-i.invariant
+pub loop-word-preserved : goal.loop-word-preserved
+loop-word-preserved c =
+    let rest = c.args.rest.now in
+    let at = c.loop-word.word-index in
+    ap (λ (n : ℕ). ((c.loop-word.sum + n) % 2 ^ 32 + sum_by groups_of (drop (at + 1) rest)) % 1024) c.groups-sum-in-loop-word.ensures.sum
+    ∙ one_more groups_of rest 22 10 c.loop-word.sum at (omega arith)
+    ∙ c.loop-word.invariant
 
 pub returns : goal.returns
-returns c = let turn = c in
-    let args = turn.args in
-    sym (none_left groups_of args.words.now 22 10 turn.loop-i.sum turn.loop-i.i (omega arith))
-    ∙ turn.loop-i.invariant
-    ∙ ap (λ (n : ℕ). (n + sum_by groups_of (drop 1 args.words.now)) % 1024) turn.groups-sum.ensures.sum
+returns c = sym (none_left groups_of c.args.rest.now 22 10 c.loop-word.sum c.loop-word.word-index (omega arith)) ∙ c.loop-word.invariant

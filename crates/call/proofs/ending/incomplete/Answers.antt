@@ -1,82 +1,49 @@
--- `incomplete` meets its contract.
-use Prim.Native.Nat.{ℕ, ◌+◌, ◌<◌}
+-- `incomplete` meets its contract: of the calls that were met the incomplete ones are listed.
+use Prim.Native.Nat.{◌+◌}
 use mathlib.Core.Bool.{Bool, true, false}
 use mathlib.Core.List.{List}
-use mathlib.Core.Path.{◌≡◌, sym, ap, ap₂, ◌∙◌}
+use mathlib.Core.Path.{◌≡◌, ap, ◌∙◌}
 use native.Mathlib.Omega.{arith}
-use lib.ListN.{length, get_or, take}
-use lib.Seq.{get_or-take}
+use lib.ListN.{get_or, take}
 use Rattle.laws.specs.Choice.{pick}
 use Rattle.call.specs.declared.Call.{Call}
 use Rattle.call.specs.declared.Calls.{Calls}
 use Rattle.call.specs.Calls.{blank}
 use Rattle.call.specs.Steps.{added, listed, incomplete_in}
-use Rattle.call.proofs.searching.Asking.{open_again}
-use Rattle.call.proofs.ending.Listing.{incomplete_none, incomplete_few, incomplete_turn}
+use Rattle.call.proofs.ending.Listing.{incomplete_none, incomplete_few, incomplete_turn, incomplete_done}
 use Rattle.call.proofs.ending.incomplete.Goals as goal
 use Rattle.call.proofs.ending.incomplete.Goals.{then-not-is_complete, else-not-is_complete}
 
--- the calls that are listed so far
-abbrev list : List Call → ℕ → Calls
-list found size = record { size = size; calls = found }
+pub loop-call-init : goal.loop-call-init
+loop-call-init c = record { few = c.in_use-call-items.ensures.small; list = c.requires ∙ incomplete_none 8 c.args.memory.now }
 
-pub loop-i-init : goal.loop-i-init
-loop-i-init c = (omega arith, c.count-count.ensures.small, incomplete_none 8 c.args.memory.now)
+pub add-requires : goal.add-requires
+add-requires c =
+    let few = incomplete_few c.in_use-call-items.result.now c.args.memory.now c.loop-call.call-index c.loop-call.auto.call-index-end in
+    omega (arith, few, ap (λ (s : Calls). s.size) c.loop-call.invariant.list, c.loop-call.invariant.few, c.loop-call-test.true)
 
-pub offset_bounds-found-size : goal.offset_bounds-found-size
-offset_bounds-found-size c =
-    let opened : take c.count-count.result c.args.calls.calls ≡ take c.args.calls.size c.args.calls.calls = let s = c.args.calls in
-    open_again s.calls s.size c.count-count.result c.count-count.ensures.told in
-    let long : length (take c.count-count.result c.args.calls.calls) ≡ c.count-count.result = ap length opened ∙ sym c.count-count.ensures.told in
-    let free : c.loop-i.size < 8 = let row = take c.count-count.result c.args.calls.calls in
-    let found = c.loop-i.invariant in
-    let few = incomplete_few row c.args.memory.now c.loop-i.i (omega (arith, long, found.0)) in
-    omega (arith, few, ap (λ (s : Calls). s.size) found.2, found.1, c.loop-i-test.true) in
-    omega (arith, free)
-
-pub bounds-found-size : goal.bounds-found-size
-bounds-found-size c =
-    let opened : take c.count-count.result c.args.calls.calls ≡ take c.args.calls.size c.args.calls.calls = let s = c.args.calls in
-    open_again s.calls s.size c.count-count.result c.count-count.ensures.told in
-    let long : length (take c.count-count.result c.args.calls.calls) ≡ c.count-count.result = ap length opened ∙ sym c.count-count.ensures.told in
-    let free : c.loop-i.size < 8 = let row = take c.count-count.result c.args.calls.calls in
-    let found = c.loop-i.invariant in
-    let few = incomplete_few row c.args.memory.now c.loop-i.i (omega (arith, long, found.0)) in
-    omega (arith, few, ap (λ (s : Calls). s.size) found.2, found.1, c.loop-i-test.true) in
-    free
-
-pub overflow_add-size : goal.overflow_add-size
-overflow_add-size c =
-    let opened : take c.count-count.result c.args.calls.calls ≡ take c.args.calls.size c.args.calls.calls = let s = c.args.calls in
-    open_again s.calls s.size c.count-count.result c.count-count.ensures.told in
-    let long : length (take c.count-count.result c.args.calls.calls) ≡ c.count-count.result = ap length opened ∙ sym c.count-count.ensures.told in
-    let free : c.loop-i.size < 8 = let row = take c.count-count.result c.args.calls.calls in
-    let found = c.loop-i.invariant in
-    let few = incomplete_few row c.args.memory.now c.loop-i.i (omega (arith, long, found.0)) in
-    omega (arith, few, ap (λ (s : Calls). s.size) found.2, found.1, c.loop-i-test.true) in
-    omega (arith, free)
-
-pub loop-i-preserved : goal.loop-i-preserved
-loop-i-preserved c =
-    let opened : take c.count-count.result c.args.calls.calls ≡ take c.args.calls.size c.args.calls.calls = let s = c.args.calls in
-    open_again s.calls s.size c.count-count.result c.count-count.ensures.told in
-    let long : length (take c.count-count.result c.args.calls.calls) ≡ c.count-count.result = ap length opened ∙ sym c.count-count.ensures.told in
-    let all = c.args.calls.calls in
-    let row = take c.count-count.result all in
+pub loop-call-preserved : goal.loop-call-preserved
+loop-call-preserved c =
+    let row = c.in_use-call-items.result.now in
     let memory = c.args.memory.now in
-    let i = c.loop-i.i in
-    let so_far = c.loop-i.invariant in
-    let found = list c.loop-i.found c.loop-i.size in
-    let there : get_or row i blank ≡ get_or all i blank = get_or-take c.count-count.result all i blank c.loop-i-test.true in
-    let turned = incomplete_turn row memory i 8 (omega (arith, long, so_far.1)) (omega (arith, long, c.loop-i-test.true)) in
+    let i = c.loop-call.call-index in
+    let call = get_or row i blank in
+    let turned = incomplete_turn row memory i 8 c.loop-call.invariant.few c.loop-call-test.true in
     let judged : (b : Bool) → c.is_complete.result ≡ b
-    → pick b found (added found (get_or all i blank)) ≡ listed 8 (incomplete_in (take (i + 1) row) memory) =
-    λ b is. ap (λ (s : Calls). pick b s (added s (get_or all i blank))) so_far.2 ∙ rw (← is, c.is_complete.ensures, ← there) turned
+    → pick b c.loop-call.list (added c.loop-call.list call) ≡ listed 8 (incomplete_in (take (i + 1) row) memory) =
+    λ b is. ap (λ (s : Calls). pick b s (added s call)) c.loop-call.invariant.list ∙ rw (← is, c.is_complete.ensures) turned
     in
-    let now : list c.if-not-is_complete.found c.if-not-is_complete.size ≡ listed 8 (incomplete_in (take (i + 1) row) memory) =
+    let now : c.if-not-is_complete.list ≡ listed 8 (incomplete_in (take (i + 1) row) memory) =
     elim c.if-not-is_complete.branch [
-      | then-not-is_complete w ↦ ap₂ list w.found-is w.size-is ∙ judged false w.if-not-is_complete.true
-      | else-not-is_complete w ↦ ap₂ list w.found-is w.size-is ∙ judged true w.if-not-is_complete.false
+      | then-not-is_complete w ↦ w.list-is ∙ w.add.ensures ∙ judged false w.if-not-is_complete.true
+      | else-not-is_complete w ↦ w.list-is ∙ judged true w.if-not-is_complete.false
     ]
     in
-    (omega arith, so_far.1, now)
+    record { few = c.loop-call.invariant.few; list = now }
+
+pub returns : goal.returns
+returns c =
+    let row = c.in_use-call-items.result.now in
+    c.loop-call.invariant.list
+    ∙ ap (listed 8) (incomplete_done row c.args.memory.now c.loop-call.call-index (omega (arith, c.loop-call-test.false))
+    ∙ ap (λ (calls : List Call). incomplete_in calls c.args.memory.now) c.in_use-call-items.ensures.told)

@@ -1,12 +1,12 @@
--- `incomplete` meets its contract.
-use Prim.Native.Nat.{◌-◌, ◌≤◌}
+-- `incomplete` meets its contract: of the calls that were met the incomplete ones are listed.
+use Prim.Native.Nat.{◌≤◌}
 use mathlib.Core.Path.{◌≡◌}
-use lib.ListN.{take}
+use lib.ListN.{length, take}
 use Rattle.call.specs.Steps.{listed, incomplete_in}
 use Rattle.call.proofs.ending.incomplete.Given as goal
 
-abbrev pub invariant-loop-i : goal.invariant-loop-i
-invariant-loop-i l = (l.i ≤ l.count) × (l.count ≤ 8) × (record { size = l.size; calls = l.found } ≡ listed 8 (incomplete_in (take l.i (take l.count l.row)) l.memory))
-
-abbrev pub decreases-loop-i : goal.decreases-loop-i
-decreases-loop-i l = l.count - l.i
+abbrev pub invariant-loop-call : goal.invariant-loop-call
+invariant-loop-call l = record {
+  few : length l.call-items ≤ 8;
+  list : l.list ≡ listed 8 (incomplete_in (take l.call-index l.call-items) l.memory);
+}

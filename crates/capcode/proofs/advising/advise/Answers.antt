@@ -3,6 +3,6 @@ use mathlib.Core.Path.{sym, ◌∙◌}
 use Rattle.capcode.proofs.Places.{first_wrong, place_upto}
 use Rattle.capcode.proofs.advising.advise.Goals as goal
 
-pub advise_wrong-requires : goal.advise_wrong-requires
-advise_wrong-requires c = let wrong = sym c.form_of.ensures ∙ c.in-Wrong.is in
-    ((first_wrong _ _ wrong).within, place_upto _ _ wrong)
+pub invariant_of-advise : goal.invariant_of-advise
+invariant_of-advise c = let wrong = sym c.form_of.ensures ∙ c.in-Err.is in
+    record { within = ((first_wrong _ _ wrong).within, place_upto _ _ wrong) }

@@ -1,4 +1,5 @@
-use mathlib.Core.Path.{sym, ◌∙◌}
+use mathlib.Core.Path.{◌≡◌, sym, ◌∙◌}
+use lib.ListN.{length}
 use borrow.Author.Rules.{rules}
 use Rattle.capcode.proofs.Steps.{step_after}
 use Rattle.capcode.proofs.Sound.{sound_bounded}
@@ -13,8 +14,8 @@ returns-in_default c = let step = sym c.step_after_letter.ensures ∙ c.in_defau
     stands_stop _ _ c.loop-here.here c.loop-here.s c.loop-here.invariant.0 (search rules) step
 
 pub loop-here-preserved : goal.loop-here-preserved
-loop-here-preserved c = let step = sym c.step_after_letter.ensures ∙ c.in-On.is in
-    let next = c.in-On.next in
+loop-here-preserved c = let step = sym c.step_after_letter.ensures ∙ c.in-Some.is in
+    let next = c.in-Some.next in
     let state = c.loop-here.s in
     (stands_on _ _ c.loop-here.here state c.loop-here.invariant.0 next (search rules) step, step_after state next _ c.loop-here.invariant.1 step)
 
@@ -22,4 +23,5 @@ pub form_at_end-requires : goal.form_at_end-requires
 form_at_end-requires c = sound_bounded _ c.loop-here.invariant.0.sound
 
 pub returns : goal.returns
-returns c = c.form_at_end.ensures ∙ stands_end _ _ c.loop-here.here c.loop-here.s c.loop-here.invariant.0 (search rules)
+returns c = let end : length c.args.text.now ≡ c.loop-here.here = search rules in
+    c.form_at_end.ensures ∙ rw end (stands_end _ _ c.loop-here.here c.loop-here.s c.loop-here.invariant.0 (search rules))

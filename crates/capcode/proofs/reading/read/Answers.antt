@@ -4,9 +4,10 @@ use native.Mathlib.Omega.{arith}
 use Rattle.capcode.proofs.Places.{first_wrong, place_upto}
 use Rattle.capcode.proofs.reading.read.Goals as goal
 
-pub fault_at-requires : goal.fault_at-requires
-fault_at-requires c = (first_wrong _ _ (sym c.form_of.ensures ∙ c.in-Wrong.is)).within
+pub invariant_of-refusal : goal.invariant_of-refusal
+invariant_of-refusal c = let wrong = sym c.form_of.ensures ∙ c.in-Err.is in
+    record { within = ((first_wrong _ _ wrong).within, place_upto _ _ wrong) }
 
 pub overflow_cast-result : goal.overflow_cast-result
-overflow_cast-result c = let small = place_upto _ _ (sym c.form_of.ensures ∙ c.in-Wrong.is) in
+overflow_cast-result c = let small = place_upto _ _ (sym c.form_of.ensures ∙ c.in-Err.is) in
     record { fits = omega (arith, small) }

@@ -1,139 +1,121 @@
 -- `join` meets its contract: each return is one case of what becomes of the chain.
-use Prim.Native.Nat.{◌+◌, ◌*◌, ◌<◌, ◌≤◌}
-use mathlib.Core.Logic.{⊎_elim}
-use mathlib.Core.Path.{refl, ap₂, ◌≡◌, sym, ap, ◌∙◌}
-use mathlib.Core.List.{List, [], ◌∷◌}
-use mathlib.Core.Bool.{false, not, ◌&&◌}
-use native.Mathlib.Nat.{eq-or-lt_of_le}
-use native.Mathlib.Omega.{arith}
-use lib.ListN.{set, length}
-use Rattle.laws.specs.Choice.{bit_of}
+use Rattle.std.proofs.Common.{◌≡◌, ℕ, ◌+◌, ◌*◌, Bool, not, List, length, set, Err, sym, ap, ◌∙◌, ap₂, arith, ltb-false}
+use borrow.Author.Tests.{not-true}
+use lib.Seq.{set_out}
+use Rattle.std.proofs.lemmas.Result.{err_from_is_err_and}
+use Rattle.laws.specs.Choice.{pick}
 use Rattle.laws.specs.Lists.{put}
-use Rattle.refusal.specs.Told.{told}
+use Rattle.laws.proofs.Tests.{first_of}
+use Rattle.refusal.specs.Told.{number_told}
+use Rattle.refusal.proofs.Laws.{number_positive}
 use Rattle.fragment.specs.Fragments.{text_in}
-use Rattle.fragment.specs.declared.FragmentRead.{FragmentRead}
+use Rattle.fragment.specs.declared.FragmentHeading.{FragmentHeading}
 use Rattle.chain.specs.declared.Chain.{Chain}
-use Rattle.chain.specs.Chains.{blank}
-use Rattle.chain.specs.Steps.{chain_before, is_first, fate, fate_of, record_after, row_after}
-use Rattle.chain.proofs.Steps.{slot_most}
-use Rattle.chain.specs.Answers.{known}
-use Rattle.chain.specs.declared.ChainFate.{ChainFate}
-use Rattle.chain.specs.FateAnswers.{fate_number, as_fate}
-use Rattle.chain.specs.JoiningPieces.{taken_of, turn_of, orphan}
-use Rattle.chain.proofs.joining.Turns.{settled, has_room, joins_lost, joins-taken, refused_joins, taken_joins}
 use Rattle.chain.specs.declared.joining.Turn.{Turn}
-use borrow.Author.Rules.{rules}
+use Rattle.chain.specs.declared.joining.Refused.{Refused}
+use Rattle.chain.specs.Steps.{is_first, cleared, slot_for, fate, fate_of, record_after, row_after}
+use Rattle.chain.specs.FateAnswers.{as_fate}
+use Rattle.chain.specs.Answers.{known, as_answer}
+use Rattle.chain.specs.JoiningPieces.{taken_of, answered, join_of}
+use Rattle.chain.proofs.Steps.{slot_most, cleared_length}
+use Rattle.chain.proofs.finding.Found.{found_none, found_alike}
+use Rattle.chain.proofs.joining.Turns.{turned, not_turned, not_lost, lost_record, lands, join_lost, join_full, join_taken, writes_none, writes_text}
 use Rattle.chain.proofs.joining.join.Goals as goal
 
-pub returns-then-fate-ne0 : goal.returns-then-fate-ne0
-returns-then-fate-ne0 c =
-    let there : c.turn_of-turn.result ≡ turn_of c.args.slots c.args.address c.args.heading = c.turn_of-turn.ensures in
-    let no-orphan : orphan c.args.slots c.args.address c.args.heading ≡ false = let h = c.args.heading in
-    ap (λ (t : Turn). not (is_first h) && not t.known) (sym there) ∙ c.if-heading-turn.false in
-    let fate-is : c.fate-fate.result ≡ as_fate (fate_of c.args.slots c.args.address c.args.heading) = let h = c.args.heading in
-    c.fate-fate.ensures ∙ ap (λ (t : Turn). as_fate (fate t.chain h)) there in
-    let row_is : c.stored-after.result ≡ row_after c.args.slots c.args.address c.args.heading = let row = c.args.slots in
-    c.stored-after.ensures
-    ∙ ap (λ (after : List Chain). set after c.turn_of-turn.result.slot c.fate-fate.result.chain) c.stored-cleared.ensures
-    ∙ ap₂ (λ (t : Turn) (f : ChainFate). set (set row t.older blank) t.slot f.chain) there fate-is
-    ∙ settled row c.args.address c.args.heading (record_after (fate_of row c.args.address c.args.heading)) in
-    let row = c.args.slots in
-    let address = c.args.address in
-    let words = c.args.words.now in
-    let buffer = c.args.buffer.now in
-    let h = c.args.heading in
-    let f = fate_of row address h in
-    let both = refused_joins row address words buffer h c.requires.heading_value _ (told (fate_number f) (bit_of (known row address h) ∷ [])) (row_after row address h)
-    (joins_lost row address h no-orphan (λ none. c.if-fate-ne0.true (ap (λ (g : ChainFate). g.number) fate-is ∙ none)))
-    (rw (c.refused.ensures, row_is, fate-is, there))
-    (λ none. c.if-fate-ne0.true (ap (λ (g : ChainFate). g.number) fate-is ∙ none)) in record { told = both.0; buffer = both.1 }
-
-pub overflow_mul-end : goal.overflow_mul-end
-overflow_mul-end c =
-    let long : length c.args.slots ≡ 8 = search rules in
-    let there : c.turn_of-turn.result ≡ turn_of c.args.slots c.args.address c.args.heading = c.turn_of-turn.ensures in
-    let fate-is : c.fate-fate.result ≡ as_fate (fate_of c.args.slots c.args.address c.args.heading) = let h = c.args.heading in
-    c.fate-fate.ensures ∙ ap (λ (t : Turn). as_fate (fate t.chain h)) there in
-    let not-lost : fate_number (fate_of c.args.slots c.args.address c.args.heading) ≡ 0 = sym (ap (λ (g : ChainFate). g.number) fate-is) ∙ c.if-fate-ne0.false in
-    let bounds : (c.turn_of-turn.result.slot < 8) × (c.turn_of-turn.result.chain.characters + c.args.heading.characters ≤ 1008) = let most : c.turn_of-turn.result.slot ≤ 8 =
-    rw (there, ← long) (slot_most c.args.slots c.args.address c.args.heading) in
-    let before = chain_before c.args.slots c.args.address c.args.heading in (
-      ⊎_elim (λ same. absurd (c.if-turn-eq-SLOTS.false same)) (λ less. less) (eq-or-lt_of_le most),
-      rw there (has_room before c.args.heading not-lost),
-    ) in
-    omega (arith, bounds.0)
-
-pub overflow_add-end : goal.overflow_add-end
-overflow_add-end c =
-    let long : length c.args.slots ≡ 8 = search rules in
-    let there : c.turn_of-turn.result ≡ turn_of c.args.slots c.args.address c.args.heading = c.turn_of-turn.ensures in
-    let fate-is : c.fate-fate.result ≡ as_fate (fate_of c.args.slots c.args.address c.args.heading) = let h = c.args.heading in
-    c.fate-fate.ensures ∙ ap (λ (t : Turn). as_fate (fate t.chain h)) there in
-    let not-lost : fate_number (fate_of c.args.slots c.args.address c.args.heading) ≡ 0 = sym (ap (λ (g : ChainFate). g.number) fate-is) ∙ c.if-fate-ne0.false in
-    let bounds : (c.turn_of-turn.result.slot < 8) × (c.turn_of-turn.result.chain.characters + c.args.heading.characters ≤ 1008) = let most : c.turn_of-turn.result.slot ≤ 8 =
-    rw (there, ← long) (slot_most c.args.slots c.args.address c.args.heading) in
-    let before = chain_before c.args.slots c.args.address c.args.heading in (
-      ⊎_elim (λ same. absurd (c.if-turn-eq-SLOTS.false same)) (λ less. less) (eq-or-lt_of_le most),
-      rw there (has_room before c.args.heading not-lost),
-    ) in
-    omega (arith, bounds)
+pub overflow_add-slot : goal.overflow_add-slot
+overflow_add-slot c =
+    let l = lands c.args.slots.now c.args.address c.args.heading c.in_ok-turn.turn c.in-Ok.chain c.in-Some.slot c.in_ok-turn.ensures.turn c.in-Some.is c.in-Ok.ensures in
+    omega (arith, c.requires.count, l.within, l.fits)
 
 pub write_at-requires : goal.write_at-requires
 write_at-requires c =
-    let long : length c.args.slots ≡ 8 = search rules in
-    let there : c.turn_of-turn.result ≡ turn_of c.args.slots c.args.address c.args.heading = c.turn_of-turn.ensures in
-    let fate-is : c.fate-fate.result ≡ as_fate (fate_of c.args.slots c.args.address c.args.heading) = let h = c.args.heading in
-    c.fate-fate.ensures ∙ ap (λ (t : Turn). as_fate (fate t.chain h)) there in
-    let not-lost : fate_number (fate_of c.args.slots c.args.address c.args.heading) ≡ 0 = sym (ap (λ (g : ChainFate). g.number) fate-is) ∙ c.if-fate-ne0.false in
-    let bounds : (c.turn_of-turn.result.slot < 8) × (c.turn_of-turn.result.chain.characters + c.args.heading.characters ≤ 1008) = let most : c.turn_of-turn.result.slot ≤ 8 =
-    rw (there, ← long) (slot_most c.args.slots c.args.address c.args.heading) in
-    let before = chain_before c.args.slots c.args.address c.args.heading in (
-      ⊎_elim (λ same. absurd (c.if-turn-eq-SLOTS.false same)) (λ less. less) (eq-or-lt_of_le most),
-      rw there (has_room before c.args.heading not-lost),
-    ) in
-    let size : length (text_in c.args.words.now) ≡ c.args.heading.characters =
-    ap (λ (f : FragmentRead). f.characters) (sym c.requires.heading_value) in
-    omega (arith, bounds, c.requires.most_characters_in_bounds)
+    let l = lands c.args.slots.now c.args.address c.args.heading c.in_ok-turn.turn c.in-Ok.chain c.in-Some.slot c.in_ok-turn.ensures.turn c.in-Some.is c.in-Ok.ensures in
+    let size : length (text_in c.args.words.now) ≡ c.args.heading.characters = ap (λ (f : FragmentHeading). f.characters) (sym c.requires.heading_value) in
+    omega (arith, size, c.requires.count, l.within, l.fits, c.requires.most_characters_in_bounds)
 
-pub taken-requires : goal.taken-requires
-taken-requires c =
-    let long : length c.args.slots ≡ 8 = search rules in
-    let there : c.turn_of-turn.result ≡ turn_of c.args.slots c.args.address c.args.heading = c.turn_of-turn.ensures in
-    let fate-is : c.fate-fate.result ≡ as_fate (fate_of c.args.slots c.args.address c.args.heading) = let h = c.args.heading in
-    c.fate-fate.ensures ∙ ap (λ (t : Turn). as_fate (fate t.chain h)) there in
-    let not-lost : fate_number (fate_of c.args.slots c.args.address c.args.heading) ≡ 0 = sym (ap (λ (g : ChainFate). g.number) fate-is) ∙ c.if-fate-ne0.false in
-    let bounds : (c.turn_of-turn.result.slot < 8) × (c.turn_of-turn.result.chain.characters + c.args.heading.characters ≤ 1008) = let most : c.turn_of-turn.result.slot ≤ 8 =
-    rw (there, ← long) (slot_most c.args.slots c.args.address c.args.heading) in
-    let before = chain_before c.args.slots c.args.address c.args.heading in (
-      ⊎_elim (λ same. absurd (c.if-turn-eq-SLOTS.false same)) (λ less. less) (eq-or-lt_of_le most),
-      rw there (has_room before c.args.heading not-lost),
-    ) in
-    let both = bounds in record { slot_lt_slot_count = both.0; characters_bound = both.1 }
+pub taken_in-requires : goal.taken_in-requires
+taken_in-requires c =
+    let l = lands c.args.slots.now c.args.address c.args.heading c.in_ok-turn.turn c.in-Ok.chain c.in-Some.slot c.in_ok-turn.ensures.turn c.in-Some.is c.in-Ok.ensures in
+    record { slot_lt_slot_count = omega (arith, c.requires.count, l.within); characters_bound = l.fits }
 
-pub returns : goal.returns
-returns c =
-    let long : length c.args.slots ≡ 8 = search rules in
-    let there : c.turn_of-turn.result ≡ turn_of c.args.slots c.args.address c.args.heading = c.turn_of-turn.ensures in
-    let no-orphan : orphan c.args.slots c.args.address c.args.heading ≡ false = let h = c.args.heading in
-    ap (λ (t : Turn). not (is_first h) && not t.known) (sym there) ∙ c.if-heading-turn.false in
-    let fate-is : c.fate-fate.result ≡ as_fate (fate_of c.args.slots c.args.address c.args.heading) = let h = c.args.heading in
-    c.fate-fate.ensures ∙ ap (λ (t : Turn). as_fate (fate t.chain h)) there in
-    let row_is : c.stored-after.result ≡ row_after c.args.slots c.args.address c.args.heading = let row = c.args.slots in
-    c.stored-after.ensures
-    ∙ ap (λ (after : List Chain). set after c.turn_of-turn.result.slot c.fate-fate.result.chain) c.stored-cleared.ensures
-    ∙ ap₂ (λ (t : Turn) (f : ChainFate). set (set row t.older blank) t.slot f.chain) there fate-is
-    ∙ settled row c.args.address c.args.heading (record_after (fate_of row c.args.address c.args.heading)) in
-    let not-lost : fate_number (fate_of c.args.slots c.args.address c.args.heading) ≡ 0 = sym (ap (λ (g : ChainFate). g.number) fate-is) ∙ c.if-fate-ne0.false in
-    let row = c.args.slots in
+pub returns-in_err-turn : goal.returns-in_err-turn
+returns-in_err-turn c =
+    let row = c.args.slots.now in
     let address = c.args.address in
+    let h = c.args.heading in
+    let none = not_turned row address h c.in_err-turn.field-0.0 c.in_err-turn.ensures.turn in
+    let later = not-true (is_first h) (first_of (not (is_first h)) (not (known row address h)) none.0) in
+    let p = err_from_is_err_and c.from_residual.result c.from_residual.ensures.1 in
+    record {
+      told = rw (p.1, p.2, none.1, none.0);
+      slots = c.in_err-turn.ensures.slots ∙ rw (none.0, later);
+      buffer = writes_none row address c.args.words.now c.args.buffer.now h c.requires.heading_value (λ zero. let n : number_told (join_of row address h) ≡ 13 = rw none.0 in omega (arith, n, zero));
+    }
+
+pub returns-in-Some : goal.returns-in-Some
+returns-in-Some c =
+    let row = c.args.slots.now in
+    let address = c.args.address in
+    let h = c.args.heading in
     let words = c.args.words.now in
     let buffer = c.args.buffer.now in
+    let l = lands row address h c.in_ok-turn.turn c.in-Ok.chain c.in-Some.slot c.in_ok-turn.ensures.turn c.in-Some.is c.in-Ok.ensures in
+    let taken = join_taken row address h l.alone l.none (λ same. omega (arith, same, l.place, l.within)) in
+    record {
+      told = c.taken_in.ensures ∙ ap as_answer (ap₂ (λ (t : Turn) (s : ℕ). taken_of t s h) l.there l.place ∙ sym taken);
+      slots = ap (λ (r : List Chain). set r c.in-Some.slot c.in-Ok.chain) c.in_ok-turn.ensures.slots
+          ∙ ap₂ (set (cleared row address h)) l.place l.after
+          ∙ ap (λ (b : Bool). pick b row (row_after row address h)) (sym l.alone);
+      buffer = writes_text row address words buffer h c.requires.heading_value _ (ap number_told taken)
+          (c.write_at.ensures
+          ∙ ap₂ (λ (s n : ℕ). put buffer (s * 1008 + n) (text_in words)) l.place (ap (λ (t : Turn). t.chain.characters) l.there));
+    }
+
+pub returns-in-None : goal.returns-in-None
+returns-in-None c =
+    let row = c.args.slots.now in
+    let address = c.args.address in
     let h = c.args.heading in
-    let both = taken_joins row address words buffer h c.requires.heading_value _ (taken_of (turn_of row address h) h) (row_after row address h)
-    (joins-taken row address h no-orphan not-lost
-    (λ same. c.if-turn-eq-SLOTS.false (ap (λ (t : Turn). t.slot) there ∙ same ∙ long)))
-    (rw (c.taken.ensures, row_is, there))
-    _
-    refl
-    (c.write_at.ensures
-    ∙ ap (λ (t : Turn). put buffer (t.slot * 1008 + t.chain.characters) (text_in words)) there) in record { told = both.0; buffer = both.1 }
+    let both = turned row address h c.in_ok-turn.turn c.in_ok-turn.ensures.turn in
+    let none = not_lost (fate_of row address h) c.in-Ok.chain (c.in-Ok.ensures ∙ ap (λ (t : Turn). as_fate (fate t.chain h)) both.1) in
+    let out = ltb-false (slot_for row address h) (length row)
+    (found_none row (slot_for row address h) (sym c.in-None.is ∙ ap (λ (t : Turn). t.slot) both.1)) in
+    let full = join_full row address h both.0 none (omega (arith, out, slot_most row address h)) in
+    record {
+      told = ap (λ (r : Refused). answered (Err r)) c.from.ensures ∙ ap as_answer (sym full);
+      slots = c.in_ok-turn.ensures.slots
+          ∙ sym (set_out (cleared row address h) (slot_for row address h) (record_after (fate_of row address h)) (omega (arith, out, cleared_length row address h)))
+          ∙ ap (λ (b : Bool). pick b row (row_after row address h)) (sym both.0);
+      buffer = writes_none row address c.args.words.now c.args.buffer.now h c.requires.heading_value (λ zero. omega (arith, zero, ap number_told full));
+    }
+
+pub close-requires : goal.close-requires
+close-requires c =
+    let row = c.args.slots.now in
+    let address = c.args.address in
+    let h = c.args.heading in
+    let both = turned row address h c.in_ok-turn.turn c.in_ok-turn.ensures.turn in (
+      slot_for row address h,
+      ap (λ (t : Turn). t.slot) both.1
+          ∙ found_alike row _ (slot_for row address h) (sym (ap length c.in_ok-turn.ensures.slots ∙ cleared_length row address h)),
+    )
+
+pub returns-in-Err : goal.returns-in-Err
+returns-in-Err c =
+    let row = c.args.slots.now in
+    let address = c.args.address in
+    let h = c.args.heading in
+    let both = turned row address h c.in_ok-turn.turn c.in_ok-turn.ensures.turn in
+    let gone : Err c.in-Err.refusal ≡ as_fate (fate_of row address h) = c.in-Err.ensures ∙ ap (λ (t : Turn). as_fate (fate t.chain h)) both.1 in
+    let lost = join_lost row address h both.0 c.in-Err.refusal gone in
+    record {
+      told = ap (λ (t : Turn). answered (Err (record { refusal = c.in-Err.refusal; lost = t.known }))) both.1 ∙ ap as_answer (sym lost);
+      slots = c.close.ensures (slot_for row address h)
+          (ap (λ (t : Turn). t.slot) both.1
+          ∙ found_alike row _ (slot_for row address h) (sym (ap length c.in_ok-turn.ensures.slots ∙ cleared_length row address h)))
+          ∙ ap₂ (λ (r : List Chain) (x : Chain). set r (slot_for row address h) x) c.in_ok-turn.ensures.slots
+          (sym (lost_record (fate_of row address h) c.in-Err.refusal gone))
+          ∙ ap (λ (b : Bool). pick b row (row_after row address h)) (sym both.0);
+      buffer = writes_none row address c.args.words.now c.args.buffer.now h c.requires.heading_value
+          (λ zero. omega (arith, zero, ap number_told lost, number_positive c.in-Err.refusal));
+    }

@@ -1,10 +1,7 @@
--- `sendable` meets its contract: what is still to be asked decides.
-use Rattle.std.proofs.Common.{◌≡◌, ◌-◌, length, drop}
+-- `sendable` meets its contract: what was asked so far, and what is still to be asked, decide.
+use Rattle.std.proofs.Common.{◌≡◌, ◌&&◌, drop}
 use Rattle.fragment.specs.Cutting.{sendable}
 use Rattle.fragment.proofs.cutting.sendable.Given as goal
 
-abbrev pub invariant-loop-i : goal.invariant-loop-i
-invariant-loop-i l = sendable (drop l.i l.text) ≡ sendable l.text
-
-abbrev pub decreases-loop-i : goal.decreases-loop-i
-decreases-loop-i l = length l.text - l.i
+abbrev pub invariant-loop-character : goal.invariant-loop-character
+invariant-loop-character l = (l.all && sendable (drop l.character-index l.text)) ≡ sendable l.text

@@ -1,6 +1,6 @@
 -- `signature_of` meets its contract: each character of fill lowers the signature by 3.
 use Rattle.std.proofs.Common.{ℕ, ◌+◌, ◌-◌, ◌*◌, ◌%◌, length, ap, ◌∙◌, arith}
-use Rattle.fragment.proofs.cutting.Message.{fill_lowers}
+use Rattle.fragment.proofs.cutting.MessageCells.{fill_lowers}
 use Rattle.fragment.proofs.cutting.signature_of.Goals as goal
 
 pub returns : goal.returns

@@ -5,11 +5,11 @@ use Rattle.fragment.specs.Full.{is_full}
 use Rattle.laws.proofs.Rows.{all_turn, all_done}
 use Rattle.fragment.proofs.text.are_full.Goals as goal
 
-pub loop-at-preserved : goal.loop-at-preserved
-loop-at-preserved c = let words = c.args.words.now in
-    ap (λ (b : Bool). (c.loop-at.full && b) && all is_full (drop (c.loop-at.at + 1) words)) c.is_full-full.ensures
-    ∙ all_turn is_full words c.loop-at.at c.loop-at.full (omega arith)
-    ∙ c.loop-at.invariant
+pub loop-word-preserved : goal.loop-word-preserved
+loop-word-preserved c = let words = c.args.words.now in
+    ap (λ (b : Bool). (c.loop-word.full && b) && all is_full (drop (c.loop-word.word-index + 1) words)) c.is_full-full.ensures
+    ∙ all_turn is_full words c.loop-word.word-index c.loop-word.full (omega arith)
+    ∙ c.loop-word.invariant
 
 pub returns : goal.returns
-returns c = all_done is_full c.args.words.now c.loop-at.at c.loop-at.full (omega arith) ∙ c.loop-at.invariant
+returns c = all_done is_full c.args.words.now c.loop-word.word-index c.loop-word.full (omega arith) ∙ c.loop-word.invariant

@@ -1,24 +1,19 @@
 -- `feed` meets its contract: `Progress` holds between two turns, and at the end is what is asked.
 use mathlib.Core.Logic.{inl, inr}
-use mathlib.Core.Path.{◌≡◌}
 use native.Mathlib.Omega.{arith}
-use lib.ListN.{length}
-use borrow.Author.Rules.{rules}
 use Rattle.lister.proofs.Progress.{progress_start, progress_turn, progress_end}
 use Rattle.lister.proofs.feeding.feed.Goals as goal
 
-pub loop-course-init : goal.loop-course-init
-loop-course-init c = let long : length c.args.lister.line ≡ 16 = search rules in
-    progress_start c.args.lister.line _ _ c.args.lister.count c.args.lister.held long
+pub loop-fed-init : goal.loop-fed-init
+loop-fed-init c = progress_start c.args.lister _ _
 
-pub loop-course-preserved : goal.loop-course-preserved
-loop-course-preserved c = let p = c.loop-course.invariant in
-    progress_turn _ _ _ _ _ _ p _ _ _ (omega (arith, c.feed_some-course.auto))
-    (omega (arith, c.feed_some-course.auto, p.same)) c.feed_some-course.ensures
+pub loop-fed-preserved : goal.loop-fed-preserved
+loop-fed-preserved c = let p = c.loop-fed.invariant in
+    progress_turn _ _ _ _ _ p _ _ (omega (arith, c.feed_some.auto, p.same)) c.feed_some.ensures
 
-pub returns-after-loop-course : goal.returns-after-loop-course
-returns-after-loop-course c = progress_end _ _ _ _ _ _ c.loop-course.invariant (inl c.loop-course-test.false)
+pub returns-after-loop-fed : goal.returns-after-loop-fed
+returns-after-loop-fed c = progress_end _ _ _ _ _ c.loop-fed.invariant (inl c.loop-fed-test.false)
 
-pub returns-then-out-course-lt32 : goal.returns-then-out-course-lt32
-returns-then-out-course-lt32 c = let p = c.loop-course.invariant in
-    progress_end _ _ _ _ _ _ p (inr (omega (arith, c.if-out-course-lt32.true, p.same)))
+pub returns-then-out-fed-lt32 : goal.returns-then-out-fed-lt32
+returns-then-out-fed-lt32 c = let p = c.loop-fed.invariant in
+    progress_end _ _ _ _ _ p (inr (omega (arith, c.if-out-fed-lt32.true, p.same)))

@@ -5,4 +5,4 @@ use Rattle.lister.proofs.line_end.Phase.{read_phase}
 use Rattle.lister.proofs.line_end.judge.Goals as goal
 
 pub accepted_end-requires : goal.accepted_end-requires
-accepted_end-requires c = read_phase _ _ _ (sym (ap told_read c.in-Whole.is) ∙ c.read.ensures)
+accepted_end-requires c = read_phase _ _ _ (sym (ap told_read c.in-Ok.is) ∙ c.read.ensures)

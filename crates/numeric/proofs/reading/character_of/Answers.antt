@@ -1,9 +1,10 @@
--- `character_of` meets its contract: the digits by counting, none over 15, the others by the column.
-use Rattle.numeric.proofs.Codes.{digit_character, no_character}
+-- `character_of` meets its contract: the set by the option.
+use Rattle.std.proofs.Common.{◌∙◌}
+use Rattle.std.proofs.lemmas.Option.{unwrap_or-slice_get}
 use Rattle.numeric.proofs.reading.character_of.Goals as goal
+use Rattle.numeric.proofs.reading.character_of.Goals.{then-chinese, else-chinese}
 
-pub returns-then-code-lt10 : goal.returns-then-code-lt10
-returns-then-code-lt10 c = digit_character c.args.chinese c.args.code c.if-code-lt10.true
-
-pub returns-then-code-gt15 : goal.returns-then-code-gt15
-returns-then-code-gt15 c = no_character c.args.chinese c.args.code c.if-code-gt15.true
+pub returns : goal.returns
+returns c =
+    c.unwrap_or.ensures ∙ rw (c.character_of.ensures, unwrap_or-slice_get)
+    (elim c.if-chinese.branch [ then-chinese w ↦ rw (w.set-is, w.if-chinese.true) | else-chinese w ↦ rw (w.set-is, w.if-chinese.false) ])

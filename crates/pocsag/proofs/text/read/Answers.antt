@@ -1,19 +1,13 @@
--- `read` meets its contract: a refusal changes nothing and tells its number alone.
-use Prim.Native.Nat.{ℕ}
-use mathlib.Core.List.{[]}
-use mathlib.Core.Path.{◌≡◌, sym, ap, ◌∙◌}
-use lib.ListN.{length}
-use Rattle.refusal.specs.Told.{told, number_told}
-use Rattle.refusal.proofs.Laws.{refusal_keeps}
-use Rattle.pocsag.specs.Texts.{text_in, read_of, as_text}
-use Rattle.pocsag.proofs.Readable.{read_plain}
+-- `read` meets its contract: a number of no kind is refused first.
+use Rattle.std.proofs.Common.{rules}
+use borrow.Author.Tests.{lt-leb}
+use Rattle.pocsag.specs.Texts.{read_of}
 use Rattle.pocsag.proofs.text.read.Goals as goal
 
-pub returns-then-number-ne0 : goal.returns-then-number-ne0
-returns-then-number-ne0 c = let args = c.args in
-    let answer = read_of args.kind (length args.text.now) args.words.now in
-    let some : number_told answer ≡ 0 → ⊥ = λ none. c.if-number-ne0.true (c.judge-number.ensures ∙ none) in record {
-      told = c.refused.ensures
-          ∙ ap as_text (ap (λ (n : ℕ). told n []) c.judge-number.ensures ∙ sym (read_plain args.kind (length args.text.now) args.words.now some));
-      buffer = sym (refusal_keeps answer args.text.now (text_in args.kind args.words.now) some);
-    }
+pub returns-in_err-try_from-clause-told : goal.returns-in_err-try_from-clause-told
+unfolding read_of
+returns-in_err-try_from-clause-told c = rw (lt-leb c.args.kind 2 c.in_err-try_from.ensures.1) (search rules)
+
+pub returns-in_err-try_from-clause-buffer : goal.returns-in_err-try_from-clause-buffer
+unfolding read_of
+returns-in_err-try_from-clause-buffer c = rw (lt-leb c.args.kind 2 c.in_err-try_from.ensures.1)

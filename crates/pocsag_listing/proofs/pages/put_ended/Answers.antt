@@ -1,11 +1,9 @@
 -- `put_ended` meets its contract.
 use borrow.Author.Tests.{ne_eqb}
-use Rattle.std.proofs.lemmas.Bool.{not-false}
 use Rattle.pocsag_listing.proofs.Written.{written_then}
 use Rattle.pocsag_listing.proofs.pages.put_ended.Goals as goal
 
-pub returns : goal.returns
-returns g c =
+pub returns-then-options : goal.returns-then-options
+returns-then-options g c =
     let whole = written_then c.put_explained.result _ _ _ _ _ c.in_ok-put_refused.ensures c.put_explained.ensures in
-    rw (ne_eqb c.args.page.number 0 c.if-page-eq0.false, not-false c.args.options.is_explained c.if-not-options.false)
-    (rw c.kind_of-kind.ensures at whole)
+    rw (ne_eqb c.args.page.number 0 c.if-page-eq0.false, c.if-options.true) (rw c.kind_chosen-kind.ensures at whole)

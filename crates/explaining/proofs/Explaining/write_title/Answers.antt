@@ -1,0 +1,9 @@
+-- `write_title` meets its contract: its buffer has room for the first line.
+use Rattle.std.proofs.Common.{◌≤◌, length, arith, rules}
+use Rattle.lister.proofs.StartLaws.{title_length, answered_ok}
+use Rattle.explaining.proofs.Explaining.write_title.Goals as goal
+
+pub unwrap-n-requires : goal.unwrap-n-requires
+unwrap-n-requires g c =
+    let room : 42 ≤ length c.deref_mut.result.now = search rules in
+    rw (answered_ok _ _ _ _ (omega (arith, title_length)) c.title.ensures)
