@@ -1,4 +1,5 @@
 -- 01's numbers tell the refusals apart, and a refusal from what is none.
+use Rattle.std.specs.Prelude.{Result, Ok, Err}
 use Prim.Native.Nat.{ℕ, ◌<◌}
 use mathlib.Core.Bool.{Bool, true, false}
 use mathlib.Core.Path.{◌≡◌, refl, ap, sym, ◌∙◌}
@@ -16,7 +17,7 @@ use Rattle.refusal.specs.declared.Refusal.TheVariants.{Room, State, Text, «Type
 use Rattle.refusal.specs.declared.Refusal.TheVariants.{Address, Size, Damaged, Checksum, Full, NoChain}
 use Rattle.refusal.specs.declared.Refusal.TheVariants.{OutOfTurn, TooLong, Signature, NoCall, Character}
 use Rattle.refusal.specs.declared.Refusal.TheVariants.{DigitBeforeLetter, LeadingFour, DigitAfterLetter, BeyondRepair, NoSync}
-use Rattle.refusal.specs.Told.{number_of, number_unless, Told, told, refused, refused_at, given, ask, number_told, written_by}
+use Rattle.refusal.specs.Told.{number_of, number_unless, Told, told, refused, refused_at, given, ask, number_told, told_by, number_by, written_by}
 
 -- the refusal of a number; in the places of 0 and of 22 to 24, which no refusal has, stands Room
 abbrev pub of_number : ℕ → Refusal
@@ -122,6 +123,21 @@ given_head a b e = cc
 -- given values that are told alike are the same
 pub given_tells : (xs ys : List ℕ) → given xs ≡ given ys → xs ≡ ys
 given_tells xs ys e = ap told_values e
+
+-- two answers told alike are the same, if their values tell what they give apart
+pub told_by_tells : {A : Type 0} (values : A → List ℕ) → ((a b : A) → values a ≡ values b → a ≡ b)
+    → (x y : Result A Refusal) → told_by values x ≡ told_by values y → x ≡ y
+told_by_tells values one (Ok a) (Ok b) e = ap Ok (one a b (given_tells (values a) (values b) e))
+told_by_tells values one (Ok a) (Err r) e = absurd (given_not_refused (values a) r e)
+told_by_tells values one (Err r) (Ok b) e = absurd (given_not_refused (values b) r (sym e))
+told_by_tells values one (Err r) (Err q) e = ap Err (refused_tells r q e)
+
+-- two answers that give nothing, told by one number, are the same
+pub number_by_tells : (x y : Result (Unit {0}) Refusal) → number_by x ≡ number_by y → x ≡ y
+number_by_tells (Ok a) (Ok b) e = refl
+number_by_tells (Ok a) (Err r) e = absurd (omega (arith, number_positive r))
+number_by_tells (Err r) (Ok b) e = absurd (omega (arith, number_positive r))
+number_by_tells (Err r) (Err q) e = ap Err (number_tells r q e)
 
 -- ---- a question of a definition, refused or passed
 
