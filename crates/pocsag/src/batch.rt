@@ -273,6 +273,7 @@ impl PocsagReader {
     }
 
     // One word, as it was mended: what it does, and what the lent memory then holds.
+    // The page is asked for last: if the reader comes after it, an idle word takes half as many instructions again.
     pub(crate) fn step(self, mended: Result<Mended, Refusal>, lent: &mut [u32]) -> Step
         ensures told { step_told result ≡ step_by (length lent.old) self (mended_told mended) }
         ensures lent { lent.new ≡ stored_by self (mended_told mended) lent.old }
@@ -283,8 +284,8 @@ impl PocsagReader {
         self.store(meaning, lent);
         Step {
             told: meaning.told(self.is_open),
-            page: self.page_ended(room, meaning),
             reader: self.after(room, bits, meaning),
+            page: self.page_ended(room, meaning),
         }
     }
 }
