@@ -1,3 +1,4 @@
+pub mod AnswerLaws
 pub mod Arrival
 pub mod CodeExamples
 pub mod CodeLaws
