@@ -1,10 +1,10 @@
 // The listing of CAPCODE lines (document 01, "The listing program"), by portions of any size: bytes of
 // lines in, bytes of the listing out.
-ghost use Rattle.std.specs.Prelude.{◌≡◌, true, not, ◌&&◌, ◌+◌, ◌^◌, ◌≤◌, ◌<◌, length, get_or, IfSome};
-ghost use Rattle.lister.specs.Stands.{stand_of};
+ghost use Rattle.std.specs.Prelude.{◌≡◌, true, false, not, ◌&&◌, ◌++◌, ◌+◌, ◌^◌, ◌≤◌, ◌<◌, length, get_or, IfSome};
+ghost use Rattle.lister.specs.Stands.{kept_of, stand_of};
 ghost use Rattle.lister.specs.Texts.{Wrote};
 ghost use Rattle.lister.specs.Verdicts.{line_feed, verdict_of};
-ghost use Rattle.lister.specs.Portions.{writes, next, most_written, taken_of};
+ghost use Rattle.lister.specs.Portions.{kept, held_bytes, writes, next, most_written, taken_of};
 ghost use Rattle.lister.specs.Portions.{as_it_is, FedByte, Ahead, LineWritten, FedOn, FedAll};
 
 use crate::line_end::Verdict;
@@ -63,6 +63,18 @@ fn write_line(text: &[u8], out: &mut [u8], place: usize) -> Option<usize>
 }
 
 impl Lister {
+    // Keeps the carriage return that was held back, now that it is a byte of the line. (`with_return` gives the same of a
+    // listing that is handed over; a copy of the listing at every byte would cost more than the byte.)
+    fn keep_return(&mut self)
+        ensures kept { kept_of self.new ≡ kept (kept_of self.old ++ held_bytes self.old.held) }
+        ensures held { self.new.held ≡ false }
+    {
+        if self.held {
+            self.keep(b'\r');
+            self.held = false;
+        }
+    }
+
     // Takes a byte of the input.
     fn go_on(&mut self, byte: u8)
         ensures { stand_of self.new ≡ next (stand_of self.old) byte }
@@ -72,7 +84,7 @@ impl Lister {
             self.held = false;
             return;
         }
-        *self = crate::with_return(*self);
+        self.keep_return();
         if byte == b'\r' {
             self.held = true;
             return;
