@@ -4,7 +4,7 @@ ghost use Rattle.std.specs.Prelude.{◌≡◌, ℕ, set, ◌+◌, ◌*◌, ◌�
 ghost use Rattle.laws.specs.Lists.{put};
 ghost use Rattle.refusal.specs.Told.{Told, refused};
 ghost use Rattle.fragment.specs.Fragments.{most_characters, text_in};
-ghost use Rattle.chain.specs.Chains.{blank, found, sound, slot_count};
+ghost use Rattle.chain.specs.Chains.{found, sound, slot_count};
 ghost use Rattle.chain.specs.Steps.{heading_in, cleared};
 ghost use Rattle.chain.specs.Answers.{when_heard, as_answer, as_step, step_of, chains_after, buffer_after};
 ghost use Rattle.chain.specs.JoiningPieces.{turn_of, answered, taken_of, Heard, join_of, joined_row, joined_bytes};
@@ -160,13 +160,13 @@ fn taken_in(turn: Turn, slot: usize, heading: FragmentHeading) -> Taken
     }
 }
 
-// A slot closed, if there is one.
-fn close(slots: &mut [Chain], slot: Option<usize>)
+// A record stored in a slot, if there is one.
+fn store(slots: &mut [Chain], slot: Option<usize>, chain: Chain)
     requires { (place : ℕ) × (slot ≡ found slots.old place) }
-    ensures { (place : ℕ) → slot ≡ found slots.old place → slots.new ≡ set slots.old place blank }
+    ensures { (place : ℕ) → slot ≡ found slots.old place → slots.new ≡ set slots.old place chain }
 {
     if let Some(slot) = slot {
-        slots[slot] = BLANK;
+        slots[slot] = chain;
     }
 }
 
@@ -196,22 +196,24 @@ fn join(
 {
     let turn = turn_of(slots, address, heading)?;
     match crate::one_chain::fate(turn.chain, heading) {
-        Ok(chain) => match turn.slot {
-            Some(slot) => {
-                slots[slot] = chain;
-                write_at(
-                    words,
-                    buffer,
-                    slot * MOST_CHARACTERS + turn.chain.characters,
-                );
-                Ok(taken_in(turn, slot, heading))
+        Ok(chain) => {
+            store(slots, turn.slot, chain);
+            match turn.slot {
+                Some(slot) => {
+                    write_at(
+                        words,
+                        buffer,
+                        slot * MOST_CHARACTERS + turn.chain.characters,
+                    );
+                    Ok(taken_in(turn, slot, heading))
+                }
+                None => Err(Refused::from(Refusal::Full)),
             }
-            None => Err(Refused::from(Refusal::Full)),
-        },
-        Err(refusal) => {
-            close(slots, turn.slot);
+        }
+        Err(lost) => {
+            store(slots, turn.slot, lost.chain);
             Err(Refused {
-                refusal,
+                refusal: lost.refusal,
                 lost: turn.known,
             })
         }

@@ -7,6 +7,8 @@
 // fragments and drops. The laws are in proofs/Laws (one step), proofs/Texts (the lent bytes) and proofs/Runs.
 #![tactic(auto)]
 
+use refusal::Refusal;
+
 // What a fragment makes of its own chain.
 mod one_chain;
 
@@ -110,4 +112,11 @@ pub struct ChainStep {
 pub struct ChainDrop {
     pub number: u32,
     pub chains: Chains,
+}
+
+// A chain that its fragment closes: the refusal, and the record that its slot has then.
+#[derive(Clone, Copy, Debug, PartialEq, Eq)]
+pub struct Lost {
+    pub refusal: Refusal,
+    pub chain: Chain,
 }

@@ -2,10 +2,10 @@
 use Prim.Native.Nat.{ℕ, ◌+◌, ◌≤◌, ◌<◌}
 use mathlib.Core.Bool.{Bool, true, false}
 use mathlib.Core.List.{List, [], ◌∷◌}
-use mathlib.Core.Path.{◌≡◌, refl, sym, ap, ◌∙◌}
+use mathlib.Core.Path.{◌≡◌, refl, sym, ap, ap₂, ◌∙◌}
 use native.Mathlib.Omega.{arith}
 use borrow.Author.Tests.{eq-eqb, ne_eqb}
-use lib.ListN.{length}
+use lib.ListN.{length, set}
 use Rattle.std.specs.Prelude.{Some, Ok, Err}
 use Rattle.laws.specs.Choice.{pick, bit_of}
 use Rattle.laws.specs.Lists.{put}
@@ -15,15 +15,17 @@ use Rattle.refusal.specs.Told.{told, refused, ask, number_of, number_told}
 use Rattle.fragment.specs.Fragments.{text_in}
 use Rattle.fragment.specs.declared.FragmentHeading.{FragmentHeading}
 use Rattle.chain.specs.declared.Chain.{Chain}
-use Rattle.chain.specs.Chains.{blank}
+use Rattle.chain.specs.declared.Lost.{Lost}
 use Rattle.chain.specs.Steps.{heading_in, Fate, lost, grows, whole, fate, characters_after, record_after}
-use Rattle.chain.specs.Steps.{slot_for, chain_before, fate_of, end_place}
+use Rattle.chain.specs.Steps.{cleared, slot_for, chain_before, fate_of, row_after, end_place}
 use Rattle.chain.specs.Answers.{known, full, told_of}
+use Rattle.chain.specs.Chains.{found}
 use Rattle.chain.proofs.Fates.{fate_by}
-use Rattle.chain.proofs.finding.Found.{found_slot}
+use Rattle.chain.proofs.finding.Found.{found_slot, found_alike}
+use Rattle.chain.proofs.Steps.{cleared_length}
 use Rattle.chain.specs.FateAnswers.{fate_number, as_fate}
 use Rattle.chain.specs.declared.joining.Turn.{Turn}
-use Rattle.chain.specs.JoiningPieces.{orphan, goes, turn_of, taken_of, join_of, joined_bytes}
+use Rattle.chain.specs.JoiningPieces.{orphan, goes, turn_of, taken_of, join_of, joined_row, joined_bytes}
 
 -- a chain that is not lost has room for the text
 pub has_room : (c : Chain) (h : FragmentHeading) → fate_number (fate c h) ≡ 0 → characters_after c h ≤ 1008
@@ -45,11 +47,11 @@ kept_record (lost r) c is = absurd (cc)
 kept_record (grows d) c is = cc
 kept_record whole c is = cc
 
--- a chain that is lost leaves a closed slot
-pub lost_record : (f : Fate) (r : Refusal) → Err r ≡ as_fate f → record_after f ≡ blank
-lost_record (lost s) r is = refl
-lost_record (grows d) r is = absurd (cc)
-lost_record whole r is = absurd (cc)
+-- the record that a chain leaves that is lost
+pub lost_record : (f : Fate) (l : Lost) → Err l ≡ as_fate f → l.chain ≡ record_after f
+lost_record (lost r) l is = let same : l ≡ record { refusal = r; chain = record_after (lost r) } = cc in ap (λ (m : Lost). m.chain) same
+lost_record (grows d) l is = absurd (cc)
+lost_record whole l is = absurd (cc)
 
 module _ (row : List Chain) (address : ℕ) (h : FragmentHeading) where
   -- a fragment that goes somewhere has a chain to go on with
@@ -80,11 +82,12 @@ module _ (row : List Chain) (address : ℕ) (h : FragmentHeading) where
 
   module _ (is : orphan row address h ≡ false) where
     -- 14, 15, 16: the chain is lost
-    pub join_lost : (r : Refusal) → Err r ≡ as_fate (fate_of row address h) → join_of row address h ≡ told (number_of r) (bit_of (known row address h) ∷ [])
-    join_lost r gone = rw is (by_fate (fate_of row address h) gone)
+    pub join_lost : (l : Lost) → Err l ≡ as_fate (fate_of row address h)
+        → join_of row address h ≡ told (number_of l.refusal) (bit_of (known row address h) ∷ [])
+    join_lost l gone = rw is (by_fate (fate_of row address h) gone)
       where
-        by_fate : (f : Fate) → Err r ≡ as_fate f → told_of row address h f ≡ told (number_of r) (bit_of (known row address h) ∷ [])
-        by_fate (lost s) gone = let same : s ≡ r = cc in rw same
+        by_fate : (f : Fate) → Err l ≡ as_fate f → told_of row address h f ≡ told (number_of l.refusal) (bit_of (known row address h) ∷ [])
+        by_fate (lost r) gone = let same : l ≡ record { refusal = r; chain = record_after (lost r) } = cc in rw same
         by_fate (grows c) gone = absurd (cc)
         by_fate whole gone = absurd (cc)
 
@@ -97,6 +100,22 @@ module _ (row : List Chain) (address : ℕ) (h : FragmentHeading) where
       pub join_taken : (slot_for row address h ≡ length row → ⊥)
           → join_of row address h ≡ taken_of (goes row address h) (slot_for row address h) h
       join_taken there = rw (is, told_taken none, ne_eqb (slot_for row address h) (length row) there)
+
+-- the slot that a fragment goes to, in the records after it was looked for
+pub place_of : (row after : List Chain) (address : ℕ) (h : FragmentHeading) (t : Turn) → Ok t ≡ turn_of row address h → after ≡ cleared row address h
+    → t.slot ≡ found after (slot_for row address h)
+place_of row after address h t turns is =
+    ap (λ (u : Turn). u.slot) (turned row address h t turns).1
+    ∙ found_alike row after (slot_for row address h) (sym (ap length is ∙ cleared_length row address h))
+
+-- the records are those after the fragment, once its slot has the record that its chain leaves
+pub stored : (row after exit : List Chain) (address : ℕ) (h : FragmentHeading) (t : Turn) (c : Chain) → Ok t ≡ turn_of row address h
+    → after ≡ cleared row address h → c ≡ record_after (fate_of row address h)
+    → ((place : ℕ) → t.slot ≡ found after place → exit ≡ set after place c) → exit ≡ joined_row row address h
+stored row after exit address h t c turns is leaves stores =
+    stores (slot_for row address h) (place_of row after address h t turns is)
+    ∙ ap₂ (λ (r : List Chain) (x : Chain). set r (slot_for row address h) x) is leaves
+    ∙ ap (λ (b : Bool). pick b row (row_after row address h)) (sym (turned row address h t turns).0)
 
 -- a fragment that is taken in a slot
 pub record Lands (row : List Chain) (address : ℕ) (h : FragmentHeading) (t : Turn) (c : Chain) (slot : ℕ) : Type 0 where

@@ -1,5 +1,5 @@
 -- `join` meets its contract: each return is one case of what becomes of the chain.
-use Rattle.std.proofs.Common.{◌≡◌, ℕ, ◌+◌, ◌*◌, Bool, not, List, length, set, Err, sym, ap, ◌∙◌, ap₂, arith, ltb-false}
+use Rattle.std.proofs.Common.{Ok, ◌≡◌, ℕ, ◌+◌, ◌*◌, Bool, not, List, length, set, Err, sym, ap, ◌∙◌, ap₂, arith, ltb-false}
 use borrow.Author.Tests.{not-true}
 use lib.Seq.{set_out}
 use Rattle.std.proofs.lemmas.Result.{err_from_is_err_and}
@@ -19,7 +19,7 @@ use Rattle.chain.specs.Answers.{known, as_answer}
 use Rattle.chain.specs.JoiningPieces.{taken_of, answered, join_of}
 use Rattle.chain.proofs.Steps.{slot_most, cleared_length}
 use Rattle.chain.proofs.finding.Found.{found_none, found_alike}
-use Rattle.chain.proofs.joining.Turns.{turned, not_turned, not_lost, lost_record, lands, join_lost, join_full, join_taken, writes_none, writes_text}
+use Rattle.chain.proofs.joining.Turns.{turned, not_turned, not_lost, kept_record, lost_record, place_of, stored, lands, join_lost, join_full, join_taken, writes_none, writes_text}
 use Rattle.chain.proofs.joining.join.Goals as goal
 
 pub overflow_add-slot : goal.overflow_add-slot
@@ -63,9 +63,7 @@ returns-in-Some c =
     let taken = join_taken row address h l.alone l.none (λ same. omega (arith, same, l.place, l.within)) in
     record {
       told = c.taken_in.ensures ∙ ap as_answer (ap₂ (λ (t : Turn) (s : ℕ). taken_of t s h) l.there l.place ∙ sym taken);
-      slots = ap (λ (r : List Chain). set r c.in-Some.slot c.in-Ok.chain) c.in_ok-turn.ensures.slots
-          ∙ ap₂ (set (cleared row address h)) l.place l.after
-          ∙ ap (λ (b : Bool). pick b row (row_after row address h)) (sym l.alone);
+      slots = stored row _ _ address h c.in_ok-turn.turn _ c.in_ok-turn.ensures.turn c.in_ok-turn.ensures.slots l.after c.store.ensures;
       buffer = writes_text row address words buffer h c.requires.heading_value _ (ap number_told taken)
           (c.write_at.ensures
           ∙ ap₂ (λ (s n : ℕ). put buffer (s * 1008 + n) (text_in words)) l.place (ap (λ (t : Turn). t.chain.characters) l.there));
@@ -77,28 +75,31 @@ returns-in-None c =
     let address = c.args.address in
     let h = c.args.heading in
     let both = turned row address h c.in_ok-turn.turn c.in_ok-turn.ensures.turn in
-    let none = not_lost (fate_of row address h) c.in-Ok.chain (c.in-Ok.ensures ∙ ap (λ (t : Turn). as_fate (fate t.chain h)) both.1) in
+    let kept : Ok c.in-Ok.chain ≡ as_fate (fate_of row address h) = c.in-Ok.ensures ∙ ap (λ (t : Turn). as_fate (fate t.chain h)) both.1 in
+    let none = not_lost (fate_of row address h) c.in-Ok.chain kept in
     let out = ltb-false (slot_for row address h) (length row)
     (found_none row (slot_for row address h) (sym c.in-None.is ∙ ap (λ (t : Turn). t.slot) both.1)) in
     let full = join_full row address h both.0 none (omega (arith, out, slot_most row address h)) in
     record {
       told = ap (λ (r : Refused). answered (Err r)) c.from.ensures ∙ ap as_answer (sym full);
-      slots = c.in_ok-turn.ensures.slots
-          ∙ sym (set_out (cleared row address h) (slot_for row address h) (record_after (fate_of row address h)) (omega (arith, out, cleared_length row address h)))
-          ∙ ap (λ (b : Bool). pick b row (row_after row address h)) (sym both.0);
+      slots = stored row _ _ address h c.in_ok-turn.turn _ c.in_ok-turn.ensures.turn c.in_ok-turn.ensures.slots
+          (kept_record (fate_of row address h) c.in-Ok.chain kept) c.store.ensures;
       buffer = writes_none row address c.args.words.now c.args.buffer.now h c.requires.heading_value (λ zero. omega (arith, zero, ap number_told full));
     }
 
-pub close-requires : goal.close-requires
-close-requires c =
+pub store-requires : goal.store-requires
+store-requires c =
     let row = c.args.slots.now in
     let address = c.args.address in
     let h = c.args.heading in
-    let both = turned row address h c.in_ok-turn.turn c.in_ok-turn.ensures.turn in (
-      slot_for row address h,
-      ap (λ (t : Turn). t.slot) both.1
-          ∙ found_alike row _ (slot_for row address h) (sym (ap length c.in_ok-turn.ensures.slots ∙ cleared_length row address h)),
-    )
+    (slot_for row address h, place_of row _ address h c.in_ok-turn.turn c.in_ok-turn.ensures.turn c.in_ok-turn.ensures.slots)
+
+pub store-requires-in-Err : goal.store-requires-in-Err
+store-requires-in-Err c =
+    let row = c.args.slots.now in
+    let address = c.args.address in
+    let h = c.args.heading in
+    (slot_for row address h, place_of row _ address h c.in_ok-turn.turn c.in_ok-turn.ensures.turn c.in_ok-turn.ensures.slots)
 
 pub returns-in-Err : goal.returns-in-Err
 returns-in-Err c =
@@ -106,16 +107,12 @@ returns-in-Err c =
     let address = c.args.address in
     let h = c.args.heading in
     let both = turned row address h c.in_ok-turn.turn c.in_ok-turn.ensures.turn in
-    let gone : Err c.in-Err.refusal ≡ as_fate (fate_of row address h) = c.in-Err.ensures ∙ ap (λ (t : Turn). as_fate (fate t.chain h)) both.1 in
-    let lost = join_lost row address h both.0 c.in-Err.refusal gone in
+    let gone : Err c.in-Err.lost ≡ as_fate (fate_of row address h) = c.in-Err.ensures ∙ ap (λ (t : Turn). as_fate (fate t.chain h)) both.1 in
+    let lost = join_lost row address h both.0 c.in-Err.lost gone in
     record {
-      told = ap (λ (t : Turn). answered (Err (record { refusal = c.in-Err.refusal; lost = t.known }))) both.1 ∙ ap as_answer (sym lost);
-      slots = c.close.ensures (slot_for row address h)
-          (ap (λ (t : Turn). t.slot) both.1
-          ∙ found_alike row _ (slot_for row address h) (sym (ap length c.in_ok-turn.ensures.slots ∙ cleared_length row address h)))
-          ∙ ap₂ (λ (r : List Chain) (x : Chain). set r (slot_for row address h) x) c.in_ok-turn.ensures.slots
-          (sym (lost_record (fate_of row address h) c.in-Err.refusal gone))
-          ∙ ap (λ (b : Bool). pick b row (row_after row address h)) (sym both.0);
+      told = ap (λ (t : Turn). answered (Err (record { refusal = c.in-Err.lost.refusal; lost = t.known }))) both.1 ∙ ap as_answer (sym lost);
+      slots = stored row _ _ address h c.in_ok-turn.turn _ c.in_ok-turn.ensures.turn c.in_ok-turn.ensures.slots
+          (lost_record (fate_of row address h) c.in-Err.lost gone) c.store-in-Err.ensures;
       buffer = writes_none row address c.args.words.now c.args.buffer.now h c.requires.heading_value
-          (λ zero. omega (arith, zero, ap number_told lost, number_positive c.in-Err.refusal));
+          (λ zero. omega (arith, zero, ap number_told lost, number_positive c.in-Err.lost.refusal));
     }
