@@ -15,6 +15,9 @@ ghost use Rattle.fragment.specs.CutAnswers.{cut_of, words_after, of_cut};
 use crate::{CELL_LIMIT, CutSize, ETX, MOST_CHARACTERS, Marks};
 use refusal::Refusal;
 
+// How many characters are asked at a time whether they can be sent.
+const PART: usize = 64;
+
 // 01's table, 7: whether N, R and M fit their bits.
 fn marked(marks: Marks) -> bool
     ensures { result ≡ marked marks }
@@ -29,16 +32,31 @@ fn is_text(character: u8) -> bool
     ((character as u32) < CELL_LIMIT) & (character as u32 != ETX)
 }
 
-// 01's table, 18: whether every character can stand in a text. All are asked, since a loop that leaves early is not compiled
-// to several characters at a time.
-fn sendable(text: &[u8]) -> bool
-    ensures { result ≡ sendable text.now }
+// 01's table, 18: whether every character of a part can stand in a text. All are asked, since a loop that leaves early is not
+// compiled to several characters at a time.
+fn part_sendable(part: &[u8]) -> bool
+    ensures { result ≡ sendable part.now }
 {
     let mut all = true;
-    for character in text {
+    for character in part {
         all = all & is_text(*character);
     }
     all
+}
+
+// 01's table, 18: whether every character can stand in a text. It is asked part by part, so that a text with a wrong character
+// near its start is refused without a look at all of it.
+fn sendable(text: &[u8]) -> bool
+    ensures { result ≡ sendable text.now }
+{
+    let mut rest = text;
+    while rest.len() > PART {
+        if !part_sendable(&rest[..PART]) {
+            return false;
+        }
+        rest = &rest[PART..];
+    }
+    part_sendable(rest)
 }
 
 // How many words signature, text and fill are.
