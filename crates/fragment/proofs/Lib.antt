@@ -6,3 +6,4 @@ pub mod CutLaws
 pub mod Examples
 pub mod Heads
 pub mod Laws
+pub mod Tells
