@@ -36,9 +36,8 @@ fn is_sound(chain: &Chain) -> bool
 pub(crate) fn find(slots: &[Chain], address: u32, message_number: u32) -> Option<usize>
     ensures { result ≡ found slots.now (find address message_number slots.now) }
 {
-    slots
-        .iter()
-        .position(|chain| is_of(chain, address, message_number))
+    let of_key = |chain: &Chain| is_of(chain, address, message_number);
+    slots.iter().position(of_key)
 }
 
 // 01: "the lowest-numbered free slot", if one is free. A loop that breaks with it is the form that 01 names for this place.
