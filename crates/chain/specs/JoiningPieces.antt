@@ -11,7 +11,7 @@ use Rattle.fragment.specs.declared.FragmentHeading.{FragmentHeading}
 use Rattle.chain.specs.declared.Chain.{Chain}
 use Rattle.chain.specs.declared.ChainAnswer.{ChainAnswer}
 use Rattle.chain.specs.Chains.{found, sound}
-use Rattle.chain.specs.Steps.{heading_in, is_first, goes_on, characters_after, slot_for, chain_before, fate_of, row_after, end_place}
+use Rattle.chain.specs.Steps.{Fate, lost, grows, whole, heading_in, is_first, goes_on, characters_after, slot_for, chain_before, fate_of, row_after, end_place}
 use Rattle.chain.specs.Answers.{known, told_of, as_answer}
 use Rattle.chain.specs.declared.joining.Turn.{Turn}
 use Rattle.chain.specs.declared.joining.Taken.{Taken}
@@ -37,6 +37,12 @@ goes row address h = record { chain = chain_before row address h; slot = found r
 -- where a fragment goes
 abbrev pub turn_of : List Chain → ℕ → FragmentHeading → Result Turn Refusal
 turn_of row address h = pick (orphan row address h) (Err NoChain) (Ok (goes row address h))
+
+-- whether the fragment's chain is lost: then it is refused, with whether an open chain was closed
+abbrev pub settled : Turn → Fate → Result (Unit {0}) Refused
+settled t (lost r) = Err (record { refusal = r; lost = t.known })
+settled t (grows c) = Ok tt
+settled t whole = Ok tt
 
 -- what is told of a text that is handed out
 abbrev pub of_text : Option TextPlace → List ℕ

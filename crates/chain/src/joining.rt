@@ -5,9 +5,9 @@ ghost use Rattle.laws.specs.Lists.{put};
 ghost use Rattle.refusal.specs.Told.{Told, refused};
 ghost use Rattle.fragment.specs.Fragments.{most_characters, text_in};
 ghost use Rattle.chain.specs.Chains.{found, sound, slot_count};
-ghost use Rattle.chain.specs.Steps.{heading_in, cleared};
+ghost use Rattle.chain.specs.Steps.{heading_in, fate, record_after, cleared};
 ghost use Rattle.chain.specs.Answers.{when_heard, as_answer, as_step, step_of, chains_after, buffer_after};
-ghost use Rattle.chain.specs.JoiningPieces.{turn_of, answered, taken_of, Heard, join_of, joined_row, joined_bytes};
+ghost use Rattle.chain.specs.JoiningPieces.{turn_of, settled, answered, taken_of, Heard, join_of, joined_row, joined_bytes};
 
 use crate::{BLANK, Chain, ChainAnswer, ChainStep, Chains, FIRST_FRAGMENT, LAST_ADDRESS, SLOTS};
 use fragment::{FragmentHeading, MOST_CHARACTERS};
@@ -20,6 +20,18 @@ struct Turn {
     chain: Chain,
     slot: Option<usize>,
     known: bool,
+}
+
+impl Turn {
+    // A refusal that closes the chain, with whether an open chain was found.
+    fn refused(self, refusal: Refusal) -> Refused
+        ensures { result ≡ record { refusal = refusal; lost = self.known } }
+    {
+        Refused {
+            refusal,
+            lost: self.known,
+        }
+    }
 }
 
 // Where a text is that is handed out.
@@ -170,6 +182,27 @@ fn store(slots: &mut [Chain], slot: Option<usize>, chain: Chain)
     }
 }
 
+// What a fragment makes of its chain, stored in its slot, if there is one; or 14, 15 or 16 of 01's table, with which the chain
+// is closed.
+fn settle(slots: &mut [Chain], turn: Turn, heading: FragmentHeading) -> Result<(), Refused>
+    requires { (place : ℕ) × (turn.slot ≡ found slots.old place) }
+    ensures told { result ≡ settled turn (fate turn.chain heading) }
+    ensures slots { (place : ℕ)
+        → turn.slot ≡ found slots.old place
+        → slots.new ≡ set slots.old place (record_after (fate turn.chain heading)) }
+{
+    match crate::one_chain::fate(turn.chain, heading) {
+        Ok(chain) => {
+            store(slots, turn.slot, chain);
+            Ok(())
+        }
+        Err(lost) => {
+            store(slots, turn.slot, lost.chain);
+            Err(turn.refused(lost.refusal))
+        }
+    }
+}
+
 // The text of a fragment at a place of the lent buffer.
 fn write_at(words: &[u32], buffer: &mut [u8], place: usize)
     requires { place + length (text_in words.now) ≤ length buffer.old }
@@ -195,28 +228,17 @@ fn join(
     ensures buffer { buffer.new ≡ joined_bytes slots.old address words.now buffer.old }
 {
     let turn = turn_of(slots, address, heading)?;
-    match crate::one_chain::fate(turn.chain, heading) {
-        Ok(chain) => {
-            store(slots, turn.slot, chain);
-            match turn.slot {
-                Some(slot) => {
-                    write_at(
-                        words,
-                        buffer,
-                        slot * MOST_CHARACTERS + turn.chain.characters,
-                    );
-                    Ok(taken_in(turn, slot, heading))
-                }
-                None => Err(Refused::from(Refusal::Full)),
-            }
+    settle(slots, turn, heading)?;
+    match turn.slot {
+        Some(slot) => {
+            write_at(
+                words,
+                buffer,
+                slot * MOST_CHARACTERS + turn.chain.characters,
+            );
+            Ok(taken_in(turn, slot, heading))
         }
-        Err(lost) => {
-            store(slots, turn.slot, lost.chain);
-            Err(Refused {
-                refusal: lost.refusal,
-                lost: turn.known,
-            })
-        }
+        None => Err(Refused::from(Refusal::Full)),
     }
 }
 

@@ -6,7 +6,7 @@ use mathlib.Core.Path.{◌≡◌, refl, sym, ap, ap₂, ◌∙◌}
 use native.Mathlib.Omega.{arith}
 use borrow.Author.Tests.{eq-eqb, ne_eqb}
 use lib.ListN.{length, set}
-use Rattle.std.specs.Prelude.{Some, Ok, Err}
+use Rattle.std.specs.Prelude.{Result, Some, Ok, Err}
 use Rattle.laws.specs.Choice.{pick, bit_of}
 use Rattle.laws.specs.Lists.{put}
 use Rattle.refusal.specs.declared.Refusal.{Refusal}
@@ -25,7 +25,8 @@ use Rattle.chain.proofs.finding.Found.{found_slot, found_alike}
 use Rattle.chain.proofs.Steps.{cleared_length}
 use Rattle.chain.specs.FateAnswers.{fate_number, as_fate}
 use Rattle.chain.specs.declared.joining.Turn.{Turn}
-use Rattle.chain.specs.JoiningPieces.{orphan, goes, turn_of, taken_of, join_of, joined_row, joined_bytes}
+use Rattle.chain.specs.declared.joining.Refused.{Refused}
+use Rattle.chain.specs.JoiningPieces.{orphan, goes, turn_of, settled, taken_of, join_of, joined_row, joined_bytes}
 
 -- a chain that is not lost has room for the text
 pub has_room : (c : Chain) (h : FragmentHeading) → fate_number (fate c h) ≡ 0 → characters_after c h ≤ 1008
@@ -36,10 +37,23 @@ has_room c h =
     (λ taken ends none. taken.fits)
 
 -- a chain that goes on or is whole is not lost
-pub not_lost : (f : Fate) (c : Chain) → Ok c ≡ as_fate f → fate_number f ≡ 0
-not_lost (lost r) c is = absurd (cc)
-not_lost (grows d) c is = refl
-not_lost whole c is = refl
+pub not_lost : (t : Turn) (f : Fate) (u : Unit {0}) → Ok u ≡ settled t f → fate_number f ≡ 0
+not_lost t (lost r) u is = absurd (cc)
+not_lost t (grows c) u is = refl
+not_lost t whole u is = refl
+
+-- its fragment is not refused
+pub settles : (t : Turn) (f : Fate) (c : Chain) → Ok c ≡ as_fate f → Ok tt ≡ settled t f
+settles t (lost r) c is = absurd (cc)
+settles t (grows d) c is = refl
+settles t whole c is = refl
+
+-- the fragment of a chain that is lost is
+pub settles_lost : (t : Turn) (f : Fate) (l : Lost) (x : Result (Unit {0}) Refused) → Err l ≡ as_fate f
+    → x ≡ Err (record { refusal = l.refusal; lost = t.known }) → x ≡ settled t f
+settles_lost t (lost r) l x is e = let same : l ≡ record { refusal = r; chain = record_after (lost r) } = cc in e ∙ rw same
+settles_lost t (grows d) l x is e = absurd (cc)
+settles_lost t whole l x is e = absurd (cc)
 
 -- the record that it leaves then
 pub kept_record : (f : Fate) (c : Chain) → Ok c ≡ as_fate f → c ≡ record_after f
@@ -82,12 +96,12 @@ module _ (row : List Chain) (address : ℕ) (h : FragmentHeading) where
 
   module _ (is : orphan row address h ≡ false) where
     -- 14, 15, 16: the chain is lost
-    pub join_lost : (l : Lost) → Err l ≡ as_fate (fate_of row address h)
-        → join_of row address h ≡ told (number_of l.refusal) (bit_of (known row address h) ∷ [])
-    join_lost l gone = rw is (by_fate (fate_of row address h) gone)
+    pub join_lost : (r : Refused) → Err r ≡ settled (goes row address h) (fate_of row address h)
+        → join_of row address h ≡ told (number_of r.refusal) (bit_of r.lost ∷ [])
+    join_lost r gone = rw is (by_fate (fate_of row address h) gone)
       where
-        by_fate : (f : Fate) → Err l ≡ as_fate f → told_of row address h f ≡ told (number_of l.refusal) (bit_of (known row address h) ∷ [])
-        by_fate (lost r) gone = let same : l ≡ record { refusal = r; chain = record_after (lost r) } = cc in rw same
+        by_fate : (f : Fate) → Err r ≡ settled (goes row address h) f → told_of row address h f ≡ told (number_of r.refusal) (bit_of r.lost ∷ [])
+        by_fate (lost q) gone = let same : r ≡ record { refusal = q; lost = known row address h } = cc in rw same
         by_fate (grows c) gone = absurd (cc)
         by_fate whole gone = absurd (cc)
 
@@ -109,38 +123,35 @@ place_of row after address h t turns is =
     ∙ found_alike row after (slot_for row address h) (sym (ap length is ∙ cleared_length row address h))
 
 -- the records are those after the fragment, once its slot has the record that its chain leaves
-pub stored : (row after exit : List Chain) (address : ℕ) (h : FragmentHeading) (t : Turn) (c : Chain) → Ok t ≡ turn_of row address h
-    → after ≡ cleared row address h → c ≡ record_after (fate_of row address h)
-    → ((place : ℕ) → t.slot ≡ found after place → exit ≡ set after place c) → exit ≡ joined_row row address h
-stored row after exit address h t c turns is leaves stores =
+pub stored : (row after exit : List Chain) (address : ℕ) (h : FragmentHeading) (t : Turn) → Ok t ≡ turn_of row address h
+    → after ≡ cleared row address h
+    → ((place : ℕ) → t.slot ≡ found after place → exit ≡ set after place (record_after (fate t.chain h))) → exit ≡ joined_row row address h
+stored row after exit address h t turns is stores =
     stores (slot_for row address h) (place_of row after address h t turns is)
-    ∙ ap₂ (λ (r : List Chain) (x : Chain). set r (slot_for row address h) x) is leaves
+    ∙ ap₂ (λ (r : List Chain) (u : Turn). set r (slot_for row address h) (record_after (fate u.chain h))) is (turned row address h t turns).1
     ∙ ap (λ (b : Bool). pick b row (row_after row address h)) (sym (turned row address h t turns).0)
 
 -- a fragment that is taken in a slot
-pub record Lands (row : List Chain) (address : ℕ) (h : FragmentHeading) (t : Turn) (c : Chain) (slot : ℕ) : Type 0 where
+pub record Lands (row : List Chain) (address : ℕ) (h : FragmentHeading) (t : Turn) (slot : ℕ) : Type 0 where
   pub alone : orphan row address h ≡ false
   pub there : t ≡ goes row address h
   pub place : slot ≡ slot_for row address h
   pub within : slot < length row
-  pub after : c ≡ record_after (fate_of row address h)
   pub none : fate_number (fate_of row address h) ≡ 0
   pub fits : t.chain.characters + h.characters ≤ 1008
 
--- where a fragment goes that has a slot, and what its chain is then
-pub lands : (row : List Chain) (address : ℕ) (h : FragmentHeading) (t : Turn) (c : Chain) (slot : ℕ) → Ok t ≡ turn_of row address h → t.slot ≡ Some slot
-    → Ok c ≡ as_fate (fate t.chain h) → Lands row address h t c slot
-lands row address h t c slot turns is kept =
+-- where a fragment goes that has a slot, and whose chain is not lost
+pub lands : (row : List Chain) (address : ℕ) (h : FragmentHeading) (t : Turn) (u : Unit {0}) (slot : ℕ) → Ok t ≡ turn_of row address h → t.slot ≡ Some slot
+    → Ok u ≡ settled t (fate t.chain h) → Lands row address h t slot
+lands row address h t u slot turns is kept =
     let both = turned row address h t turns in
     let at = found_slot row (slot_for row address h) slot (sym is ∙ ap (λ (u : Turn). u.slot) both.1) in
-    let kept_is : Ok c ≡ as_fate (fate_of row address h) = kept ∙ ap (λ (u : Turn). as_fate (fate u.chain h)) both.1 in
-    let none = not_lost (fate_of row address h) c kept_is in
+    let none = not_lost (goes row address h) (fate_of row address h) u (kept ∙ ap (λ (v : Turn). settled v (fate v.chain h)) both.1) in
     record {
       alone = both.0;
       there = both.1;
       place = at.0;
       within = at.1;
-      after = kept_record (fate_of row address h) c kept_is;
       none = none;
       fits = rw both.1 (has_room (chain_before row address h) h none);
     }
