@@ -11,10 +11,13 @@ use Rattle.laws.specs.Choice.{pick}
 use Rattle.laws.proofs.Tests.{decided, not_both}
 use Rattle.refusal.specs.declared.Refusal.TheVariants.{OutOfTurn, TooLong, Signature}
 use Rattle.refusal.specs.Told.{number_of}
+use Rattle.std.specs.Prelude.{Err}
 use Rattle.fragment.specs.Fragments.{most_characters}
 use Rattle.fragment.specs.declared.FragmentHeading.{FragmentHeading}
 use Rattle.chain.specs.declared.Chain.{Chain}
-use Rattle.chain.specs.Chains.{is_open}
+use Rattle.chain.specs.declared.Lost.{Lost}
+use Rattle.chain.specs.Chains.{blank, is_open}
+use Rattle.chain.specs.FateAnswers.{as_fate}
 use Rattle.chain.specs.Steps.{heading_in, goes_on, Fate, lost, grows, whole, losing, next_number, sum_after, characters_after, grown, fate, record_after}
 use Rattle.chain.proofs.Records.{Limits, Slot, blank_slot}
 
@@ -157,3 +160,9 @@ module _ (c : Chain) (h : FragmentHeading) where
       (λ late is. absurd (false≢true is)) (λ turn over is. absurd (false≢true is)) (λ turn fits ends wrong is. absurd (false≢true is))
       (λ t on is. (refl, refl))
       (λ t ends is. absurd (false≢true is))
+
+-- 14, 15, 16: the record that is handed out with the refusal is that of a closed slot
+pub lost_blank : (f : Fate) (l : Lost) → Err l ≡ as_fate f → l.chain ≡ blank
+lost_blank (lost r) l is = let same : l ≡ record { refusal = r; chain = blank } = cc in ap (λ (m : Lost). m.chain) same
+lost_blank (grows c) l is = absurd (cc)
+lost_blank whole l is = absurd (cc)
