@@ -5,3 +5,4 @@ pub mod Examples
 pub mod Heads
 pub mod Laws
 pub mod Spaces
+pub mod Tells

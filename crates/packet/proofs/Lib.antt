@@ -5,5 +5,6 @@ pub mod RuleExamples
 pub mod RuleLaws
 pub mod SentExamples
 pub mod SentLaws
+pub mod Tells
 pub mod VectorExamples
 pub mod VectorLaws
