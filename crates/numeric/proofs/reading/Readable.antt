@@ -13,7 +13,7 @@ use Rattle.sums.specs.Words.{word_bits}
 use Rattle.numeric.specs.Pages.{Set, head_of, room_of, text_in}
 
 -- a page's text is as long as its words have room
-text_length : (set : Set) (numbered : Bool) (words : List ℕ) → length (text_in set numbered words) ≡ room_of numbered (length words)
+pub text_length : (set : Set) (numbered : Bool) (words : List ℕ) → length (text_in set numbered words) ≡ room_of numbered (length words)
 unfolding text_in
 text_length set numbered words =
     let codes = digits 16 (room_of numbered (length words)) (number (2 ^ word_bits) words / 2 ^ size (head_of numbered)) in

@@ -107,7 +107,7 @@ module _ (characters : Set) (numbered : Bool) (flags text lent : List ℕ) where
   zeroed_length = length_digits (2 ^ 21) (words_for numbered (length text)) _
 
   -- K is taken of the words with K as 0
-  k_taken : six_bits (take (words_for numbered (length text)) (put lent 0 (zeroed characters numbered flags text))) ≡ check_of characters numbered flags text
+  pub k_taken : six_bits (take (words_for numbered (length text)) (put lent 0 (zeroed characters numbered flags text))) ≡ check_of characters numbered flags text
   unfolding check_of
   k_taken = ap six_bits (take_at (zeroed characters numbered flags text) _ (words_for numbered (length text)) zeroed_length)
 
