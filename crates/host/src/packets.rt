@@ -1,6 +1,7 @@
 // Packets, as C and Rust link them: building, reading, and what may be sent. Every function takes any
-// input, and its contract is that of the function it calls: `number` is 0, or 01's number of the
-// refusal, and every other field is then 0.
+// input. Its contract says of what it returns what the contract of the function that it calls says of
+// that function's answer, and both admit one answer alone: `number` is 0, or 01's number of the refusal,
+// and every other field is then 0.
 ghost use Rattle.std.specs.Prelude.{◌≡◌};
 ghost use Rattle.packet.specs.Tables.{checksum, configuration, control, all_frame_mode, receiver_lines, shut_down};
 ghost use Rattle.packet.specs.Tables.{frame_assignment, user_address, address_enable, part_id};
