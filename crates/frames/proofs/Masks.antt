@@ -1,5 +1,5 @@
 -- Masks and counts of any set of frames: bit by bit, in ranges of sixteen, merged, and repeated.
-use Prim.Native.Nat.{ℕ, zero, suc, ◌+◌, ◌-◌, ◌*◌, ◌/◌, ◌%◌, ◌^◌, ◌<◌}
+use Prim.Native.Nat.{ℕ, zero, suc, ◌+◌, ◌-◌, ◌*◌, ◌/◌, ◌%◌, ◌^◌, ◌≤◌, ◌<◌}
 use mathlib.Core.Bool.{◌||◌}
 use mathlib.Core.List.{List, [], ◌∷◌, ◌++◌}
 use mathlib.Core.Path.{◌≡◌, refl, sym, ap, ◌∙◌}
@@ -7,7 +7,7 @@ use native.Mathlib.Nat.{add-zero, suc-add, add-suc, zero-add, one-mul, mul_assoc
 use native.Mathlib.Numerals.{add-one}
 use native.Mathlib.Omega.{arith}
 use lib.Bits.{bit_or}
-use lib.Count.{ones}
+use lib.Count.{ones, ones-le}
 use lib.ListN.{length, take, get_or}
 use lib.Seq.{take-suc}
 use Rattle.laws.specs.Choice.{bit_of}
@@ -87,6 +87,13 @@ ones_append (m ∷ masks) mask = rw (ones_append masks mask) (omega arith)
 
 pub ones_more : (masks : List ℕ) (i : ℕ) → i < length masks → ones_of (take i masks) + ones (get_or masks i 0) ≡ ones_of (take (i + 1) masks)
 ones_more masks i h = rw (add-one, take-suc masks i 0, ones_append)
+
+-- a mask more has sixteen bits at most, and is counted
+pub mask_more : (masks : List ℕ) (i count mask : ℕ) → i < length masks → mask ≡ get_or masks i 0 → mask < 2 ^ 16
+    → (count ≤ 16 * i) × (count ≡ ones_of (take i masks)) → (count + ones mask ≤ 16 * (i + 1)) × (count + ones mask ≡ ones_of (take (i + 1) masks))
+mask_more masks i count mask within is fits so-far =
+    let most : ones mask ≤ 16 = ones-le 16 mask fits in
+    (omega (arith, most, so-far.0), rw (so-far.1, is) (ones_more masks i within))
 
 -- ---- frames that repeat
 
