@@ -46,16 +46,18 @@ confirmed_by : (words : Result Words Refusal) (address : ℕ) (asked : List ℕ)
 unfolding confirmed
 confirmed_by words address asked t e h = rw (← e, h)
 
--- the way back from one word, by what was looked up on it
-pub word_answered : (words : Result Words Refusal) (address word : ℕ) (t : Bool) → address ≡ from_word word
-    → told_worded words ≡ words_of address → t ≡ same_answer words (Ok (Words.One word))
+-- the way back from one word, by what was looked up on it and compared with it
+pub word_answered : (words asked : Result Words Refusal) (address word : ℕ) (t : Bool) → address ≡ from_word word
+    → told_worded words ≡ words_of address → asked ≡ Ok (Words.One word) → t ≡ same_answer words asked
     → pick t (given (address ∷ [])) (refused Range) ≡ address_of (word ∷ [])
-word_answered words address word t a e h =
-    confirmed_by words address (word ∷ []) t e (one_gives words word ∙ sym h) ∙ ap (λ (x : ℕ). confirmed x (word ∷ [])) a
+word_answered words asked address word t a e is h =
+    confirmed_by words address (word ∷ []) t e (one_gives words word ∙ ap (same_answer words) (sym is) ∙ sym h)
+    ∙ ap (λ (x : ℕ). confirmed x (word ∷ [])) a
 
--- the way back from two words, by what was looked up on it
-pub pair_answered : (words : Result Words Refusal) (address first second : ℕ) (t : Bool) → address ≡ from_pair first second
-    → told_worded words ≡ words_of address → t ≡ same_answer words (Ok (Words.Two first second))
+-- the way back from two words, by what was looked up on it and compared with them
+pub pair_answered : (words asked : Result Words Refusal) (address first second : ℕ) (t : Bool) → address ≡ from_pair first second
+    → told_worded words ≡ words_of address → asked ≡ Ok (Words.Two first second) → t ≡ same_answer words asked
     → pick t (given (address ∷ [])) (refused Range) ≡ address_of (first ∷ second ∷ [])
-pair_answered words address first second t a e h =
-    confirmed_by words address (first ∷ second ∷ []) t e (pair_gives words first second ∙ sym h) ∙ ap (λ (x : ℕ). confirmed x (first ∷ second ∷ [])) a
+pair_answered words asked address first second t a e is h =
+    confirmed_by words address (first ∷ second ∷ []) t e (pair_gives words first second ∙ ap (same_answer words) (sym is) ∙ sym h)
+    ∙ ap (λ (x : ℕ). confirmed x (first ∷ second ∷ [])) a

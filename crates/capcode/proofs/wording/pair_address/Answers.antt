@@ -1,13 +1,14 @@
 -- `pair_address` meets its contract: the address that Table 24 leads back to, if its words are these.
 use mathlib.Core.Bool.{true, false}
 use mathlib.Core.Path.{sym, ◌∙◌}
+use borrow.Author.Rules.{rules}
 use Rattle.capcode.proofs.wording.Given.{pair_answered}
 use Rattle.capcode.proofs.wording.pair_address.Goals as goal
 
 pub returns-then-eq : goal.returns-then-eq
-returns-then-eq c = pair_answered c.words_of-given.result c.from_pair-address.result c.args.first
-    c.args.second true c.from_pair-address.ensures c.words_of-given.ensures (sym c.if-eq.true ∙ c.eq.ensures)
+returns-then-eq c = pair_answered c.words_of-given.result _ c.from_pair-address.result c.args.first
+    c.args.second true c.from_pair-address.ensures c.words_of-given.ensures (search rules) (sym c.if-eq.true ∙ c.eq.ensures)
 
 pub returns-else-eq : goal.returns-else-eq
-returns-else-eq c = pair_answered c.words_of-given.result c.from_pair-address.result c.args.first
-    c.args.second false c.from_pair-address.ensures c.words_of-given.ensures (sym c.if-eq.false ∙ c.eq.ensures)
+returns-else-eq c = pair_answered c.words_of-given.result _ c.from_pair-address.result c.args.first
+    c.args.second false c.from_pair-address.ensures c.words_of-given.ensures (search rules) (sym c.if-eq.false ∙ c.eq.ensures)
