@@ -1,7 +1,7 @@
 // A page as it is listed: the kind that its text is read by, and its line.
 //
 // A page has a number and not a Result, since `pocsag` answers the C interface's structs as they are.
-ghost use Rattle.std.specs.Prelude.{◌≡◌, ◌++◌, OnOk};
+ghost use Rattle.std.specs.Prelude.{◌≡◌, ◌++◌, vec_len, OnOk};
 ghost use Rattle.std.specs.Io.KnownBytes.{Appends};
 ghost use Rattle.capcode.specs.Text.{digits};
 ghost use Rattle.pocsag_lister.specs.Pages.{kind_chosen};
@@ -15,11 +15,14 @@ use pocsag_lister::Kind;
 use refusal::Refusal;
 use std::io::Write;
 
-// The memory of a listing: the message words of the open page, and the text that is read from them.
+// The memory of a listing: the message words of the open page, and the text that is read from them. It is made once, and
+// every page finds the same room, whatever was done with the pages before it.
 #[derive(Drop)]
 pub struct Memory {
     pub words: Vec<u32>,
     pub text: Vec<u8>,
+    pub ghost room_for_words: { vec_len words ≡ 4096 },
+    pub ghost room_for_text: { vec_len text ≡ 20480 },
 }
 
 impl Memory {
@@ -27,6 +30,7 @@ impl Memory {
     fn read(&mut self, kind: TextKind, words: usize) -> TextRead
         ensures told { result ≡ read_as kind words self.old.words.items self.old.text.items }
         ensures text { self.new.text.items ≡ text_as kind words self.old.words.items self.old.text.items }
+        ensures kept { self.new.words ≡ self.old.words }
     {
         pocsag::read_as(kind, first(&self.words, words), &mut self.text).unwrap_or(TextRead {
             characters: 0,
@@ -98,7 +102,8 @@ fn put_page<W: Write>(
     kind: TextKind,
     memory: &mut Memory,
 ) -> Result<()>
-    ensures { OnOk result (Appends (W.contents writer.old) (W.contents writer.new) (page_line page kind memory.old.words.items memory.old.text.items)) }
+    ensures listed { OnOk result (Appends (W.contents writer.old) (W.contents writer.new) (page_line page kind memory.old.words.items memory.old.text.items)) }
+    ensures kept { memory.new.words ≡ memory.old.words }
 {
     let read = memory.read(kind, page.words);
     put_fields(writer, page, kind, read.fill_at_end)?;
@@ -152,7 +157,8 @@ fn put_explained<W: Write>(
     kind: TextKind,
     memory: &mut Memory,
 ) -> Result<()>
-    ensures { OnOk result (Appends (W.contents writer.old) (W.contents writer.new) (explained_line page kind memory.old.words.items memory.old.text.items)) }
+    ensures listed { OnOk result (Appends (W.contents writer.old) (W.contents writer.new) (explained_line page kind memory.old.words.items memory.old.text.items)) }
+    ensures kept { memory.new.words ≡ memory.old.words }
 {
     let read = memory.read(kind, page.words);
     put_place(writer, page)?;
@@ -167,7 +173,8 @@ pub(crate) fn put_ended<W: Write>(
     options: Options,
     memory: &mut Memory,
 ) -> Result<()>
-    ensures { OnOk result (Appends (W.contents writer.old) (W.contents writer.new) (page_told page options.is_explained (kind_chosen options.kind page.function) memory.old.words.items memory.old.text.items)) }
+    ensures listed { OnOk result (Appends (W.contents writer.old) (W.contents writer.new) (page_told page options.is_explained (kind_chosen options.kind page.function) memory.old.words.items memory.old.text.items)) }
+    ensures kept { memory.new.words ≡ memory.old.words }
 {
     let kind = pocsag_lister::kind_chosen(options.kind, page.function);
     if page.number == 0 {

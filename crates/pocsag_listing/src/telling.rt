@@ -3,7 +3,7 @@
 //
 // `is_ended` and the numbers of words and pages are no Option and no Result, since `pocsag` answers the C interface's structs
 // as they are.
-ghost use Rattle.std.specs.Prelude.{◌≤◌, ◌<◌, length, OnOk};
+ghost use Rattle.std.specs.Prelude.{◌≡◌, ◌≤◌, ◌<◌, length, OnOk};
 ghost use Rattle.std.specs.Io.KnownBytes.{Appends, Keeps};
 ghost use Rattle.pocsag_listing.specs.Said.{title, waiting_told};
 
@@ -32,7 +32,8 @@ pub struct Listing<W: Write + Drop> {
 impl<W: Write + Drop> Listing<W> {
     // Puts the title.
     pub(crate) fn put_title(&mut self) -> Result<()>
-        ensures { OnOk result (Appends (W.contents self.old.writer) (W.contents self.new.writer) title) }
+        ensures listed { OnOk result (Appends (W.contents self.old.writer) (W.contents self.new.writer) title) }
+        ensures kept { (self.new.memory.words ≡ self.old.memory.words) × (self.new.memory.text ≡ self.old.memory.text) }
     {
         put(
             &mut self.writer,
@@ -53,7 +54,9 @@ impl<W: Write + Drop> Listing<W> {
     }
 
     // Reports what was heard up to a word.
-    fn report_heard(&mut self, run: Option<WrongRun>, heard: PocsagHeard) -> Result<()> {
+    fn report_heard(&mut self, run: Option<WrongRun>, heard: PocsagHeard) -> Result<()>
+        ensures kept { self.new.memory.words ≡ self.old.memory.words }
+    {
         self.reader = heard.reader;
         self.totals.words = self.totals.words.saturating_add(heard.taken as u64);
         self.report_page(heard.page)?;
@@ -64,7 +67,9 @@ impl<W: Write + Drop> Listing<W> {
     }
 
     // Reports a page, if one ended.
-    fn report_page(&mut self, page: PocsagPage) -> Result<()> {
+    fn report_page(&mut self, page: PocsagPage) -> Result<()>
+        ensures kept { self.new.memory.words ≡ self.old.memory.words }
+    {
         if page.is_ended == 0 {
             return Ok(());
         }
@@ -75,7 +80,9 @@ impl<W: Write + Drop> Listing<W> {
     }
 
     // Reports the word that was heard last, which is refused.
-    fn report_word(&mut self, run: Option<WrongRun>, number: u32) -> Result<()> {
+    fn report_word(&mut self, run: Option<WrongRun>, number: u32) -> Result<()>
+        ensures kept { (self.new.memory.words ≡ self.old.memory.words) × (self.new.memory.text ≡ self.old.memory.text) }
+    {
         let word = self.totals.words.saturating_sub(1);
         self.totals.refused_words = self.totals.refused_words.saturating_add(1);
         match run {
@@ -88,7 +95,9 @@ impl<W: Write + Drop> Listing<W> {
     }
 
     // Keeps a word to be reported, after those that are kept or as the first.
-    fn report_later(&mut self, number: u32, word: u64) -> Result<()> {
+    fn report_later(&mut self, number: u32, word: u64) -> Result<()>
+        ensures kept { (self.new.memory.words ≡ self.old.memory.words) × (self.new.memory.text ≡ self.old.memory.text) }
+    {
         match self.waiting {
             Some(row) if row.goes_on(number, word) => {
                 self.waiting = Some(Row { last: word, ..row });
@@ -109,7 +118,8 @@ impl<W: Write + Drop> Listing<W> {
 
     // Reports the refused words that are not reported yet, if there are any.
     fn report_waiting(&mut self) -> Result<()>
-        ensures { OnOk result (Appends (W.contents self.old.writer) (W.contents self.new.writer) (waiting_told self.old.options.is_explained self.old.waiting)) }
+        ensures listed { OnOk result (Appends (W.contents self.old.writer) (W.contents self.new.writer) (waiting_told self.old.options.is_explained self.old.waiting)) }
+        ensures kept { (self.new.memory.words ≡ self.old.memory.words) × (self.new.memory.text ≡ self.old.memory.text) }
     {
         match self.waiting.take() {
             Some(row) => report_row(&mut self.writer, row, self.options.is_explained),
@@ -118,7 +128,9 @@ impl<W: Write + Drop> Listing<W> {
     }
 
     // Reports the bytes that are left at the end of an input and make no word.
-    pub(crate) fn report_bytes(&mut self, token: Token, refusal: Refusal) -> Result<()> {
+    pub(crate) fn report_bytes(&mut self, token: Token, refusal: Refusal) -> Result<()>
+        ensures kept { (self.new.memory.words ≡ self.old.memory.words) × (self.new.memory.text ≡ self.old.memory.text) }
+    {
         self.report_waiting()?;
         let row = Row {
             unit: Unit::Byte,
@@ -140,7 +152,8 @@ impl<W: Write + Drop> Listing<W> {
 
     // Writes all that was kept.
     pub(crate) fn flush(&mut self) -> Result<()>
-        ensures { Keeps (W.contents self.old.writer) (W.contents self.new.writer) }
+        ensures written { Keeps (W.contents self.old.writer) (W.contents self.new.writer) }
+        ensures kept { (self.new.memory.words ≡ self.old.memory.words) × (self.new.memory.text ≡ self.old.memory.text) }
     {
         flush(&mut self.writer)
     }
