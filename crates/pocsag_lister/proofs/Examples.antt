@@ -5,7 +5,6 @@ use Rattle.laws.specs.Lists.{all, first_that}
 use Rattle.laws.specs.Texts.{bytes_of}
 use Rattle.capcode.specs.Text.{digits}
 use Rattle.std.specs.Prelude.{Some, None}
-use Rattle.refusal.specs.declared.Refusal.TheVariants.{Size, Character}
 use Rattle.pocsag.specs.declared.TextKind.TheVariants.{Numeric, NumericChinese, SevenBit}
 use Rattle.pocsag_lister.specs.declared.Kind.TheVariants as kinds
 use Rattle.pocsag_lister.specs.Inputs.{word_found}
@@ -20,12 +19,12 @@ two_words = refl
 
 -- a digit too few and one too many are told by the place of the first, a character that is no digit by its own, however many there are
 wrong_runs : run_found 1 4 (bytes_of "7CD215D") ∷ run_found 2 4 (bytes_of "7CD215D80") ∷ run_found 3 4 (bytes_of "7G89H19") ∷ []
-    ≡ wrong_found Size 1 4 ∷ wrong_found Size 2 4 ∷ wrong_found Character 3 5 ∷ []
+    ≡ wrong_found 9 1 4 ∷ wrong_found 9 2 4 ∷ wrong_found 18 3 5 ∷ []
 unfolding hex_number all first_that
 wrong_runs = refl
 
 -- runs are counted by lines, and by places in their line; the last has no blank after it
-lines_and_places : runs_of (bytes_of "A\t\n B-") ≡ wrong_found Size 1 0 ∷ wrong_found Character 2 2 ∷ []
+lines_and_places : runs_of (bytes_of "A\t\n B-") ≡ wrong_found 9 1 0 ∷ wrong_found 18 2 2 ∷ []
 unfolding runs_from hex_number all first_that
 lines_and_places = refl
 

@@ -12,8 +12,8 @@ use Rattle.laws.specs.Choice.{pick}
 use Rattle.laws.specs.Lists.{all, first_that}
 use Rattle.laws.proofs.Tests.{decided, first_of, second_of}
 use Rattle.refusal.specs.declared.Refusal.TheVariants.{Size, Character}
-use Rattle.refusal.specs.declared.Refusal.{Refusal}
-use Rattle.std.specs.Prelude.{Option, Some, None, is_some}
+use Rattle.refusal.specs.Told.{number_of}
+use Rattle.std.specs.Prelude.{Some}
 use Rattle.pocsag_lister.specs.declared.Token.{Token}
 use Rattle.pocsag_lister.specs.Inputs.{Found, one_more, word_found, start}
 use Rattle.pocsag_lister.specs.Tokens.{is_blank, is_hex, hex_value, shifted, counted, goes_wrong, grown, run, finished, after_blank}
@@ -99,15 +99,15 @@ token_of line place run =
       line = line;
       place = place + length run;
       «at» = pick (eqb (length run) 0) 0 (pick (all is_hex run) place (place + first_that is_other run));
-      refusal = pick (all is_hex run) None (Some Character);
+      number = pick (all is_hex run) 0 (number_of Character);
       count = up_to_nine (length run);
       value = value_of 0 run;
     }
 
 -- two tokens of the same fields
-same_token : (line place place' told told' : ℕ) (n n' : Option Refusal) (count count' value value' : ℕ) → place ≡ place' → told ≡ told' → n ≡ n' → count ≡ count' → value ≡ value'
-    → ◌≡◌ {A = Token} (record { line = line; place = place; «at» = told; refusal = n; count = count; value = value })
-    (record { line = line; place = place'; «at» = told'; refusal = n'; count = count'; value = value' })
+same_token : (line place place' told told' n n' count count' value value' : ℕ) → place ≡ place' → told ≡ told' → n ≡ n' → count ≡ count' → value ≡ value'
+    → ◌≡◌ {A = Token} (record { line = line; place = place; «at» = told; number = n; count = count; value = value })
+    (record { line = line; place = place'; «at» = told'; number = n'; count = count'; value = value' })
 same_token line place place' told told' n n' count count' value value' a b c d e = rw (a, b, c, d, e)
 
 -- a run of some characters is counted as some
@@ -124,8 +124,8 @@ length_more run byte = length-append run (byte ∷ [])
 
 -- the number that is told of a run after one character more
 number_more : (digits digit : Bool)
-    → pick (not (is_some (pick digits None (Some Character))) && not digit) (Some Character) (pick digits None (Some Character))
-    ≡ pick (digits && digit) None (Some Character)
+    → pick (eqb (pick digits 0 (number_of Character)) 0 && not digit) (number_of Character) (pick digits 0 (number_of Character))
+    ≡ pick (digits && digit) 0 (number_of Character)
 number_more true true = refl
 number_more true false = refl
 number_more false true = refl
@@ -133,7 +133,7 @@ number_more false false = refl
 
 -- the place that is told of a run after one character more: that of its first, of this one, or of one before it
 told_picked : (digits digit : Bool) (first here before after : ℕ) → (digits ≡ true → digit ≡ false → here ≡ after) → (digits ≡ false → before ≡ after)
-    → pick (not (is_some (pick digits None (Some Character))) && not digit) here (pick digits first before) ≡ pick (digits && digit) first after
+    → pick (eqb (pick digits 0 (number_of Character)) 0 && not digit) here (pick digits first before) ≡ pick (digits && digit) first after
 told_picked true true first here before after now earlier = refl
 told_picked true false first here before after now earlier = now refl refl
 told_picked false true first here before after now earlier = earlier refl
@@ -164,7 +164,7 @@ module _ (line place : ℕ) (byte : ℕ) where
       same_token line (one_more (place + length run)) (place + length (run ++ byte ∷ [])) _ _ _ _ _ _ _ _
       (rw (lt-ltb (place + length run) (2 ^ 64 - 1) small) (omega (arith, length_more run byte)))
       (told run)
-      (number_more (all is_hex run) (is_hex byte) ∙ ap (λ (test : Bool). pick test None (Some Character)) (sym (all_more run byte)))
+      (number_more (all is_hex run) (is_hex byte) ∙ ap (λ (test : Bool). pick test 0 (number_of Character)) (sym (all_more run byte)))
       (count_more (length run) ∙ ap up_to_nine (sym (length_more run byte)))
       (sym (value_more 0 run byte))
     where
@@ -245,8 +245,8 @@ value_eight (a ∷ b ∷ c ∷ d ∷ e ∷ f ∷ g ∷ h ∷ i ∷ more) l digit
 
 -- a run that ends, by whether its characters are digits and whether they are eight
 found_picked : (digits : Bool) (count line place first other value word : ℕ) → (digits ≡ true → eqb count 8 ≡ true → value ≡ word)
-    → run (record { line = line; place = place; «at» = pick digits first other; refusal = pick digits None (Some Character); count = count; value = value })
-    ≡ pick (not digits) (wrong_found Character line other) (pick (not (eqb count 8)) (wrong_found Size line first) (word_found word))
+    → run (record { line = line; place = place; «at» = pick digits first other; number = pick digits 0 (number_of Character); count = count; value = value })
+    ≡ pick (not digits) (wrong_found (number_of Character) line other) (pick (not (eqb count 8)) (wrong_found (number_of Size) line first) (word_found word))
 found_picked true count line place first other value word same =
     ⊎_elim (λ eight. rw eight (ap word_found (same refl eight))) (λ more. rw more) (decided (eqb count 8))
 found_picked false count line place first other value word same = refl
@@ -260,8 +260,8 @@ module _ (line place : ℕ) where
       (ap Some
       (found_picked (all is_hex run) (up_to_nine (length run)) line (place + length run) place (place + first_that is_other run) (value_of 0 run) (hex_number 0 run)
       (λ digits eight. value_eight run (eqb-true (length run) 8 (sym (count_eight (length run)) ∙ eight)) digits)
-      ∙ ap (λ (test : Bool). pick (not (all is_hex run)) (wrong_found Character line (place + first_that is_other run))
-      (pick (not test) (wrong_found Size line place) (word_found (hex_number 0 run))))
+      ∙ ap (λ (test : Bool). pick (not (all is_hex run)) (wrong_found (number_of Character) line (place + first_that is_other run))
+      (pick (not test) (wrong_found (number_of Size) line place) (word_found (hex_number 0 run))))
       (count_eight (length run))))
 
   -- what is found where a run ends, if it has a character
@@ -270,9 +270,9 @@ module _ (line place : ℕ) where
   finished_ended (byte ∷ run) = ap some_of (finished_run (byte ∷ run) (omega arith))
 
 -- before the first character of a run
-rest_token : (line place : ℕ) → ◌≡◌ {A = Token} (record { line = line; place = place; «at» = 0; refusal = None; count = 0; value = 0 }) (token_of line place [])
+rest_token : (line place : ℕ) → ◌≡◌ {A = Token} (record { line = line; place = place; «at» = 0; number = 0; count = 0; value = 0 }) (token_of line place [])
 unfolding all value_of
-rest_token line place = same_token line place (place + 0) 0 0 None None 0 0 0 0 (omega arith) refl refl refl refl
+rest_token line place = same_token line place (place + 0) 0 0 0 0 0 0 0 0 (omega arith) refl refl refl refl
 
 -- where the reading stands after a blank
 blank_token : (line place : ℕ) (run : List ℕ) (byte : ℕ) → line < 2 ^ 64 - 1 → place + length run < 2 ^ 64 - 1

@@ -31,4 +31,4 @@ word_heard (Err wrong) = no_word
 
 -- before the first byte of an input: lines are counted from 1, places from 0
 abbrev pub start : Token
-start = record { line = 1; place = 0; «at» = 0; refusal = None; count = 0; value = 0 }
+start = record { line = 1; place = 0; «at» = 0; number = 0; count = 0; value = 0 }

@@ -19,14 +19,14 @@ begun t byte =
       line = t.line;
       place = one_more t.place;
       «at» = pick (eqb t.count 0) t.place t.«at»;
-      refusal = t.refusal;
+      number = t.number;
       count = t.count + 1;
       value = shifted_byte t.value byte;
     }
 
 -- after the fourth byte of a word
 abbrev pub after_word : Token → Token
-after_word t = record { line = t.line; place = one_more t.place; «at» = 0; refusal = t.refusal; count = 0; value = 0 }
+after_word t = record { line = t.line; place = one_more t.place; «at» = 0; number = t.number; count = 0; value = 0 }
 
 -- a byte of an input of bytes: the fourth makes a word
 abbrev pub taken_raw : Token → ℕ → Taken

@@ -3,8 +3,8 @@ use Rattle.std.specs.Prelude.{ℕ, ◌+◌, ◌*◌, Bool, not, List, [], ◌∷
 use Prim.Native.Char.{code}
 use Rattle.laws.specs.Choice.{pick}
 use Rattle.laws.specs.Lists.{all, first_that}
-use Rattle.refusal.specs.declared.Refusal.{Refusal}
 use Rattle.refusal.specs.declared.Refusal.TheVariants.{Size, Character}
+use Rattle.refusal.specs.Told.{number_of}
 use Rattle.pocsag_lister.specs.declared.Token.{Token}
 use Rattle.pocsag_lister.specs.Inputs.{Found, word_found}
 use Rattle.pocsag_lister.specs.Tokens.{is_blank, is_hex, hex_value, finished, taken_text}
@@ -15,8 +15,8 @@ hex_number before [] = before
 hex_number before (digit ∷ row) = hex_number (before * 16 + hex_value digit) row
 
 -- a run that is no word
-abbrev pub wrong_found : Refusal → ℕ → ℕ → Found
-wrong_found r line place = Err (record { refusal = r; line = line; place = place })
+abbrev pub wrong_found : ℕ → ℕ → ℕ → Found
+wrong_found n line place = Err (record { number = n; line = line; place = place })
 
 -- whether a byte is no hexadecimal digit
 abbrev pub is_other : ℕ → Bool
@@ -26,8 +26,8 @@ is_other byte = not (is_hex byte)
 -- there are not eight; else a word
 abbrev pub run_found : ℕ → ℕ → List ℕ → Found
 run_found line place run =
-    pick (not (all is_hex run)) (wrong_found Character line (place + first_that is_other run))
-    (pick (not (eqb (length run) 8)) (wrong_found Size line place)
+    pick (not (all is_hex run)) (wrong_found (number_of Character) line (place + first_that is_other run))
+    (pick (not (eqb (length run) 8)) (wrong_found (number_of Size) line place)
     (word_found (hex_number 0 run)))
 
 -- the run that ends at a blank, or at the end: without a character there is none

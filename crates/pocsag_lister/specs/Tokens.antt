@@ -1,9 +1,9 @@
 -- Codewords as text: runs of eight hexadecimal digits between blanks, in any layout.
-use Rattle.std.specs.Prelude.{ℕ, ◌+◌, ◌-◌, ◌*◌, ◌%◌, ◌^◌, Bool, not, ◌&&◌, ◌||◌, leb, ltb, eqb, Option, Some, None, Err, is_some}
+use Rattle.std.specs.Prelude.{ℕ, ◌+◌, ◌-◌, ◌*◌, ◌%◌, ◌^◌, Bool, not, ◌&&◌, ◌||◌, leb, ltb, eqb, Option, Some, None, Err}
 use Prim.Native.Char.{code}
 use Rattle.laws.specs.Choice.{pick}
-use Rattle.refusal.specs.declared.Refusal.{Refusal}
 use Rattle.refusal.specs.declared.Refusal.TheVariants.{Size, Character}
+use Rattle.refusal.specs.Told.{number_of}
 use Rattle.pocsag_lister.specs.declared.Token.{Token}
 use Rattle.pocsag_lister.specs.declared.Taken.{Taken}
 use Rattle.pocsag_lister.specs.declared.Left.{Left}
@@ -36,7 +36,7 @@ counted count = pick (ltb count 9) (count + 1) count
 
 -- whether a byte is the first of its run that is no hexadecimal digit
 abbrev pub goes_wrong : Token → ℕ → Bool
-goes_wrong t byte = not (is_some t.refusal) && not (is_hex byte)
+goes_wrong t byte = eqb t.number 0 && not (is_hex byte)
 
 -- a run with one character more: the place that is told is that of the first character, and of the first that is no hexadecimal digit where one is
 abbrev pub grown : Token → ℕ → Token
@@ -45,23 +45,25 @@ grown t byte =
       line = t.line;
       place = one_more t.place;
       «at» = pick (eqb t.count 0 || goes_wrong t byte) t.place t.«at»;
-      refusal = pick (goes_wrong t byte) (Some Character) t.refusal;
+      number = pick (goes_wrong t byte) (number_of Character) t.number;
       count = counted t.count;
       value = pick (is_hex byte) (shifted t.value (hex_value byte)) t.value;
     }
 
--- a run that is no word, by its refusal, its line and its place in the line
-abbrev pub wrong_run : Token → Refusal → Found
-wrong_run t r = Err (record { refusal = r; line = t.line; place = t.«at» })
+-- a run that is no word, by its number, its line and its place in the line
+abbrev pub wrong_run : Token → ℕ → Found
+wrong_run t n = Err (record { number = n; line = t.line; place = t.«at» })
 
--- a run of some characters: 18 where one is no hexadecimal digit, 9 where they are not eight, else a word
-abbrev pub run_by : Option Refusal → Token → Found
-run_by (Some r) t = wrong_run t r
-run_by None t = pick (not (eqb t.count 8)) (wrong_run t Size) (word_found t.value)
+-- a run of some characters, by the number that is told of it: that number where it is not 0, 9 where they are not eight, else a word
+abbrev pub run_by : ℕ → Token → Found
+run_by number t =
+    pick (not (eqb number 0)) (wrong_run t number)
+    (pick (not (eqb t.count 8)) (wrong_run t (number_of Size))
+    (word_found t.value))
 
 -- the run that was read so far, as it ends
 abbrev pub run : Token → Found
-run t = run_by t.refusal t
+run t = run_by t.number t
 
 -- what a run is where it ends: nothing where it has no character, 18 where one is no hexadecimal digit, 9 where they are not eight, else a word
 abbrev pub finished : Token → Option Found
@@ -83,7 +85,7 @@ after_blank t byte =
       line = pick (eqb byte (code "\n")) (one_more t.line) t.line;
       place = pick (eqb byte (code "\n")) 0 (one_more t.place);
       «at» = 0;
-      refusal = None;
+      number = 0;
       count = 0;
       value = 0;
     }

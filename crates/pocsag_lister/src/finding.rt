@@ -15,7 +15,7 @@ pub fn start() -> Token
         line: 1,
         place: 0,
         at: 0,
-        refusal: None,
+        number: 0,
         count: 0,
         value: 0,
     }

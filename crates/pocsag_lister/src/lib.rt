@@ -39,22 +39,23 @@ use refusal::Refusal;
 pub use showing::seven_digits;
 
 // Where the reading of an input is: the line and the place in it of the next byte; and of the run or word that is begun the
-// place to be reported, its refusal as far as a character is wrong, how many characters or bytes it has (of a run up to 9,
-// which is for more than eight), and the number that they make. Of bytes the place is counted over the whole input.
+// place to be reported, the number of its refusal or 0, how many characters or bytes it has (of a run up to 9, which is for
+// more than eight), and the number that they make. Of bytes the place is counted over the whole input.
+// A number and not a Refusal: callers pass a token in, and its number may be any, as before.
 #[derive(Clone, Copy, Debug, PartialEq, Eq)]
 pub struct Token {
     pub line: u64,
     pub place: u64,
     pub at: u64,
-    pub refusal: Option<Refusal>,
+    pub number: u32,
     pub count: u32,
     pub value: u32,
 }
 
-// A run of characters that is no word: why, its line, and the place in the line to be reported.
+// A run of characters that is no word: the number of its refusal, its line, and the place in the line to be reported.
 #[derive(Clone, Copy, Debug, PartialEq, Eq)]
 pub struct WrongRun {
-    pub refusal: Refusal,
+    pub number: u32,
     pub line: u64,
     pub place: u64,
 }

@@ -1,5 +1,5 @@
 // Codewords as text: runs of eight hexadecimal digits between blanks, in any layout.
-ghost use Rattle.std.specs.Prelude.{◌≡◌, is_some};
+ghost use Rattle.std.specs.Prelude.{◌≡◌};
 ghost use Rattle.laws.specs.Choice.{pick};
 ghost use Rattle.pocsag_lister.specs.Tokens.{is_blank, is_hex, hex_value, shifted, counted, grown, wrong_run, run, finished, after_blank, taken_text};
 
@@ -46,10 +46,10 @@ fn grown(token: Token, byte: u8) -> Token
             value: token.value % 0x1000_0000 * 16 + digit,
             ..token
         },
-        None if token.refusal.is_none() => Token {
+        None if token.number == 0 => Token {
             place,
             at: token.place,
-            refusal: Some(Refusal::Character),
+            number: Refusal::Character.number(),
             count,
             ..token
         },
@@ -63,11 +63,11 @@ fn grown(token: Token, byte: u8) -> Token
 }
 
 // A run that is no word.
-fn wrong_run(token: Token, refusal: Refusal) -> Result<u32, WrongRun>
-    ensures { result ≡ wrong_run token refusal }
+fn wrong_run(token: Token, number: u32) -> Result<u32, WrongRun>
+    ensures { result ≡ wrong_run token number }
 {
     Err(WrongRun {
-        refusal,
+        number,
         line: token.line,
         place: token.at,
     })
@@ -77,10 +77,10 @@ fn wrong_run(token: Token, refusal: Refusal) -> Result<u32, WrongRun>
 fn run(token: Token) -> Result<u32, WrongRun>
     ensures { result ≡ run token }
 {
-    match token.refusal {
-        Some(refusal) => wrong_run(token, refusal),
-        None if token.count != 8 => wrong_run(token, Refusal::Size),
-        None => Ok(token.value),
+    match token.number {
+        0 if token.count != 8 => wrong_run(token, Refusal::Size.number()),
+        0 => Ok(token.value),
+        number => wrong_run(token, number),
     }
 }
 

@@ -116,7 +116,7 @@ waiting_told explained (Some row) = row_told explained row
 -- the line of a run of characters that is no word
 abbrev pub characters_line : WrongRun → List ℕ
 characters_line mark =
-    numbered (bytes_of "LINE ") mark.line ++ numbered (bytes_of " REFUSED ") (number_of mark.refusal) ++ line_end (bytes_of " ") mark.place
+    numbered (bytes_of "LINE ") mark.line ++ numbered (bytes_of " REFUSED ") mark.number ++ line_end (bytes_of " ") mark.place
 
 -- where a run is
 abbrev pub characters_named : WrongRun → List ℕ
@@ -125,7 +125,7 @@ characters_named mark = numbered (bytes_of "line ") mark.line ++ numbered (bytes
 -- what the refusal of a run means, and the word that is heard in its place
 abbrev pub characters_meaning : WrongRun → ℕ → List ℕ
 characters_meaning mark word =
-    characters_named mark ++ meaning (number_of mark.refusal) (bytes_of ": a word is eight hexadecimal digits")
+    characters_named mark ++ meaning mark.number (bytes_of ": a word is eight hexadecimal digits")
     ++ line_end (bytes_of "; it stands as word ") word
 
 -- all that is reported of a run

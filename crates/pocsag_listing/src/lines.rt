@@ -105,8 +105,12 @@ pub(crate) fn report_row<W: Write>(writer: &mut W, row: Row, is_explained: bool)
 fn put_run_line<W: Write>(writer: &mut W, run: WrongRun) -> Result<()>
     ensures { OnOk result (Appends (W.contents writer.old) (W.contents writer.new) (characters_line run)) }
 {
-    let number = run.refusal.number();
-    writeln!(writer, "LINE {} REFUSED {number} {}", run.line, run.place).context("standard output")
+    let WrongRun {
+        number,
+        line,
+        place,
+    } = run;
+    writeln!(writer, "LINE {line} REFUSED {number} {place}").context("standard output")
 }
 
 // Puts where it is.
@@ -120,9 +124,8 @@ fn put_run<W: Write>(writer: &mut W, run: WrongRun) -> Result<()>
 fn put_run_meaning<W: Write>(writer: &mut W, run: WrongRun, word: u64) -> Result<()>
     ensures { OnOk result (Appends (W.contents writer.old) (W.contents writer.new) (characters_meaning run word)) }
 {
-    let number = run.refusal.number();
     put_run(writer, run)?;
-    put_meaning(writer, number, ": a word is eight hexadecimal digits")?;
+    put_meaning(writer, run.number, ": a word is eight hexadecimal digits")?;
     writeln!(writer, "; it stands as word {word}").context("standard output")
 }
 

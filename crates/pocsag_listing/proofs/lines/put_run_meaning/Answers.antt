@@ -8,6 +8,5 @@ use Rattle.pocsag_listing.proofs.lines.put_run_meaning.Goals as goal
 
 pub returns : goal.returns
 returns g c =
-    let meant = rw c.number-number.ensures at c.in_ok-put_meaning.ensures in
     written_then c.context.result _ _ _ _ (line_end (bytes_of "; it stands as word ") c.args.word)
-    (Appends-trans _ _ _ _ _ c.in_ok-put_run.ensures meant) (search rules)
+    (Appends-trans _ _ _ _ _ c.in_ok-put_run.ensures c.in_ok-put_meaning.ensures) (search rules)
