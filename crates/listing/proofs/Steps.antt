@@ -11,12 +11,12 @@ use Rattle.lister.proofs.Laws.{portions_join, portions_list}
 use Rattle.listing.specs.Runs.{Went, WentOn, Listed}
 
 -- no byte leads nowhere
-stands_none : (s : Stand) → s ≡ next_all s []
+pub stands_none : (s : Stand) → s ≡ next_all s []
 unfolding next_all
 stands_none s = refl
 
 -- and writes nothing
-wrote_none : (s : Stand) (held : Option (List ℕ)) → Appends held held (writes_all s [])
+pub wrote_none : (s : Stand) (held : Option (List ℕ)) → Appends held held (writes_all s [])
 unfolding writes_all
 wrote_none s held = Appends-nil held
 
