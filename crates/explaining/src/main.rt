@@ -136,7 +136,7 @@ struct Explaining<W, S> {
     out: Vec<u8>,
     listing: Stream<W>,
     summary: Stream<S>,
-    ghost room: { 42 ≤ vec_len out },
+    ghost room: { vec_len out ≡ 65536 },
 }
 
 impl<W: Write, S: Write> Explaining<W, S> {
