@@ -26,7 +26,7 @@ const LINE: usize = 4096;
 struct Listing {
     lister: Lister,
     out: Vec<u8>,
-    ghost room: { 32 ≤ vec_len out },
+    ghost room: { vec_len out ≡ 65536 },
 }
 
 impl Listing {
