@@ -24,6 +24,9 @@ mod cutting;
 // What is answered, as C has it.
 mod flat;
 
+// A fragment read and a text cut with that answer.
+pub mod for_c;
+
 pub use cutting::cut;
 pub use head::heading;
 pub use reading::read;

@@ -16,7 +16,7 @@ use fragment::{FragmentRead, Marks, TextCut};
 pub extern "C" fn mortisevane_fragment_heading(words: &[u32]) -> FragmentRead
     ensures { result ≡ as_fragment (heading_of words.now) }
 {
-    FragmentRead::from(fragment::heading(words))
+    fragment::for_c::heading(words)
 }
 
 // A fragment, and its text.
@@ -29,7 +29,7 @@ pub extern "C" fn mortisevane_fragment_read(words: &[u32], text: &mut [u8]) -> F
     ensures told { result ≡ as_fragment (read_of (length text.old) words.now) }
     ensures buffer { text.new ≡ read_after words.now text.old }
 {
-    FragmentRead::from(fragment::read(words, text))
+    fragment::for_c::read(words, text)
 }
 
 // A text cut into fragments, one after the other.
@@ -48,5 +48,5 @@ pub extern "C" fn mortisevane_text_cut(
     ensures told { result ≡ as_cut (cut_of (length words.old) marks largest text.now) }
     ensures buffer { words.new ≡ words_after marks largest text.now words.old }
 {
-    TextCut::from(fragment::cut(text, marks, largest, words))
+    fragment::for_c::cut(text, marks, largest, words)
 }

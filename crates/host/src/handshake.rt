@@ -15,7 +15,7 @@ use packet::{Built, Packet};
 pub extern "C" fn mortisevane_mirror_reset(packet: u32) -> Mirrored
     ensures { result ≡ reset_by packet }
 {
-    Mirrored::told(mirror::reset(Packet { bits: packet }), Mirror::default())
+    mirror::for_c::reset(Packet { bits: packet })
 }
 
 // The mirror after one packet that the host sent.
@@ -26,7 +26,7 @@ pub extern "C" fn mortisevane_mirror_reset(packet: u32) -> Mirrored
 pub extern "C" fn mortisevane_mirror_step(mirror: Mirror, packet: u32) -> Mirrored
     ensures { result ≡ answered mirror (step_of mirror packet) }
 {
-    Mirrored::told(mirror::step(mirror, Packet { bits: packet }), mirror)
+    mirror::for_c::step(mirror, Packet { bits: packet })
 }
 
 // The mirror after a run of packets that the host sent.
@@ -37,7 +37,7 @@ pub extern "C" fn mortisevane_mirror_step(mirror: Mirror, packet: u32) -> Mirror
 pub extern "C" fn mortisevane_mirror_run(mirror: Mirror, packets: &[u32]) -> Mirrored
     ensures { result ≡ answered mirror (run_of mirror packets.now) }
 {
-    Mirrored::told(mirror::run(mirror, packets), mirror)
+    mirror::for_c::run(mirror, packets)
 }
 
 // The checksum packet that makes the decoder talk.
@@ -48,5 +48,5 @@ pub extern "C" fn mortisevane_mirror_run(mirror: Mirror, packets: &[u32]) -> Mir
 pub extern "C" fn mortisevane_mirror_closing(mirror: Mirror) -> Built
     ensures { result ≡ closing_of mirror }
 {
-    mirror::closing(mirror).into()
+    mirror::for_c::closing(mirror)
 }

@@ -29,7 +29,7 @@ use packet::{
 pub extern "C" fn mortisevane_build_checksum(fields: Checksum) -> Built
     ensures { result ≡ built_by checksum (of_checksum fields) }
 {
-    Packet::build::<Checksum>(fields).into()
+    Packet::checksum(fields)
 }
 
 // Builds a configuration packet.
@@ -40,7 +40,7 @@ pub extern "C" fn mortisevane_build_checksum(fields: Checksum) -> Built
 pub extern "C" fn mortisevane_build_configuration(fields: Configuration) -> Built
     ensures { result ≡ built_by configuration (of_configuration fields) }
 {
-    Packet::build::<Configuration>(fields).into()
+    Packet::configuration(fields)
 }
 
 // Builds a control packet.
@@ -51,7 +51,7 @@ pub extern "C" fn mortisevane_build_configuration(fields: Configuration) -> Buil
 pub extern "C" fn mortisevane_build_control(fields: Control) -> Built
     ensures { result ≡ built_by control (of_control fields) }
 {
-    Packet::build::<Control>(fields).into()
+    Packet::control(fields)
 }
 
 // Builds an all frame mode packet.
@@ -62,7 +62,7 @@ pub extern "C" fn mortisevane_build_control(fields: Control) -> Built
 pub extern "C" fn mortisevane_build_all_frame_mode(fields: AllFrameMode) -> Built
     ensures { result ≡ built_by all_frame_mode (of_all_frame_mode fields) }
 {
-    Packet::build::<AllFrameMode>(fields).into()
+    Packet::all_frame_mode(fields)
 }
 
 // Builds a receiver line control packet.
@@ -73,7 +73,7 @@ pub extern "C" fn mortisevane_build_all_frame_mode(fields: AllFrameMode) -> Buil
 pub extern "C" fn mortisevane_build_receiver_lines(fields: ReceiverLines) -> Built
     ensures { result ≡ built_by receiver_lines (of_receiver_lines fields) }
 {
-    Packet::build::<ReceiverLines>(fields).into()
+    Packet::receiver_lines(fields)
 }
 
 // Builds a receiver shut-down packet.
@@ -84,7 +84,7 @@ pub extern "C" fn mortisevane_build_receiver_lines(fields: ReceiverLines) -> Bui
 pub extern "C" fn mortisevane_build_shut_down(fields: ShutDown) -> Built
     ensures { result ≡ built_by shut_down (of_shut_down fields) }
 {
-    Packet::build::<ShutDown>(fields).into()
+    Packet::shut_down(fields)
 }
 
 // Builds a frame assignment packet.
@@ -95,7 +95,7 @@ pub extern "C" fn mortisevane_build_shut_down(fields: ShutDown) -> Built
 pub extern "C" fn mortisevane_build_frame_assignment(fields: FrameAssignment) -> Built
     ensures { result ≡ built_by frame_assignment (of_frame_assignment fields) }
 {
-    Packet::build::<FrameAssignment>(fields).into()
+    Packet::frame_assignment(fields)
 }
 
 // Builds a user address assignment packet.
@@ -106,7 +106,7 @@ pub extern "C" fn mortisevane_build_frame_assignment(fields: FrameAssignment) ->
 pub extern "C" fn mortisevane_build_user_address(fields: UserAddress) -> Built
     ensures { result ≡ built_by user_address (of_user_address fields) }
 {
-    Packet::build::<UserAddress>(fields).into()
+    Packet::user_address(fields)
 }
 
 // Builds a user address enable packet.
@@ -117,7 +117,7 @@ pub extern "C" fn mortisevane_build_user_address(fields: UserAddress) -> Built
 pub extern "C" fn mortisevane_build_address_enable(fields: AddressEnable) -> Built
     ensures { result ≡ built_by address_enable (of_address_enable fields) }
 {
-    Packet::build::<AddressEnable>(fields).into()
+    Packet::address_enable(fields)
 }
 
 // Builds a part ID packet.
@@ -128,7 +128,7 @@ pub extern "C" fn mortisevane_build_address_enable(fields: AddressEnable) -> Bui
 pub extern "C" fn mortisevane_build_part_id(fields: PartId) -> Built
     ensures { result ≡ built_by part_id (of_part_id fields) }
 {
-    Packet::build::<PartId>(fields).into()
+    Packet::part_id(fields)
 }
 
 // Reads a checksum packet.
@@ -139,8 +139,7 @@ pub extern "C" fn mortisevane_build_part_id(fields: PartId) -> Built
 pub extern "C" fn mortisevane_read_checksum(packet: u32) -> ChecksumRead
     ensures { result ≡ checksum_read packet }
 {
-    let (number, fields) = packet::told::<Checksum>(Packet { bits: packet });
-    ChecksumRead { number, fields }
+    packet::for_c::read_checksum(Packet { bits: packet })
 }
 
 // Reads a configuration packet.
@@ -151,8 +150,7 @@ pub extern "C" fn mortisevane_read_checksum(packet: u32) -> ChecksumRead
 pub extern "C" fn mortisevane_read_configuration(packet: u32) -> ConfigurationRead
     ensures { result ≡ configuration_read packet }
 {
-    let (number, fields) = packet::told::<Configuration>(Packet { bits: packet });
-    ConfigurationRead { number, fields }
+    packet::for_c::read_configuration(Packet { bits: packet })
 }
 
 // Reads a control packet.
@@ -163,8 +161,7 @@ pub extern "C" fn mortisevane_read_configuration(packet: u32) -> ConfigurationRe
 pub extern "C" fn mortisevane_read_control(packet: u32) -> ControlRead
     ensures { result ≡ control_read packet }
 {
-    let (number, fields) = packet::told::<Control>(Packet { bits: packet });
-    ControlRead { number, fields }
+    packet::for_c::read_control(Packet { bits: packet })
 }
 
 // Reads an all frame mode packet.
@@ -175,8 +172,7 @@ pub extern "C" fn mortisevane_read_control(packet: u32) -> ControlRead
 pub extern "C" fn mortisevane_read_all_frame_mode(packet: u32) -> AllFrameModeRead
     ensures { result ≡ all_frame_mode_read packet }
 {
-    let (number, fields) = packet::told::<AllFrameMode>(Packet { bits: packet });
-    AllFrameModeRead { number, fields }
+    packet::for_c::read_all_frame_mode(Packet { bits: packet })
 }
 
 // Reads a receiver line control packet.
@@ -187,8 +183,7 @@ pub extern "C" fn mortisevane_read_all_frame_mode(packet: u32) -> AllFrameModeRe
 pub extern "C" fn mortisevane_read_receiver_lines(packet: u32) -> ReceiverLinesRead
     ensures { result ≡ receiver_lines_read packet }
 {
-    let (number, fields) = packet::told::<ReceiverLines>(Packet { bits: packet });
-    ReceiverLinesRead { number, fields }
+    packet::for_c::read_receiver_lines(Packet { bits: packet })
 }
 
 // Reads a receiver shut-down packet.
@@ -199,8 +194,7 @@ pub extern "C" fn mortisevane_read_receiver_lines(packet: u32) -> ReceiverLinesR
 pub extern "C" fn mortisevane_read_shut_down(packet: u32) -> ShutDownRead
     ensures { result ≡ shut_down_read packet }
 {
-    let (number, fields) = packet::told::<ShutDown>(Packet { bits: packet });
-    ShutDownRead { number, fields }
+    packet::for_c::read_shut_down(Packet { bits: packet })
 }
 
 // Reads a frame assignment packet.
@@ -211,8 +205,7 @@ pub extern "C" fn mortisevane_read_shut_down(packet: u32) -> ShutDownRead
 pub extern "C" fn mortisevane_read_frame_assignment(packet: u32) -> FrameAssignmentRead
     ensures { result ≡ frame_assignment_read packet }
 {
-    let (number, fields) = packet::told::<FrameAssignment>(Packet { bits: packet });
-    FrameAssignmentRead { number, fields }
+    packet::for_c::read_frame_assignment(Packet { bits: packet })
 }
 
 // Reads a user address assignment packet.
@@ -223,8 +216,7 @@ pub extern "C" fn mortisevane_read_frame_assignment(packet: u32) -> FrameAssignm
 pub extern "C" fn mortisevane_read_user_address(packet: u32) -> UserAddressRead
     ensures { result ≡ user_address_read packet }
 {
-    let (number, fields) = packet::told::<UserAddress>(Packet { bits: packet });
-    UserAddressRead { number, fields }
+    packet::for_c::read_user_address(Packet { bits: packet })
 }
 
 // Reads a user address enable packet.
@@ -235,8 +227,7 @@ pub extern "C" fn mortisevane_read_user_address(packet: u32) -> UserAddressRead
 pub extern "C" fn mortisevane_read_address_enable(packet: u32) -> AddressEnableRead
     ensures { result ≡ address_enable_read packet }
 {
-    let (number, fields) = packet::told::<AddressEnable>(Packet { bits: packet });
-    AddressEnableRead { number, fields }
+    packet::for_c::read_address_enable(Packet { bits: packet })
 }
 
 // Reads a part ID packet.
@@ -247,8 +238,7 @@ pub extern "C" fn mortisevane_read_address_enable(packet: u32) -> AddressEnableR
 pub extern "C" fn mortisevane_read_part_id(packet: u32) -> PartIdRead
     ensures { result ≡ part_id_read packet }
 {
-    let (number, fields) = packet::told::<PartId>(Packet { bits: packet });
-    PartIdRead { number, fields }
+    packet::for_c::read_part_id(Packet { bits: packet })
 }
 
 // Reads a status packet.
@@ -259,8 +249,7 @@ pub extern "C" fn mortisevane_read_part_id(packet: u32) -> PartIdRead
 pub extern "C" fn mortisevane_read_status(packet: u32) -> StatusRead
     ensures { result ≡ status_read packet }
 {
-    let (number, fields) = packet::told::<Status>(Packet { bits: packet });
-    StatusRead { number, fields }
+    packet::for_c::read_status(Packet { bits: packet })
 }
 
 // Reads an address packet.
@@ -271,8 +260,7 @@ pub extern "C" fn mortisevane_read_status(packet: u32) -> StatusRead
 pub extern "C" fn mortisevane_read_address(packet: u32) -> AddressRead
     ensures { result ≡ address_read packet }
 {
-    let (number, fields) = packet::told::<Address>(Packet { bits: packet });
-    AddressRead { number, fields }
+    packet::for_c::read_address(Packet { bits: packet })
 }
 
 // Reads a vector packet.
@@ -283,8 +271,7 @@ pub extern "C" fn mortisevane_read_address(packet: u32) -> AddressRead
 pub extern "C" fn mortisevane_read_vector(packet: u32) -> VectorRead
     ensures { result ≡ vector_read packet }
 {
-    let (number, fields) = packet::told::<Vector>(Packet { bits: packet });
-    VectorRead { number, fields }
+    packet::for_c::read_vector(Packet { bits: packet })
 }
 
 // Reads a message packet.
@@ -295,8 +282,7 @@ pub extern "C" fn mortisevane_read_vector(packet: u32) -> VectorRead
 pub extern "C" fn mortisevane_read_message(packet: u32) -> MessageRead
     ensures { result ≡ message_read packet }
 {
-    let (number, fields) = packet::told::<Message>(Packet { bits: packet });
-    MessageRead { number, fields }
+    packet::for_c::read_message(Packet { bits: packet })
 }
 
 // Whether the host may send a packet.
@@ -307,8 +293,5 @@ pub extern "C" fn mortisevane_read_message(packet: u32) -> MessageRead
 pub extern "C" fn mortisevane_may_send(packet: u32) -> u32
     ensures { result ≡ send_of packet }
 {
-    match packet::may_send(Packet { bits: packet }) {
-        Ok(()) => 0,
-        Err(refusal) => refusal.number(),
-    }
+    packet::for_c::may_send(Packet { bits: packet })
 }

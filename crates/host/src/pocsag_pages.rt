@@ -24,10 +24,7 @@ pub extern "C" fn mortisevane_pocsag_mend(words: &mut [u32], bits: &mut [u32]) -
     ensures bits { bits.new
         ≡ written_by (mends_row words.old bits.old) bits.old (map bits_told words.old) }
 {
-    match pocsag::mend(words, bits) {
-        Ok(()) => 0,
-        Err(refusal) => refusal.number(),
-    }
+    pocsag::for_c::mend(words, bits)
 }
 
 // Received words, one after the other, up to and with the first that has something to tell.
@@ -74,5 +71,5 @@ pub extern "C" fn mortisevane_pocsag_read(kind: u32, words: &[u32], text: &mut [
     ensures told { result ≡ as_text (read_of kind (length text.old) words.now) }
     ensures buffer { text.new ≡ text_after kind words.now text.old }
 {
-    PocsagText::from(pocsag::read(kind, words, text))
+    pocsag::for_c::read(kind, words, text)
 }

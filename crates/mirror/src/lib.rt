@@ -17,6 +17,9 @@ mod ends;
 // The mirror after one packet, and after a run of them.
 mod following;
 
+// The same with the answer as C has it.
+pub mod for_c;
+
 pub use ends::{closing, reset};
 pub use following::{run, step};
 use refusal::Refusal;

@@ -29,6 +29,9 @@ mod heard;
 // The vectors that the decoder sends, of every type, read into their fields.
 mod vectors;
 
+// Building, reading and the send rule with the answer as C has it.
+pub mod for_c;
+
 pub use heard::{
     Address, AddressRead, Message, MessageRead, PartIdRead, Status, StatusRead, message_of,
 };

@@ -30,6 +30,9 @@ mod hearing;
 // The text of a page.
 mod text;
 
+// Words mended and a page read with the answer as C has it.
+pub mod for_c;
+
 pub use code::mend;
 pub use hearing::{close, hear};
 use refusal::Refusal;
