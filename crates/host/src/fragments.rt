@@ -1,6 +1,5 @@
-// Fragments of a text, as C and Rust link them. Every function takes any input. Its contract says of what it returns
-// what the contract of the function that it calls says of that function's answer, and both admit one answer alone:
-// `number` is 0, or 01's number of the refusal, and what was lent is then as it was.
+// Fragments of a text, as C and Rust link them. Every function takes any input, and its contract is that of the function
+// it calls: `number` is 0, or 01's number of the refusal, and what was lent is then as it was.
 ghost use Rattle.std.specs.Prelude.{◌≡◌, length};
 ghost use Rattle.fragment.specs.Answers.{heading_of, read_of, read_after};
 ghost use Rattle.fragment.specs.FlatAnswers.{as_fragment};

@@ -1,6 +1,5 @@
-// The mirror of the decoder, as C and Rust link it. Every function takes any input. Its contract says of
-// what it returns what the contract of the function that it calls says of that function's answer, and
-// both admit one answer alone: `number` is 0, or 01's number of the refusal.
+// The mirror of the decoder, as C and Rust link it. Every function takes any input, and its contract is
+// that of the function it calls: `number` is 0, or 01's number of the refusal.
 ghost use Rattle.std.specs.Prelude.{◌≡◌};
 ghost use Rattle.mirror.specs.Handshake.{step_of, run_of, answered, reset_by, closing_of};
 

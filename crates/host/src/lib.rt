@@ -1,6 +1,6 @@
-// The library that C and Rust link: an export for each public function that a board needs. Its contract says of what it
-// returns what the contract of that function says of its answer, and nothing but that. Every export takes any input.
-// include/mortisevane.h is written from the modules, in the order of the lines below.
+// The library that C and Rust link: an export for each public function that a board needs, with the contract of what it
+// calls and nothing but that after it. Every export takes any input. include/mortisevane.h is written from the modules, in
+// the order of the lines below.
 #![tactic(auto)]
 
 // Addresses and their words.

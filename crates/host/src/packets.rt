@@ -1,7 +1,6 @@
 // Packets, as C and Rust link them: building, reading, and what may be sent. Every function takes any
-// input. Its contract says of what it returns what the contract of the function that it calls says of
-// that function's answer, and both admit one answer alone: `number` is 0, or 01's number of the refusal,
-// and every other field is then 0.
+// input, and its contract is that of the function it calls: `number` is 0, or 01's number of the
+// refusal, and every other field is then 0.
 ghost use Rattle.std.specs.Prelude.{◌≡◌};
 ghost use Rattle.packet.specs.Tables.{checksum, configuration, control, all_frame_mode, receiver_lines, shut_down};
 ghost use Rattle.packet.specs.Tables.{frame_assignment, user_address, address_enable, part_id};
@@ -14,11 +13,10 @@ ghost use Rattle.packet.specs.Heard.{part_id_read, status_read, address_read, me
 ghost use Rattle.packet.specs.Vectors.{vector_read};
 
 use packet::{
-    Address, AddressEnable, AddressEnableRead, AddressRead, AllFrameMode, AllFrameModeRead, Built,
-    Checksum, ChecksumRead, Configuration, ConfigurationRead, Control, ControlRead,
-    FrameAssignment, FrameAssignmentRead, Message, MessageRead, Packet, PartId, PartIdRead,
-    ReceiverLines, ReceiverLinesRead, ShutDown, ShutDownRead, Status, StatusRead, UserAddress,
-    UserAddressRead, Vector, VectorRead,
+    AddressEnable, AddressEnableRead, AddressRead, AllFrameMode, AllFrameModeRead, Built, Checksum,
+    ChecksumRead, Configuration, ConfigurationRead, Control, ControlRead, FrameAssignment,
+    FrameAssignmentRead, MessageRead, Packet, PartId, PartIdRead, ReceiverLines, ReceiverLinesRead,
+    ShutDown, ShutDownRead, StatusRead, UserAddress, UserAddressRead, VectorRead,
 };
 
 // Builds a checksum packet.

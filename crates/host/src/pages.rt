@@ -1,6 +1,5 @@
-// Numeric pages, as C and Rust link them. Every function takes any input. Its contract says of what it returns what
-// the contract of the function that it calls says of that function's answer, and both admit one answer alone: `number` is
-// 0, or 01's number of the refusal, and what was lent is then as it was.
+// Numeric pages, as C and Rust link them. Every function takes any input, and its contract is that of the function
+// it calls: `number` is 0, or 01's number of the refusal, and what was lent is then as it was.
 ghost use Rattle.std.specs.Prelude.{◌≡◌, length};
 ghost use Rattle.numeric.specs.Answers.{written_chosen, words_chosen, as_written, read_chosen, text_chosen, as_read};
 

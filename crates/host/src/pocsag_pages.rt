@@ -1,8 +1,7 @@
-// POCSAG pages, as C and Rust link them. Every function takes any input. Its contract says of what it returns what the
-// contract of the function that it calls says of that function's answer, and both admit one answer alone. Words come as
-// they were received, 32 bits with the first that was sent the highest. The reader goes in and comes back by value; zeros
-// are a fresh start, and whatever is handed back has a meaning. The message words of a page lie at the start of the lent
-// memory, twenty bits each with the first that was sent the lowest, until the next message word.
+// POCSAG pages, as C and Rust link them. Every function takes any input, and its contract is that of the function it
+// calls. Words come as they were received, 32 bits with the first that was sent the highest. The reader goes in and comes
+// back by value; zeros are a fresh start, and whatever is handed back has a meaning. The message words of a page lie at the
+// start of the lent memory, twenty bits each with the first that was sent the lowest, until the next message word.
 ghost use Rattle.std.specs.Prelude.{map, ◌≡◌, length};
 ghost use Rattle.refusal.specs.Told.{number_told, written_by};
 ghost use Rattle.pocsag.specs.Mending.{word_mended, bits_told, mends_row};
