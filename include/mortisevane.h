@@ -408,8 +408,7 @@ struct mortisevane_frames mortisevane_frames_listened(struct mortisevane_listene
 
 /*
  * Packets, as C and Rust link them: building, reading, and what may be sent. Every function takes
- * any input. Its contract says of what it returns what the contract of the function that it calls
- * says of that function's answer, and both admit one answer alone: `number` is 0, or 01's number of
+ * any input, and its contract is that of the function it calls: `number` is 0, or 01's number of
  * the refusal, and every other field is then 0.
  */
 
@@ -884,9 +883,8 @@ struct mortisevane_message_read mortisevane_read_message(uint32_t packet);
 uint32_t mortisevane_may_send(uint32_t packet);
 
 /*
- * The mirror of the decoder, as C and Rust link it. Every function takes any input. Its contract
- * says of what it returns what the contract of the function that it calls says of that function's
- * answer, and both admit one answer alone: `number` is 0, or 01's number of the refusal.
+ * The mirror of the decoder, as C and Rust link it. Every function takes any input, and its
+ * contract is that of the function it calls: `number` is 0, or 01's number of the refusal.
  */
 
 /* The register, 24 bits; `talking` is 0 while the decoder sends nothing but its part ID. */
@@ -969,10 +967,9 @@ uint32_t mortisevane_sum_ten_bit(const uint32_t *words, size_t words_length);
 uint32_t mortisevane_sum_signature(const uint8_t *characters, size_t characters_length);
 
 /*
- * Numeric pages, as C and Rust link them. Every function takes any input. Its contract says of what
- * it returns what the contract of the function that it calls says of that function's answer, and
- * both admit one answer alone: `number` is 0, or 01's number of the refusal, and what was lent is
- * then as it was.
+ * Numeric pages, as C and Rust link them. Every function takes any input, and its contract is that
+ * of the function it calls: `number` is 0, or 01's number of the refusal, and what was lent is then
+ * as it was.
  */
 
 /*
@@ -1034,10 +1031,9 @@ struct mortisevane_page_read mortisevane_numeric_read(uint32_t set, uint32_t kin
         const uint32_t *words, size_t words_length, uint8_t *text, size_t text_length);
 
 /*
- * Fragments of a text, as C and Rust link them. Every function takes any input. Its contract says
- * of what it returns what the contract of the function that it calls says of that function's
- * answer, and both admit one answer alone: `number` is 0, or 01's number of the refusal, and what
- * was lent is then as it was.
+ * Fragments of a text, as C and Rust link them. Every function takes any input, and its contract is
+ * that of the function it calls: `number` is 0, or 01's number of the refusal, and what was lent is
+ * then as it was.
  */
 
 /*
@@ -1339,12 +1335,11 @@ struct mortisevane_frame_end mortisevane_call_end(struct mortisevane_calls calls
 size_t mortisevane_call_place(struct mortisevane_call call);
 
 /*
- * POCSAG pages, as C and Rust link them. Every function takes any input. Its contract says of what
- * it returns what the contract of the function that it calls says of that function's answer, and
- * both admit one answer alone. Words come as they were received, 32 bits with the first that was
- * sent the highest. The reader goes in and comes back by value; zeros are a fresh start, and
- * whatever is handed back has a meaning. The message words of a page lie at the start of the lent
- * memory, twenty bits each with the first that was sent the lowest, until the next message word.
+ * POCSAG pages, as C and Rust link them. Every function takes any input, and its contract is that
+ * of the function it calls. Words come as they were received, 32 bits with the first that was sent
+ * the highest. The reader goes in and comes back by value; zeros are a fresh start, and whatever is
+ * handed back has a meaning. The message words of a page lie at the start of the lent memory,
+ * twenty bits each with the first that was sent the lowest, until the next message word.
  */
 
 /*

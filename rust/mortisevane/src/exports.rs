@@ -448,9 +448,8 @@ extern "C" {
 }
 
 // Packets, as C and Rust link them: building, reading, and what may be sent. Every function takes any
-// input. Its contract says of what it returns what the contract of the function that it calls says of
-// that function's answer, and both admit one answer alone: `number` is 0, or 01's number of the refusal,
-// and every other field is then 0.
+// input, and its contract is that of the function it calls: `number` is 0, or 01's number of the
+// refusal, and every other field is then 0.
 
 /// The checksum packet (Table 9): CV, 24 bits.
 #[repr(C)]
@@ -990,9 +989,8 @@ extern "C" {
     pub fn mortisevane_may_send(packet: u32) -> u32;
 }
 
-// The mirror of the decoder, as C and Rust link it. Every function takes any input. Its contract says of
-// what it returns what the contract of the function that it calls says of that function's answer, and
-// both admit one answer alone: `number` is 0, or 01's number of the refusal.
+// The mirror of the decoder, as C and Rust link it. Every function takes any input, and its contract is
+// that of the function it calls: `number` is 0, or 01's number of the refusal.
 
 /// The register, 24 bits; `talking` is 0 while the decoder sends nothing but its part ID.
 #[repr(C)]
@@ -1082,9 +1080,8 @@ extern "C" {
     pub fn mortisevane_sum_signature(characters: *const u8, characters_length: usize) -> u32;
 }
 
-// Numeric pages, as C and Rust link them. Every function takes any input. Its contract says of what it returns what
-// the contract of the function that it calls says of that function's answer, and both admit one answer alone: `number` is
-// 0, or 01's number of the refusal, and what was lent is then as it was.
+// Numeric pages, as C and Rust link them. Every function takes any input, and its contract is that of the function
+// it calls: `number` is 0, or 01's number of the refusal, and what was lent is then as it was.
 
 /// What the head of a numbered page says: N, the message number, 0 to 63; R, whether the pager expects its
 /// messages to be numbered; S, whether a special format shows it. All 0 with the other kinds.
@@ -1143,9 +1140,8 @@ extern "C" {
     pub fn mortisevane_numeric_read(set: u32, kind: u32, check: u32, words: *const u32, words_length: usize, text: *mut u8, text_length: usize) -> PageRead;
 }
 
-// Fragments of a text, as C and Rust link them. Every function takes any input. Its contract says of what it returns
-// what the contract of the function that it calls says of that function's answer, and both admit one answer alone:
-// `number` is 0, or 01's number of the refusal, and what was lent is then as it was.
+// Fragments of a text, as C and Rust link them. Every function takes any input, and its contract is that of the function
+// it calls: `number` is 0, or 01's number of the refusal, and what was lent is then as it was.
 
 /// What is told of a fragment: 01's number; C, 1 where more follows; F, 3 in a first fragment; N; R, M and the
 /// signature of a first fragment, 0 of others; the sum modulo 128 of all its characters, fill and signature with
@@ -1443,11 +1439,10 @@ extern "C" {
     pub fn mortisevane_call_place(call: Call) -> usize;
 }
 
-// POCSAG pages, as C and Rust link them. Every function takes any input. Its contract says of what it returns what the
-// contract of the function that it calls says of that function's answer, and both admit one answer alone. Words come as
-// they were received, 32 bits with the first that was sent the highest. The reader goes in and comes back by value; zeros
-// are a fresh start, and whatever is handed back has a meaning. The message words of a page lie at the start of the lent
-// memory, twenty bits each with the first that was sent the lowest, until the next message word.
+// POCSAG pages, as C and Rust link them. Every function takes any input, and its contract is that of the function it
+// calls. Words come as they were received, 32 bits with the first that was sent the highest. The reader goes in and comes
+// back by value; zeros are a fresh start, and whatever is handed back has a meaning. The message words of a page lie at the
+// start of the lent memory, twenty bits each with the first that was sent the lowest, until the next message word.
 
 /// Where the reading stands. Zeros are a fresh start, and whatever is handed back has a meaning.
 /// 
