@@ -23,7 +23,7 @@ pub extern "C" fn mortisevane_numeric_write(
     ensures told { result ≡ as_written (written_chosen set (length words.old) kind numbering text.now) }
     ensures buffer { words.new ≡ words_chosen set kind numbering text.now words.old }
 {
-    Written::from(numeric::write(set, text, kind, numbering, words))
+    numeric::for_c::write(set, text, kind, numbering, words)
 }
 
 // The words of a numeric page as text, its zeros with it.
@@ -45,5 +45,5 @@ pub extern "C" fn mortisevane_numeric_read(
     ensures told { result ≡ as_read (read_chosen set (length text.old) kind check words.now) }
     ensures buffer { text.new ≡ text_chosen set kind check words.now text.old }
 {
-    PageRead::from(numeric::read(set, kind, check, words, text))
+    numeric::for_c::read(set, kind, check, words, text)
 }

@@ -23,22 +23,34 @@ impl CharacterSet {
     // Table 39 with the option of the People's Republic of China on: A to E for `?`, `U`, `-`, `]`, `[`.
     pub const CHINESE: u32 = 1;
 
-    // The sixteen characters, each at the place of its code.
+    // The character of a code: a digit, or by the column. A code over 15 has none.
     #[tactic(auto, unfolding(crate::specs::Pages::standard_set, crate::specs::Pages::chinese_set))]
-    fn characters(self) -> &'static [u8; 16]
-        ensures { result.now ≡ set_in self }
-    {
-        match self {
-            CharacterSet::Standard => b"0123456789?U -][",
-            CharacterSet::Chinese => b"0123456789AB CDE",
-        }
-    }
-
-    // The character of a code. A code over 15 has none.
     pub fn character_of(self, code: u32) -> Option<u8>
         ensures { result ≡ slice_get (set_in self) code }
     {
-        self.characters().get(code as usize).copied()
+        if code < 10 {
+            return Some(b'0' + code as u8);
+        }
+        match self {
+            CharacterSet::Standard => match code {
+                10 => Some(b'?'),
+                11 => Some(b'U'),
+                12 => Some(b' '),
+                13 => Some(b'-'),
+                14 => Some(b']'),
+                15 => Some(b'['),
+                _ => None,
+            },
+            CharacterSet::Chinese => match code {
+                10 => Some(b'A'),
+                11 => Some(b'B'),
+                12 => Some(b' '),
+                13 => Some(b'C'),
+                14 => Some(b'D'),
+                15 => Some(b'E'),
+                _ => None,
+            },
+        }
     }
 
     // The code of a character, if the set has it. A match compiles to a jump, and a search of the sixteen to a loop.
