@@ -23,33 +23,33 @@ impl CharacterSet {
     // Table 39 with the option of the People's Republic of China on: A to E for `?`, `U`, `-`, `]`, `[`.
     pub const CHINESE: u32 = 1;
 
-    // The character of a code: a digit, or by the column. A code over 15 has none.
+    // The character of a code: each has a row of Table 39, with the option off and on. A code over 15 has none.
     #[tactic(auto, unfolding(crate::specs::Pages::standard_set, crate::specs::Pages::chinese_set))]
     pub fn character_of(self, code: u32) -> Option<u8>
         ensures { result ≡ slice_get (set_in self) code }
     {
-        if code < 10 {
-            return Some(b'0' + code as u8);
-        }
+        let (standard, chinese) = match code {
+            0 => (b'0', b'0'),
+            1 => (b'1', b'1'),
+            2 => (b'2', b'2'),
+            3 => (b'3', b'3'),
+            4 => (b'4', b'4'),
+            5 => (b'5', b'5'),
+            6 => (b'6', b'6'),
+            7 => (b'7', b'7'),
+            8 => (b'8', b'8'),
+            9 => (b'9', b'9'),
+            10 => (b'?', b'A'),
+            11 => (b'U', b'B'),
+            12 => (b' ', b' '),
+            13 => (b'-', b'C'),
+            14 => (b']', b'D'),
+            15 => (b'[', b'E'),
+            _ => return None,
+        };
         match self {
-            CharacterSet::Standard => match code {
-                10 => Some(b'?'),
-                11 => Some(b'U'),
-                12 => Some(b' '),
-                13 => Some(b'-'),
-                14 => Some(b']'),
-                15 => Some(b'['),
-                _ => None,
-            },
-            CharacterSet::Chinese => match code {
-                10 => Some(b'A'),
-                11 => Some(b'B'),
-                12 => Some(b' '),
-                13 => Some(b'C'),
-                14 => Some(b'D'),
-                15 => Some(b'E'),
-                _ => None,
-            },
+            CharacterSet::Standard => Some(standard),
+            CharacterSet::Chinese => Some(chinese),
         }
     }
 

@@ -27,37 +27,17 @@ impl TextKind {
         if self.is_text() { 7 } else { 4 }
     }
 
-    // The lowest bits that are held, as many as a character has.
-    fn code_in(self, held: u32) -> u32
-        ensures { result ≡ held % 2 ^ width_of (kind_number self) }
+    // The character of the lowest bits that are held, as many as it has, and the bits after them. One method and not two, so
+    // that the kind is asked once a character.
+    fn take(self, held: u32) -> (u8, u32)
+        ensures character { result.0 ≡ character_of (kind_number self) (held % 2 ^ width_of (kind_number self)) }
+        ensures rest { result.1 ≡ held / 2 ^ width_of (kind_number self) }
     {
         if self.is_text() {
-            held % 128
-        } else {
-            held % 16
+            return ((held % 128) as u8, held / 128);
         }
-    }
-
-    // The bits that are held after those.
-    fn after_code(self, held: u32) -> u32
-        ensures { result ≡ held / 2 ^ width_of (kind_number self) }
-    {
-        if self.is_text() {
-            held / 128
-        } else {
-            held / 16
-        }
-    }
-
-    // The character of a code.
-    fn character_of(self, code: u32) -> u8
-        requires { code < 128 }
-        ensures { result ≡ character_of (kind_number self) code }
-    {
-        if self.is_text() {
-            return code as u8;
-        }
-        numeric::character_of(matches!(self, TextKind::NumericChinese), code)
+        let character = numeric::character_of(matches!(self, TextKind::NumericChinese), held % 16);
+        (character, held / 16)
     }
 
     // Whether the characters of so many words have room in so many bytes. Nothing here is so large that it overflows.
@@ -114,8 +94,9 @@ fn spell(kind: TextKind, words: &[u32], room: usize, text: &mut [u8])
             bits += MESSAGE_BITS;
             at += 1;
         }
-        text[i] = kind.character_of(kind.code_in(held));
-        held = kind.after_code(held);
+        let (character, rest) = kind.take(held);
+        text[i] = character;
+        held = rest;
         bits -= width;
     }
 }

@@ -37,14 +37,13 @@ loop-i-preserved c = let l = c.loop-i in
           (ready_left (width_of kind) words l.held l.bits l.at l.i l.invariant.so
           (omega (arith, w.if-bits-width.false, c.width-width.ensures)) l.invariant.few)
     ] in
-    let code : c.character_of.result ≡ character_of kind (number (2 ^ 20) words / (2 ^ width_of kind) ^ l.i % 2 ^ width_of kind) =
-    c.character_of.ensures
+    let code : c.take-character.result.0 ≡ character_of kind (number (2 ^ 20) words / (2 ^ width_of kind) ^ l.i % 2 ^ width_of kind) =
+    c.take-character.ensures.character
     ∙ ap (character_of kind)
-    (c.code_in.ensures
-    ∙ code_held (width_of kind) words c.if-bits-width.held c.if-bits-width.bits c.if-bits-width.at l.i bits.so bits.enough) in
+    (code_held (width_of kind) words c.if-bits-width.held c.if-bits-width.bits c.if-bits-width.at l.i bits.so bits.enough) in
     record {
       few = omega (arith, bits.most, bits.enough, c.width-width.ensures);
-      so = rw (c.width-width.ensures, c.after_code-held.ensures)
+      so = rw (c.width-width.ensures, c.take-character.ensures.rest)
           (spelled_on (width_of kind) words c.if-bits-width.held c.if-bits-width.bits c.if-bits-width.at l.i bits.so bits.enough);
       long = simp length-set l.invariant.long;
       rest = rw code
