@@ -21,7 +21,7 @@ pub fn fresh() -> Calls
     }
 }
 
-// Lists the open calls that are incomplete, in the order opened. The list is the answer's own, which is then not copied.
+// Lists the open calls that are incomplete, in the order opened. The list is lent, since one that is returned is copied.
 fn incomplete(calls: &Calls, memory: &[u32], list: &mut Calls)
     requires { list.old ≡ fresh most_calls }
     ensures { list.new ≡ listed most_calls (incomplete_in (opens calls.now) memory.now) }
@@ -48,20 +48,21 @@ fn may_end(calls: &Calls, memory: &[u32]) -> Result<(), Refusal>
 
 // The end of a frame: the calls that were incomplete, and the records with no call open.
 // A struct and not a Result: the C interface hands the records back beside the answer, after a refusal too.
-pub fn end_frame(calls: Calls, memory: &[u32]) -> FrameEnd
+pub fn end_frame(mut calls: Calls, memory: &[u32]) -> FrameEnd
     ensures { result ≡ as_end (end_of calls memory.now) (ended_with calls memory.now) (ended_in calls memory.now) }
 {
-    let mut end = FrameEnd {
-        number: 0,
-        incomplete: fresh(),
-        calls,
-    };
+    let mut number = 0;
+    let mut list = fresh();
     match may_end(&calls, memory) {
         Ok(()) => {
-            incomplete(&calls, memory, &mut end.incomplete);
-            end.calls = fresh();
+            incomplete(&calls, memory, &mut list);
+            calls = fresh();
         }
-        Err(refusal) => end.number = refusal.number(),
+        Err(refusal) => number = refusal.number(),
     }
-    end
+    FrameEnd {
+        number,
+        incomplete: list,
+        calls,
+    }
 }

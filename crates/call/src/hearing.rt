@@ -1,7 +1,7 @@
 // A vector packet gives a call its span, and a message packet gives calls a word (document 01, "Calls in a frame"; S8.7.3
 // to S8.7.7, S8.8.2). A bad span closes its call; the calls after it move one place down, so that the open calls stay in
 // the order opened.
-ghost use Rattle.std.specs.Prelude.{◌≡◌, ◌+◌, ◌^◌, ◌≤◌, ◌<◌, true, length, get_or, replicate};
+ghost use Rattle.std.specs.Prelude.{◌≡◌, ◌+◌, ◌^◌, ◌≤◌, ◌<◌, true, ltb, length, get_or, replicate};
 ghost use Rattle.laws.specs.Choice.{pick};
 ghost use Rattle.laws.specs.Lists.{put};
 ghost use Rattle.refusal.specs.Told.{told_by};
@@ -117,13 +117,14 @@ fn clear(memory: &mut [u32], place: usize, words: usize)
     memory[place..place + words].fill(LACKING);
 }
 
-// The row without the record at a place: those after it move one place down.
-fn without(row: &mut [Call; MOST_CALLS], place: usize)
-    requires { place < most_calls }
-    ensures { row.new ≡ without place row.old }
+// The row without the record at a place: those after it move one place down. A row with no such place stays as it is.
+pub(crate) fn without(row: &mut [Call; MOST_CALLS], place: usize)
+    ensures { row.new ≡ pick (ltb place most_calls) (without place row.old) row.old }
 {
-    row.copy_within(place + 1.., place);
-    row[MOST_CALLS - 1] = BLANK;
+    if place < MOST_CALLS {
+        row.copy_within(place + 1.., place);
+        row[MOST_CALLS - 1] = BLANK;
+    }
 }
 
 // An open call closed.
