@@ -143,8 +143,12 @@ pub fn read_all_frame_mode(packet: Packet) -> AllFrameModeRead
 pub fn read_receiver_lines(packet: Packet) -> ReceiverLinesRead
     ensures { result ≡ receiver_lines_read packet.bits }
 {
-    let (number, fields) = told::<ReceiverLines>(packet);
-    ReceiverLinesRead { number, fields }
+    // Field by field: two numbers in a struct would be packed into one register and stored.
+    let (number, ReceiverLines { forced, settings }) = told(packet);
+    ReceiverLinesRead {
+        number,
+        fields: ReceiverLines { forced, settings },
+    }
 }
 
 // Reads a receiver shut-down packet.
@@ -161,8 +165,12 @@ pub fn read_shut_down(packet: Packet) -> ShutDownRead
 pub fn read_frame_assignment(packet: Packet) -> FrameAssignmentRead
     ensures { result ≡ frame_assignment_read packet.bits }
 {
-    let (number, fields) = told::<FrameAssignment>(packet);
-    FrameAssignmentRead { number, fields }
+    // Field by field: two numbers in a struct would be packed into one register and stored.
+    let (number, FrameAssignment { range, frames }) = told(packet);
+    FrameAssignmentRead {
+        number,
+        fields: FrameAssignment { range, frames },
+    }
 }
 
 // Reads a user address assignment packet.
