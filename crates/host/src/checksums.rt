@@ -1,6 +1,6 @@
 // The sums of messages, as C and Rust link them. Every function takes any row, and its contract is that of the
 // function it calls.
-ghost use Rattle.std.specs.Prelude.{◌≡◌};
+ghost use Rattle.std.specs.Prelude.{◌≡◌, ◌≤◌};
 ghost use Rattle.sums.specs.Sums.{six_bits, ten_bits, signature_of};
 
 // K of a numeric page, 0 to 63: K0 to K3 belong into the vector, K4 and K5 into the first word, whose two lowest bits
@@ -10,7 +10,8 @@ ghost use Rattle.sums.specs.Sums.{six_bits, ten_bits, signature_of};
 // Refuses nothing.
 #[unsafe(no_mangle)]
 pub extern "C" fn mortisevane_sum_six_bit(words: &[u32]) -> u32
-    ensures { result ≡ six_bits words.now }
+    ensures sum { result ≡ six_bits words.now }
+    ensures small { result ≤ 63 }
 {
     sums::six_bit(words)
 }
