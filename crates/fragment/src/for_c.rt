@@ -1,5 +1,5 @@
-// A fragment read and a text cut with the answer as C has it: a struct, in place of a `Result`. Each function is an
-// export's: the two have one contract, word for word.
+// Reading a fragment and cutting a text with C's answer: a struct, in place of a `Result`. Each function is called by one export,
+// and the two have the same contract, word for word.
 ghost use Rattle.std.specs.Prelude.{◌≡◌, length};
 ghost use Rattle.fragment.specs.Answers.{heading_of, read_of, read_after};
 ghost use Rattle.fragment.specs.FlatAnswers.{as_fragment};

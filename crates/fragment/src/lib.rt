@@ -24,7 +24,7 @@ mod cutting;
 // What is answered, as C has it.
 mod flat;
 
-// A fragment read and a text cut with that answer.
+// Reading a fragment and cutting a text with C's answer.
 pub mod for_c;
 
 pub use cutting::cut;

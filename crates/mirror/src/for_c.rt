@@ -1,5 +1,5 @@
-// The mirror and the closing packet with the answer as C has it: a struct, in place of a `Result`. Each function
-// is an export's: the two have one contract, word for word, but that a packet is its 32 bits there.
+// The mirror and the closing packet with C's answer: a struct, in place of a `Result`. Each function is called by one export.
+// The two have the same contract, word for word; the export takes a packet as its 32 bits.
 ghost use Rattle.std.specs.Prelude.{◌≡◌};
 ghost use Rattle.mirror.specs.Handshake.{step_of, run_of, answered, reset_by, closing_of};
 

@@ -17,7 +17,7 @@ mod ends;
 // The mirror after one packet, and after a run of them.
 mod following;
 
-// The same with the answer as C has it.
+// The mirror and the closing packet with C's answer.
 pub mod for_c;
 
 pub use ends::{closing, reset};

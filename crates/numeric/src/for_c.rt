@@ -1,5 +1,5 @@
-// Writing and reading a page with the answer as C has it: a struct, in place of a `Result`. Each function is an export's: the
-// two have one contract, word for word.
+// Writing and reading a page with C's answer: a struct, in place of a `Result`. Each function is called by one export, and the
+// two have the same contract, word for word.
 ghost use Rattle.std.specs.Prelude.{◌≡◌, length};
 ghost use Rattle.numeric.specs.Answers.{written_chosen, words_chosen, as_written, read_chosen, text_chosen, as_read};
 

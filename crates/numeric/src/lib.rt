@@ -22,7 +22,7 @@ mod writing;
 // The words of a page as text, and the character of a code.
 mod reading;
 
-// Writing and reading a page with the answer as C has it: a number and the values beside it.
+// Writing and reading a page with C's answer.
 pub mod for_c;
 
 pub use reading::{character_of, read};

@@ -1,5 +1,5 @@
-// Building, reading and the send rule with the answer as C has it: a struct or a number, in place of a `Result`. Each function
-// is an export's: the two have one contract, word for word, but that a packet is its 32 bits there.
+// Building, reading and the send rule with C's answer: a struct or a number, in place of a `Result`. Each function is called by
+// one export. The two have the same contract, word for word; the export takes a packet as its 32 bits.
 ghost use Rattle.std.specs.Prelude.{◌≡◌};
 ghost use Rattle.packet.specs.Tables.{checksum, configuration, control, all_frame_mode, receiver_lines, shut_down};
 ghost use Rattle.packet.specs.Tables.{frame_assignment, user_address, address_enable, part_id};

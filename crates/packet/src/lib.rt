@@ -29,7 +29,7 @@ mod heard;
 // The vectors that the decoder sends, of every type, read into their fields.
 mod vectors;
 
-// Building, reading and the send rule with the answer as C has it.
+// Building, reading and the send rule with C's answer.
 pub mod for_c;
 
 pub use heard::{

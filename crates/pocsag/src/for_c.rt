@@ -1,5 +1,5 @@
-// Words mended and a page read with the answer as C has it: a number or a struct, in place of a `Result`. Each function
-// is an export's: the two have one contract, word for word.
+// Mending words and reading a page with C's answer: a number or a struct, in place of a `Result`. Each function is called by one
+// export, and the two have the same contract, word for word.
 ghost use Rattle.std.specs.Prelude.{map, ◌≡◌, length};
 ghost use Rattle.refusal.specs.Told.{number_told, written_by};
 ghost use Rattle.pocsag.specs.Mending.{word_mended, bits_told, mends_row};

@@ -30,7 +30,7 @@ mod hearing;
 // The text of a page.
 mod text;
 
-// Words mended and a page read with the answer as C has it.
+// Mending words and reading a page with C's answer.
 pub mod for_c;
 
 pub use code::mend;
